@@ -1,0 +1,11 @@
+-- `sets::difference` meets its contract: masking by a complement takes away what both have.
+-- Assumes nothing.
+use Rattle.sets.proofs.Laws.{minus-mask}
+use Rattle.sets.proofs.difference.Statement.{statement}
+use Rattle.sets.proofs.difference.Tie as tie
+
+returns : tie.Need-returns
+returns c = minus-mask 16 (c .args .a) (c .args .b) (c .fits .a .fits) (c .fits .b .fits)
+
+pub difference-spec : {M : Type 1} → statement M
+difference-spec = tie.close (tie.spec returns)

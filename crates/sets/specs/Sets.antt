@@ -1,0 +1,33 @@
+-- Version sets as masks, bit k for version k. No definition here names a width.
+-- Assumes nothing.
+use mathlib.Core.Path.{_≡_}
+use mathlib.Core.Bool.{Bool, true}
+use Prim.Native.Nat.{ℕ, _-_, _/_, _%_, _^_}
+use lib.Dec.{eqb, ltb}
+use lib.Bits.{bitAnd}
+use lib.Count.{ones}
+
+-- bit k of a mask, 0 or 1
+unfoldable pub bit : ℕ → ℕ → ℕ
+bit m k = m / 2 ^ k % 2
+
+-- k is in the set
+unfoldable pub has : ℕ → ℕ → Bool
+unfolding bit
+has m k = eqb (bit m k) 1
+
+-- what is in a and not in b
+unfoldable pub minus : ℕ → ℕ → ℕ
+minus a b = a - bitAnd a b
+
+-- two different members
+pub record Two (m : ℕ) : Type 0 where
+  pub first : ℕ
+  pub second : ℕ
+  pub differ : first ≡ second → ⊥
+  pub has-first : has m first ≡ true
+  pub has-second : has m second ≡ true
+
+-- more than one member, by counting ones; `several-two` and `two-several` say that this is `Two`
+abbrev pub several : ℕ → Bool
+several m = ltb 1 (ones m)
