@@ -1,0 +1,332 @@
+-- The solver is exact: after as many rounds as vertices, the set of v holds k exactly if a path says so, and no further round alters a set.
+-- Lane k is the sets' bits k. A round raises the number of ones in lane k, or lane k is closed and stays as it is.
+-- Assumes nothing.
+use mathlib.Core.Path.{_≡_, refl, sym, ap, ap₂, subst, _∙_}
+use mathlib.Core.Bool.{Bool, true, false}
+use mathlib.Core.List.{List, [], _∷_, map}
+use mathlib.Core.Logic.{_↔_, Iff·rfl, _⊎_, inl, inr, ⊎-elim}
+use Prim.Native.Nat.{ℕ, zero, suc, _+_, _-_, _^_, _≤_, _<_, zero-le, min, max}
+use native.Mathlib.Nat.{le-refl, lt-of-le-of-lt, le-of-lt, le-of-suc-le-suc, eq-or-lt-of-le, pow-suc}
+use native.Mathlib.Decide.{le-ind, decLt}
+use native.Mathlib.Numerals.{add-one}
+use native.Mathlib.Omega.{arith}
+use borrow.Author.Count.{below-more}
+use lib.Dec.{T, eqb, eqb→eq}
+use lib.Bits.{bitOr, and-le-l, or-lt}
+use lib.Pow.{pow-pos}
+use lib.ListN.{length, getD, set, replicate, length-replicate, List·getD-map}
+use lib.Seq.{map-set-same, set-getD}
+use Rattle.sets.specs.Sets.{bit, has}
+use Rattle.sets.proofs.Laws.{bit-lt, bit-or, bit-and, has-zero, same}
+use Rattle.flow.specs.Paths.{last, next, edgeCount}
+use Rattle.flow.specs.Solver.{Leads, Holds, near, far, turn, handed, relaxed, swept, rounds, solution, Ends, Altered, Advanced, Solved}
+use Rattle.flow.proofs.Tests.{member-or, member-and}
+use Rattle.flow.proofs.Paths.{extend}
+use Rattle.flow.proofs.Rounds.{turn-lt, turn-turn, near-lt, at-set, or-le, swept-keeps, rounds-keeps, swept-length, rounds-length}
+
+-- ---- masks
+
+-- k is a member exactly if bit k is 1
+member-iff : (m k : ℕ) → T (has m k) ↔ (bit m k ≡ 1)
+unfolding has
+member-iff m k = (λ h. eqb→eq (bit m k) 1 h, λ e. subst (λ (b : ℕ). T (eqb b 1)) (sym e) tt)
+
+-- a union's bit is 1 more where only the second mask has it
+or-gap : (a b k : ℕ) → bit (bitOr a b) k ≡ bit a k + (bit b k - bit a k)
+or-gap a b k = omega (arith, bit-or a b k)
+
+-- every mask has a width
+width : (m : ℕ) → m < 2 ^ m
+width zero = omega arith
+width (suc m) = omega (arith, pow-suc 2 m, width m)
+
+-- a union with a subset
+or-subset : (a b : ℕ) → ((k : ℕ) → bit b k - bit a k ≡ 0) → bitOr a b ≡ a
+unfolding has
+or-subset a b h =
+    same (bitOr a b) (bitOr a b) a (width (bitOr a b)) (omega (arith, width (bitOr a b), or-le a b))
+    (λ k _. ap (λ (x : ℕ). eqb x 1) (let e : bit (bitOr a b) k ≡ bit a k = omega (arith, or-gap a b k, h k) in e))
+
+-- ---- lists of masks
+
+-- a cleared list has 0 everywhere
+cleared : (n v : ℕ) → _≡_ {A = ℕ} (getD (replicate n 0) v 0) 0
+cleared zero v = refl
+cleared (suc n) zero = refl
+cleared (suc n) (suc v) = cleared n v
+
+-- the number of masks that hold k
+abbrev ones : ℕ → List ℕ → ℕ
+ones k [] = 0
+ones k (m ∷ s) = bit m k + ones k s
+
+ones-set : (k : ℕ) (s : List ℕ) (i m : ℕ) → i < length s → ones k (set s i m) + bit (getD s i 0) k ≡ ones k s + bit m k
+ones-set k [] i m h = absurd (omega arith)
+ones-set k (x ∷ s) zero m h = omega arith
+ones-set k (x ∷ s) (suc i) m h = omega (arith, ones-set k s i m (le-of-suc-le-suc h))
+
+-- it is at most the number of masks, and where it is that, all hold k
+ones-le : (k : ℕ) (s : List ℕ) → ones k s ≤ length s
+ones-le k [] = zero-le
+ones-le k (x ∷ s) = omega (arith, bit-lt x k, ones-le k s)
+
+ones-all : (k : ℕ) (s : List ℕ) → length s ≤ ones k s → (v : ℕ) → v < length s → bit (getD s v 0) k ≡ 1
+ones-all k [] h v l = absurd (omega arith)
+ones-all k (x ∷ s) h zero l = omega (arith, bit-lt x k, ones-le k s)
+ones-all k (x ∷ s) h (suc v) l = ones-all k s (omega (arith, bit-lt x k)) v (le-of-suc-le-suc l)
+
+-- ---- paths in either direction
+
+-- an edge leads, and so does one more in front
+module _ (es : List ℕ) (p : ℕ → Bool) (i : ℕ) (listed : i < edgeCount es) where
+  leads-one : (along : Bool) → Leads es along p (near es along i) (far es along i)
+  leads-one true = last (record { place = i; listed = listed; leaves = refl; enters = refl })
+  leads-one false = last (record { place = i; listed = listed; leaves = refl; enters = refl })
+
+  leads-more : (along : Bool) (w : ℕ) → T (p (far es along i)) → Leads es along p (far es along i) w → Leads es along p (near es along i) w
+  leads-more true w h t = next (record { place = i; listed = listed; leaves = refl; enters = refl }) h t
+  leads-more false w h t = extend t h (record { place = i; listed = listed; leaves = refl; enters = refl })
+
+module _ (gives passes s : List ℕ) where
+  -- k is handed on if it is given, or held and passed
+  handed-iff : (u k : ℕ) → T (has (handed gives passes s u) k) ↔ (T (has (getD gives u 0) k) ⊎ (T (has (getD s u 0) k) × T (has (getD passes u 0) k)))
+  handed-iff u k = member-or _ _ k Iff·rfl (member-and _ _ k Iff·rfl Iff·rfl)
+
+  module _ (es : List ℕ) (k : ℕ) where
+    -- what an edge brings is held
+    abbrev Brought : Bool → Type 0
+    Brought along = (i v w : ℕ) → i < edgeCount es → near es along i ≡ v → far es along i ≡ w → T (has (handed gives passes s w) k) → T (has (getD s v 0) k)
+
+    -- then what a path brings is held
+    complete : (along : Bool) → Brought along → (v w : ℕ) → Leads es along (λ u. has (getD passes u 0) k) v w → T (has (handed gives passes s w) k) → T (has (getD s v 0) k)
+    complete true brought v w (last e) h = brought (e .place) v w (e .listed) (e .leaves) (e .enters) h
+    complete true brought v w (next {u} e p t) h =
+        brought (e .place) v u (e .listed) (e .leaves) (e .enters) (handed-iff u k .1 (inr (complete true brought u w t h, p)))
+    complete false brought v w (last e) h = brought (e .place) v w (e .listed) (e .enters) (e .leaves) h
+    complete false brought v w (next {u} e p t) h =
+        complete false brought v u t (handed-iff u k .1 (inr (brought (e .place) u w (e .listed) (e .enters) (e .leaves) h, p)))
+
+module _ (es : List ℕ) (along : Bool) (gives passes : List ℕ) where
+  -- edge i taken, the first j edges of a round taken, a whole round, and r rounds over the empty sets of n vertices
+  abbrev taken : List ℕ → ℕ → List ℕ
+  taken s i = relaxed es along gives passes s i
+
+  abbrev part : List ℕ → ℕ → List ℕ
+  part s j = swept es along gives passes s j
+
+  abbrev pub round : List ℕ → List ℕ
+  round s = swept es along gives passes s (edgeCount es)
+
+  abbrev pub after : ℕ → ℕ → List ℕ
+  after n r = rounds es along gives passes (replicate n 0) r
+
+  -- ---- sizes
+
+  -- there is a set for each vertex
+  pub after-length : (n r : ℕ) → length (after n r) ≡ n
+  after-length n r = rounds-length es along gives passes (replicate n 0) r ∙ length-replicate n 0
+
+  pub solution-length : (n : ℕ) → length (solution es along gives passes n) ≡ n
+  unfolding solution
+  solution-length n = after-length n n
+
+  -- sets of any width stay within it
+  pub solution-fits : (w n : ℕ) → ((u : ℕ) → getD gives u 0 < 2 ^ w) → (u : ℕ) → getD (solution es along gives passes n) u 0 < 2 ^ w
+  unfolding solution
+  solution-fits w n small =
+      rounds-keeps es along gives passes (λ s. (u : ℕ) → getD s u 0 < 2 ^ w)
+      (λ s i _ h u. at-set (λ v x. x < 2 ^ w) s _ _ u (or-lt w _ _ (h _) (or-lt w _ _ (small _) (lt-of-le-of-lt (and-le-l _ _) (h (far es along i))))) (h u))
+      (replicate n 0) (λ u. simp cleared (pow-pos w)) n
+
+  -- ---- soundness: every member has a path
+
+  abbrev Sound : List ℕ → Type 0
+  Sound s = (v k : ℕ) → T (has (getD s v 0) k) → Holds es along gives passes v k
+
+  -- what the far end hands on has a path from the near end
+  sound-handed : (s : List ℕ) → Sound s → (i k : ℕ) → i < edgeCount es → T (has (handed gives passes s (far es along i)) k) → Holds es along gives passes (near es along i) k
+  sound-handed s ih i k l h =
+      let p : ℕ → Bool = λ u. has (getD passes u 0) k in
+      ⊎-elim
+      (λ g. record { giver = far es along i; way = leads-one es p i l along; given = g })
+      (λ g. let o = ih (far es along i) k (g .0) in record { giver = o .giver; way = leads-more es p i l along (o .giver) (g .1) (o .way); given = o .given })
+      (handed-iff gives passes s (far es along i) k .0 h)
+
+  sound : (n : ℕ) → Sound (solution es along gives passes n)
+  unfolding solution
+  sound n =
+      rounds-keeps es along gives passes Sound
+      (λ s i l ih v k. at-set (λ u m. T (has m k) → Holds es along gives passes u k) s _ _ v (λ h. ⊎-elim (ih _ k) (sound-handed s ih i k l) (member-or _ _ k Iff·rfl Iff·rfl .0 h)) (ih v k))
+      (replicate n 0) (λ v k. simp (cleared, has-zero) (λ h. absurd h)) n
+
+  -- ---- lanes: each is closed after as many rounds as vertices
+
+  module _ (k : ℕ) where
+    -- the lane; what the set of v holds in it; 1 if edge i is about to bring k, else 0; no edge is about to
+    abbrev lane : List ℕ → List ℕ
+    lane s = map (λ (m : ℕ). bit m k) s
+
+    abbrev held : List ℕ → ℕ → ℕ
+    held s v = bit (getD s v 0) k
+
+    abbrev gap : List ℕ → ℕ → ℕ
+    gap s i = bit (handed gives passes s (far es along i)) k - held s (near es along i)
+
+    abbrev Closed : List ℕ → Type 0
+    Closed s = (i : ℕ) → i < edgeCount es → gap s i ≡ 0
+
+    -- what is held, and the gap, depend on the lane alone
+    held-same : (s t : List ℕ) → lane s ≡ lane t → (v : ℕ) → held s v ≡ held t v
+    held-same s t e v = sym (List·getD-map (λ (m : ℕ). bit m k) s v 0) ∙ ap (λ (l : List ℕ). getD l v (bit 0 k)) e ∙ List·getD-map (λ (m : ℕ). bit m k) t v 0
+
+    abbrev gap-of : ℕ → ℕ → ℕ → ℕ
+    gap-of u x y = max (bit (getD gives u 0) k) (min x (bit (getD passes u 0) k)) - y
+
+    gap-is : (s : List ℕ) (i : ℕ) → gap s i ≡ gap-of (far es along i) (held s (far es along i)) (held s (near es along i))
+    gap-is s i = ap (λ (x : ℕ). x - held s (near es along i)) (bit-or _ _ k ∙ ap (max (bit (getD gives (far es along i) 0) k)) (bit-and _ _ k))
+
+    gap-same : (s t : List ℕ) → lane s ≡ lane t → (i : ℕ) → gap s i ≡ gap t i
+    gap-same s t e i = gap-is s i ∙ ap₂ (gap-of (far es along i)) (held-same s t e (far es along i)) (held-same s t e (near es along i)) ∙ sym (gap-is t i)
+
+    -- an edge raises the number of ones by the gap, and where there is none, leaves the lane as it is
+    ones-relaxed : (s : List ℕ) (i : ℕ) → near es along i < length s → ones k (taken s i) ≡ ones k s + gap s i
+    ones-relaxed s i l =
+        let a = getD s (near es along i) 0 in
+        let b = handed gives passes s (far es along i) in
+        omega (arith, ones-set k s (near es along i) (bitOr a b) l, or-gap a b k)
+
+    lane-relaxed : (s : List ℕ) (i : ℕ) → gap s i ≡ 0 → lane (taken s i) ≡ lane s
+    lane-relaxed s i e =
+        let a = getD s (near es along i) 0 in
+        let b = handed gives passes s (far es along i) in
+        map-set-same (λ (m : ℕ). bit m k) s (near es along i) (bitOr a b) 0 (omega (arith, or-gap a b k))
+
+    -- a closed lane holds what an edge brings
+    brought : (s : List ℕ) → Closed s → Brought gives passes s es k along
+    brought s closed i v w l e f h =
+        subst (λ (x : ℕ). T (has (getD s x 0) k)) e
+        (member-iff _ k .1
+        (omega (arith, bit-lt (getD s (near es along i) 0) k, closed i l, member-iff _ k .0 (subst (λ (x : ℕ). T (has (handed gives passes s x) k)) (sym f) h))))
+
+    module _ (n : ℕ) (ends : Ends es n) where
+      -- the first j edges left the lane as it was, and none was about to bring k; or they raised the number of ones, and some edge was about to
+      abbrev Calm : List ℕ → ℕ → Type 0
+      Calm s j =
+          (lane (part s j) ≡ lane s) × (ones k (part s j) ≡ ones k s)
+          × ((i : ℕ) → i < j → gap s (turn es along i) ≡ 0)
+
+      abbrev Raised : List ℕ → ℕ → Type 0
+      Raised s j = (ones k s < ones k (part s j)) × (Closed s → ⊥)
+
+      sweep : (s : List ℕ) → length s ≡ n → (j : ℕ) → j ≤ edgeCount es → Calm s j ⊎ Raised s j
+      unfolding swept
+      sweep s e zero l = inl (refl, refl, λ i h. absurd (omega arith))
+      sweep s e (suc j) l = ⊎-elim (λ c. calm c (gap t g) refl) (λ r. inr (omega (arith, more, r .0), r .1)) (sweep s e j (le-of-lt l))
+        where
+          t : List ℕ
+          t = part s j
+
+          g : ℕ
+          g = turn es along j
+
+          more : ones k (taken t g) ≡ ones k t + gap t g
+          more = ones-relaxed t g (omega (arith, swept-length es along gives passes s j (le-of-lt l), near-lt ends along g (turn-lt es along j l)))
+
+          calm : Calm s j → (d : ℕ) → gap t g ≡ d → Calm s (suc j) ⊎ Raised s (suc j)
+          calm c zero q =
+              inl (
+                lane-relaxed t g q ∙ c .0,
+                omega (arith, more, c .1),
+                λ i h. ⊎-elim (λ now. subst (λ (x : ℕ). gap s (turn es along x) ≡ 0) (sym now) (sym (gap-same t s (c .0) g) ∙ q)) (c .2 i) (eq-or-lt-of-le (le-of-suc-le-suc h)),
+              )
+          calm c (suc d) q = inr (omega (arith, more, c .1), λ closed. omega (arith, closed g (turn-lt es along j l), gap-same t s (c .0) g))
+
+      -- after r rounds the lane is closed or has r ones
+      progress : (r : ℕ) → Closed (after n r) ⊎ (r ≤ ones k (after n r))
+      unfolding rounds
+      progress zero = inr zero-le
+      progress (suc r) = ⊎-elim
+          (λ c. inl (λ i h. gap-same (round s) s (c .0) i ∙ subst (λ (x : ℕ). gap s x ≡ 0) (turn-turn es along i h) (c .2 (turn es along i) (turn-lt es along i h))))
+          (λ d. ⊎-elim (λ closed. absurd (d .1 closed)) (λ few. inr (omega (arith, d .0))) (progress r))
+          (sweep s (after-length n r) (edgeCount es) (le-refl (edgeCount es)))
+        where
+          s : List ℕ
+          s = after n r
+
+      -- with a one for each vertex it is closed too
+      closed : Closed (solution es along gives passes n)
+      unfolding solution
+      closed = ⊎-elim (λ c. c)
+          (λ all i h. omega (
+            arith,
+            bit-lt (handed gives passes (after n n) (far es along i)) k,
+            ones-all k (after n n) (omega (arith, after-length n n)) (near es along i) (omega (arith, after-length n n, near-lt ends along i h)),
+          ))
+          (progress n)
+
+  -- ---- the theorems
+
+  module _ (n : ℕ) (ends : Ends es n) where
+    -- the set of v holds k exactly if a path of one edge or more from v, through vertices that pass k, arrives at a vertex that gives k
+    pub exact : (v k : ℕ) → T (has (getD (solution es along gives passes n) v 0) k) ↔ Holds es along gives passes v k
+    exact v k =
+        let s = solution es along gives passes n in (
+          sound n v k,
+          λ h. complete gives passes s es k along (brought k s (closed k n ends)) v (h .giver) (h .way) (handed-iff gives passes s (h .giver) k .1 (inl (h .given))),
+        )
+
+    -- further rounds alter no set
+    pub further : (r : ℕ) → n ≤ r → rounds es along gives passes (replicate n 0) r ≡ solution es along gives passes n
+    unfolding solution
+    further = le-ind (λ r. after n r ≡ after n n) refl (λ r h e. ap round e ∙ still)
+      where
+        still : round (after n n) ≡ after n n
+        still = swept-keeps es along gives passes (λ t. t ≡ after n n)
+            (λ t i l e. ap (λ (x : List ℕ). taken x i) e
+            ∙ ap (set (after n n) (near es along i)) (or-subset _ _ (λ k. closed k n ends i l)) ∙ set-getD (after n n) (near es along i) 0)
+            (after n n) refl (edgeCount es) (le-refl (edgeCount es))
+
+  -- ---- going on until a round alters nothing
+
+  module _ (n : ℕ) where
+    -- r rounds, each of which altered a set
+    pub record Going (t : List ℕ) (r : ℕ) : Type 0 where
+      pub sets : t ≡ after n r
+      pub most : r ≤ n
+      pub altered : (j : ℕ) → j < r → after n (suc j) ≡ after n j → ⊥
+
+    pub going-none : (t : List ℕ) → t ≡ replicate n 0 → Going t 0
+    unfolding rounds
+    going-none t e = record { sets = e; most = zero-le; altered = λ j h. absurd (omega arith) }
+
+    -- one more, and whether it altered a set
+    module _ (ends : Ends es n) (t u : List ℕ) (b : Bool) (r : ℕ) (g : Going t r) (a : Advanced (round t) t b u) where
+      made : u ≡ after n (suc r)
+      unfolding rounds
+      made = a .sets ∙ ap round (g .sets)
+
+      pub going-more : b ≡ true → Going u (r + 1)
+      going-more did =
+          let new : after n (suc r) ≡ after n r → ⊥ = λ same. subst (λ (x : Bool). Altered x t u) did (a .told) (made ∙ same ∙ sym (g .sets)) in
+          record {
+            sets = made ∙ ap (after n) (sym (add-one r));
+            most = elim (decLt r n) [ yes l ↦ omega arith | no l ↦ absurd (new (further n ends (suc r) (omega arith) ∙ sym (further n ends r (omega arith)))) ];
+            altered = below-more (λ j. after n (suc j) ≡ after n j → ⊥) r (g .altered) new;
+          }
+
+      -- where it altered none, no later one would
+      pub going-stops : b ≡ false → Solved es along gives passes n (r + 1) u
+      unfolding solution
+      going-stops none =
+          let old : u ≡ after n r = subst (λ (x : Bool). Altered x t u) none (a .told) ∙ g .sets in
+          let same : after n (suc r) ≡ after n r = sym made ∙ old in
+          let back : r ≡ r + 1 - 1 = omega arith in
+          record {
+            sets = old ∙ sym (le-ind (λ m. after n m ≡ after n r) refl (λ m h e. ap round e ∙ same) n (g .most));
+            counted = record {
+              some = omega arith;
+              most = omega (arith, g .most);
+              altered = λ j h. g .altered j (omega arith);
+              still = ap (after n) (add-one r) ∙ same ∙ ap (after n) back;
+            };
+          }

@@ -1,0 +1,4 @@
+pub mod Tests
+pub mod Paths
+pub mod Rounds
+pub mod Exact

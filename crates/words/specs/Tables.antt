@@ -1,0 +1,14 @@
+-- Lists built by counting.
+-- Assumes nothing.
+use mathlib.Core.List.{List, [], _∷_, _++_}
+use Prim.Native.Nat.{ℕ, zero, suc}
+
+-- a table of n numbers
+abbrev pub table : (ℕ → ℕ) → ℕ → List ℕ
+table f zero = []
+table f (suc n) = table f n ++ (f n ∷ [])
+
+-- n lists, one after the other
+unfoldable pub rows : (ℕ → List ℕ) → ℕ → List ℕ
+rows row zero = []
+rows row (suc n) = rows row n ++ row n
