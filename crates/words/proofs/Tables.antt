@@ -47,6 +47,22 @@ fill-more f old i h =
 pub fill-all : (f : ℕ → ℕ) (old : List ℕ) (n : ℕ) → length old ≡ n → filled f old n ≡ table f n
 fill-all f old n h = ap (λ (l : List ℕ). table f n ++ l) (drop-of-length-le old {i = n} (omega arith)) ∙ append-nil (table f n)
 
+-- ---- rows
+
+-- what the rows before n leave for row i
+pub rows-fit : (row : ℕ → List ℕ) (n i : ℕ) → i < n → length (rows row i) + length (row i) ≤ length (rows row n)
+unfolding rows
+rows-fit row zero i h = absurd (omega arith)
+rows-fit row (suc n) i h =
+    ⊎-elim
+    (λ (e : i ≡ n). omega (arith, length-append (rows row n) (row n), ap (λ (j : ℕ). length (rows row j) + length (row j)) e))
+    (λ (l : i < n). omega (arith, length-append (rows row n) (row n), rows-fit row n i l))
+    (eq-or-lt-of-le (le-of-suc-le-suc h))
+
+pub rows-more : (row : ℕ → List ℕ) (i : ℕ) → rows row i ++ row i ≡ rows row (i + 1)
+unfolding rows
+rows-more row i = ap (λ (j : ℕ). rows row j) (sym (add-one i))
+
 -- ---- rows of one width
 
 module _ (row : ℕ → List ℕ) (w : ℕ) (wide : (a : ℕ) → length (row a) ≡ w) where

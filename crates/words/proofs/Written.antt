@@ -1,4 +1,4 @@
--- Writing from the front of a buffer: what has been written, and the rest as it was.
+-- Laws of writing from the front of a buffer.
 -- Assumes nothing.
 use mathlib.Core.Path.{_≡_, sym, ap, ap₂, _∙_}
 use mathlib.Core.List.{List, _++_, append-assoc, append-nil}
@@ -6,10 +6,7 @@ use Prim.Native.Nat.{ℕ, _+_, _-_, _≤_}
 use native.Mathlib.Omega.{arith}
 use lib.ListN.{length, take, drop, length-append, length-drop, drop-of-length-le}
 use lib.Seq.{take-at, drop-at, drop-drop, take-all}
-
--- a buffer that held `old`, once `done` has been written at its front
-abbrev pub wrote : List ℕ → List ℕ → List ℕ
-wrote old done = done ++ drop (length done) old
+use Rattle.words.specs.Tables.{wrote}
 
 pub wrote-length : (old done : List ℕ) → length done ≤ length old → length (wrote old done) ≡ length old
 wrote-length old done h =
