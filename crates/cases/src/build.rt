@@ -1,0 +1,118 @@
+// Routine files, made in a buffer of zeros (document 01, "Routine file").
+ghost use Prim.Native.Nat.{_≤_, _<_};
+
+// More than the longest routine file, which has 6,194 bytes.
+pub const SIZE: usize = 8192;
+
+pub type Buffer = [u8; SIZE];
+
+pub fn zeros() -> Buffer {
+    [0; SIZE]
+}
+
+// A byte; past the end nothing is stored.
+pub fn put(file: &mut Buffer, at: usize, byte: u8) {
+    if at < SIZE {
+        file[at] = byte;
+    }
+}
+
+// A 16-bit number, low byte first.
+fn put_word(file: &mut Buffer, at: usize, n: usize)
+    requires { ⌜ at < 8192 ⌝ }
+{
+    put(file, at, (n % 256) as u8);
+    put(file, at + 1, (n / 256 % 256) as u8);
+}
+
+fn put_edge(file: &mut Buffer, at: usize, from: usize, to: usize)
+    requires { ⌜ at < 8000 ⌝ }
+{
+    put_word(file, at, from);
+    put_word(file, at + 2, to);
+}
+
+// Where the edges stand.
+fn edges_offset(arrays: usize, vertices: usize) -> usize
+    requires { ⌜ arrays ≤ 9 ⌝ }
+    requires { ⌜ vertices ≤ 257 ⌝ }
+    ensures { λ r. ⌜ r < 3000 ⌝ }
+{
+    18 + 4 * arrays + vertices * arrays
+}
+
+// Mark, edition and table of contents, with the offsets that the counts ask for.
+fn put_head(file: &mut Buffer, arrays: usize, vertices: usize, edges: usize)
+    requires { ⌜ arrays ≤ 9 ⌝ }
+    requires { ⌜ vertices ≤ 257 ⌝ }
+{
+    let actions_at = 18 + 4 * arrays;
+    let edges_at = edges_offset(arrays, vertices);
+    put(file, 0, b'H');
+    put(file, 1, b'P');
+    put(file, 2, b'F');
+    put(file, 3, b'R');
+    put_word(file, 4, 1);
+    put_word(file, 6, 18);
+    put_word(file, 8, arrays);
+    put_word(file, 10, actions_at);
+    put_word(file, 12, vertices);
+    put_word(file, 14, edges_at);
+    put_word(file, 16, edges);
+}
+
+// Routine P: one local array of 3 versions, 8 vertices, 8 edges.
+pub fn put_p(file: &mut Buffer) {
+    put_head(file, 1, 8, 8);
+    put(file, 19, 3);
+    put(file, 23, 0x20);
+    put(file, 24, 0x41);
+    put(file, 25, 0x10);
+    put(file, 26, 0x42);
+    put(file, 27, 0x40);
+    put(file, 28, 0x10);
+    put_edge(file, 30, 0, 1);
+    put_edge(file, 34, 1, 2);
+    put_edge(file, 38, 2, 3);
+    put_edge(file, 42, 3, 4);
+    put_edge(file, 46, 4, 5);
+    put_edge(file, 50, 5, 6);
+    put_edge(file, 54, 6, 2);
+    put_edge(file, 58, 6, 7);
+}
+
+// Local arrays of one version each.
+fn put_arrays(file: &mut Buffer, arrays: usize)
+    requires { ⌜ arrays ≤ 9 ⌝ }
+{
+    let mut a = 0;
+    while a < arrays {
+        put(file, 19 + 4 * a, 1);
+        a += 1;
+    }
+}
+
+// Edges that rise: edge i goes from i / 32 to 33 + i % 32.
+fn put_edges(file: &mut Buffer, at: usize, edges: usize)
+    requires { ⌜ at < 3000 ⌝ }
+    requires { ⌜ edges ≤ 1025 ⌝ }
+{
+    let mut i = 0;
+    while i < edges {
+        put_edge(file, at + 4 * i, i / 32, 33 + i % 32);
+        i += 1;
+    }
+}
+
+// A routine whose vertices do nothing; the result is its length. With edges it takes 66 vertices or more.
+pub fn put_idle(file: &mut Buffer, arrays: usize, vertices: usize, edges: usize) -> usize
+    requires { ⌜ arrays ≤ 9 ⌝ }
+    requires { ⌜ vertices ≤ 257 ⌝ }
+    requires { ⌜ edges ≤ 1025 ⌝ }
+{
+    let edges_at = edges_offset(arrays, vertices);
+    put_head(file, arrays, vertices, edges);
+    put_arrays(file, arrays);
+    put_edges(file, edges_at, edges);
+    edges_at + 4 * edges
+}

@@ -1,0 +1,179 @@
+-- Laws of checks in a row, and of scans for the first item that fails.
+-- Assumes nothing.
+use mathlib.Core.Path.{_≡_, refl, sym, ap, ap₂, _∙_}
+use mathlib.Core.Bool.{Bool, true, false, not, _&&_, false≢true}
+use Prim.Native.Nat.{ℕ, zero, suc, _+_, _-_, _≤_, _<_}
+use native.Mathlib.Nat.{add-zero, zero-add}
+use native.Mathlib.Omega.{arith}
+use borrow.Author.Tests.{lt-ltb, le-ltb, le-leb, lt-leb, eq-eqb, ne-eqb, leb-true, ltb-true, eqb-true, eqb-false, not-true, not-false}
+use Rattle.routine.specs.declared.refusal.Refusal.{Refusal}
+use Rattle.routine.specs.declared.refusal.Refusal.the-variants.{WrongActionByte}
+use Rattle.routine.specs.declared.refusal.Verdict.{Verdict}
+use Rattle.routine.specs.declared.refusal.Verdict.the-variants.{Passed, Failed}
+use Rattle.routine.specs.Checks.{_andThen_, holds, firstFailed}
+use Rattle.routine.specs.Layout.{within}
+use lib.Dec.{leb}
+
+-- ---- tests
+
+-- what a branch tells, as the value of its test
+pub ruleset tests = (lt-ltb, le-ltb, le-leb, lt-leb, eq-eqb, ne-eqb)
+
+-- ---- checks in a row
+
+-- v is what the first check says: a failure is the row's answer, and after a pass the rest answers
+pub fails : {v w : Verdict} {r : Refusal} (rest : Verdict) → v ≡ w → v ≡ Failed r → v ≡ (w andThen rest)
+fails rest is e = rw (← is, e)
+
+pub passes : {v w x rest : Verdict} → v ≡ w → v ≡ Passed → x ≡ rest → x ≡ (w andThen rest)
+passes is e next = rw (← is, e) next
+
+pub goes-on : {v w x : Verdict} → v ≡ Passed → w ≡ x → (v andThen w) ≡ x
+goes-on p e = sym (passes refl p (sym e))
+
+-- the verdict on an action byte goes by the test and the place
+pub of-byte : {bad wrong : Bool} {at place : ℕ} → bad ≡ wrong → at ≡ place → holds (not bad) (WrongActionByte at) ≡ holds (not wrong) (WrongActionByte place)
+of-byte e f = ap₂ (λ (bad : Bool) (at : ℕ). holds (not bad) (WrongActionByte at)) e f
+
+-- ---- what a row that passes tells of its parts
+
+pub passed-left : (v w : Verdict) → (v andThen w) ≡ Passed → v ≡ Passed
+passed-left Passed w e = refl
+passed-left (Failed r) w e = e
+
+pub passed-right : (v w : Verdict) → (v andThen w) ≡ Passed → w ≡ Passed
+passed-right Passed w e = e
+passed-right (Failed r) w e = cc
+
+pub holds-true : (b : Bool) (r : Refusal) → holds b r ≡ Passed → b ≡ true
+holds-true true r e = refl
+holds-true false r e = cc
+
+pub and-left : (a b : Bool) → (a && b) ≡ true → a ≡ true
+and-left true b e = refl
+and-left false b e = e
+
+pub and-right : (a b : Bool) → (a && b) ≡ true → b ≡ true
+and-right true b e = e
+and-right false b e = absurd (false≢true e)
+
+-- both parts at once
+pub and-parts : (a b : Bool) → (a && b) ≡ true → (a ≡ true) × (b ≡ true)
+and-parts a b e = (and-left a b e, and-right a b e)
+
+pub allowed : (b : Bool) (r : Refusal) (rest : Verdict) → (holds b r andThen rest) ≡ Passed → (b ≡ true) × (rest ≡ Passed)
+allowed b r rest e = (holds-true b r (passed-left (holds b r) rest e), passed-right (holds b r) rest e)
+
+pub within-limits : (low high n : ℕ) → within low high n ≡ true → (low ≤ n) × (n ≤ high)
+within-limits low high n e = (leb-true low n (and-left (leb low n) (leb n high) e), leb-true n high (and-right (leb low n) (leb n high) e))
+
+-- each test of the row, and the fact that it stands for
+pub ruleset parts = (passed-left, passed-right, holds-true, and-left, and-right, not-true, not-false, leb-true, ltb-true, eqb-true, eqb-false)
+
+-- ---- a scan for the first item that fails
+
+-- the scan goes on at i: what is left decides
+pub record Undecided (item : ℕ → Verdict) (n i : ℕ) : Type 0 where
+  pub within : i ≤ n
+  pub rest : firstFailed item 0 n ≡ firstFailed item i (n - i)
+
+module _ {item : ℕ → Verdict} {n i : ℕ} (u : Undecided item n i) where
+  -- the item at i, and then those after it
+  head : i < n → firstFailed item 0 n ≡ (item i andThen firstFailed item (i + 1) (n - (i + 1)))
+  unfolding firstFailed
+  head h =
+      let e : n - i ≡ suc (n - (i + 1)) = omega arith in
+      u .rest ∙ ap (firstFailed item i) e
+
+  -- v is what the item at i says
+  pub stop : {v : Verdict} {r : Refusal} → i < n → v ≡ item i → v ≡ Failed r → v ≡ firstFailed item 0 n
+  stop h is e = fails _ is e ∙ sym (head h)
+
+  pub next : {v : Verdict} → i < n → v ≡ item i → v ≡ Passed → Undecided item n (i + 1)
+  next h is e = record { within = omega arith; rest = head h ∙ sym (passes is e refl) }
+
+  pub done : n ≤ i → Passed ≡ firstFailed item 0 n
+  unfolding firstFailed
+  done h =
+      let e : n - i ≡ 0 = omega arith in
+      sym (u .rest ∙ ap (firstFailed item i) e)
+
+pub start : (item : ℕ → Verdict) (n : ℕ) → Undecided item n 0
+start item n =
+    let e : n ≡ n - 0 = omega arith in
+    record { within = omega arith; rest = ap (firstFailed item 0) e }
+
+-- ---- what a scan says: it passes exactly if every item passes, and fails with r exactly if the first item that fails does so with r
+
+pub record FirstAt (item : ℕ → Verdict) (from n : ℕ) (r : Refusal) : Type 0 where
+  pub at : ℕ
+  pub within : at < n
+  pub fails-there : item (from + at) ≡ Failed r
+  pub passed-before : (i : ℕ) → i < at → item (from + i) ≡ Passed
+
+module _ (item : ℕ → Verdict) where
+  -- an item counted from the next one on
+  next-item : (from i : ℕ) → item (from + suc i) ≡ item (from + 1 + i)
+  next-item from i =
+      let e : from + suc i ≡ from + 1 + i = omega arith in
+      ap item e
+
+  -- the first item passes, and so do those from the next one on
+  onward : (from n : ℕ) → item from ≡ Passed → ((i : ℕ) → i < n → item (from + 1 + i) ≡ Passed) → (i : ℕ) → i < suc n → item (from + i) ≡ Passed
+  onward from n p all zero h = rw add-zero p
+  onward from n p all (suc i) h = next-item from i ∙ all i (omega arith)
+
+  pub scan-passed : (from n : ℕ) → firstFailed item from n ≡ Passed → (i : ℕ) → i < n → item (from + i) ≡ Passed
+  unfolding firstFailed
+  scan-passed from zero e = λ i h. absurd (omega arith)
+  scan-passed from (suc n) e =
+      onward from n (passed-left (item from) _ e) (scan-passed (from + 1) n (passed-right (item from) _ e))
+
+  pub passed-scan : (from n : ℕ) → ((i : ℕ) → i < n → item (from + i) ≡ Passed) → firstFailed item from n ≡ Passed
+  unfolding firstFailed
+  passed-scan from zero all = refl
+  passed-scan from (suc n) all =
+      goes-on (rw add-zero at (all 0 (omega arith)))
+      (passed-scan (from + 1) n (λ i h. sym (next-item from i) ∙ all (suc i) (omega arith)))
+
+  pub scan-failed : (from n : ℕ) {r : Refusal} → firstFailed item from n ≡ Failed r → FirstAt item from n r
+  unfolding firstFailed
+  scan-failed from zero e = absurd (let z : _≡_ {A = ℕ} 0 1 = cc in omega arith)
+  scan-failed from (suc n) {r} e = go (item from) refl e (scan-failed (from + 1) n)
+    where
+      go : (v : Verdict) → item from ≡ v → (v andThen firstFailed item (from + 1) n) ≡ Failed r → (firstFailed item (from + 1) n ≡ Failed r → FirstAt item (from + 1) n r) → FirstAt item from (suc n) r
+      go Passed p e later =
+          let f = later e in
+          record {
+            at = suc (f .at);
+            within = omega arith;
+            fails-there = next-item from (f .at) ∙ f .fails-there;
+            passed-before = onward from (f .at) p (f .passed-before);
+          }
+      go (Failed s) p e later =
+          record {
+            at = 0;
+            within = omega arith;
+            fails-there = rw add-zero (p ∙ e);
+            passed-before = λ i h. absurd (omega arith);
+          }
+
+  failed-from : (from n k : ℕ) {r : Refusal} → k < n → item (from + k) ≡ Failed r → ((i : ℕ) → i < k → item (from + i) ≡ Passed) → firstFailed item from n ≡ Failed r
+  unfolding firstFailed
+  failed-from from zero k h e all = absurd (omega arith)
+  failed-from from (suc n) zero h e all =
+      let f = rw add-zero at e in
+      sym (fails _ refl f) ∙ f
+  failed-from from (suc n) (suc k) h e all =
+      goes-on (rw add-zero at (all 0 (omega arith)))
+      (failed-from (from + 1) n k (omega arith) (sym (next-item from k) ∙ e) (λ i h. sym (next-item from i) ∙ all (suc i) (omega arith)))
+
+  pub failed-scan : (from n : ℕ) {r : Refusal} → FirstAt item from n r → firstFailed item from n ≡ Failed r
+  failed-scan from n f = failed-from from n (f .at) (f .within) (f .fails-there) (f .passed-before)
+
+  -- from the first item on
+  pub each-passed : (n : ℕ) → firstFailed item 0 n ≡ Passed → (i : ℕ) → i < n → item i ≡ Passed
+  each-passed n e i h = rw zero-add at (scan-passed 0 n e i h)
+
+  pub all-passed : (n : ℕ) → ((i : ℕ) → i < n → item i ≡ Passed) → firstFailed item 0 n ≡ Passed
+  all-passed n all = passed-scan 0 n (λ i h. rw zero-add (all i h))

@@ -1,0 +1,5 @@
+pub mod Laws
+pub mod Places
+pub mod Form
+pub mod Accepted
+pub mod WellFormed

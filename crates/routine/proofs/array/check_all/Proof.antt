@@ -1,0 +1,61 @@
+-- `array::check_all` meets its contract: a scan of the arrays.
+-- Assumes nothing.
+use Prim.Native.Nat.{_-_}
+use native.Mathlib.Omega.{arith}
+use borrow.Author.Needs.{needs}
+use Rattle.routine.specs.Arrays.{arrayCheck, check14}
+use Rattle.routine.specs.Layout.{arrays}
+use Rattle.routine.proofs.Laws.{Undecided, start, stop, next, done}
+use Rattle.routine.proofs.array.check_all.Statement.{statement}
+use Rattle.routine.proofs.array.check_all.Tie as tie
+
+abbrev Inv-loop : tie.InvT-loop
+Inv-loop file n a₀ a = Undecided (arrayCheck file) (arrays file) a
+
+abbrev μ-loop : tie.MeasureT-loop
+μ-loop file n a₀ a = n - a
+
+loop-holds : tie.Need-loop-holds Inv-loop μ-loop
+loop-holds c = start _ _
+
+check-requires : tie.Need-check-requires Inv-loop μ-loop
+check-requires c κs = search needs
+
+enum-told : tie.Need-enum-told Inv-loop μ-loop
+enum-told c = search needs
+
+returns : tie.Need-returns Inv-loop μ-loop
+unfolding check14
+returns c = stop (c .before .before .before .before .loop .inv) (omega arith) (c .before .before .check .ensures) (c .enum-told .given .1)
+
+enum-told-2 : tie.Need-enum-told-2 Inv-loop μ-loop
+enum-told-2 c = search needs
+
+add-a : tie.Need-add-a Inv-loop μ-loop
+add-a c = omega arith
+
+loop-less : tie.Need-loop-less Inv-loop μ-loop
+loop-less c = omega arith
+
+loop-again : tie.Need-loop-again Inv-loop μ-loop
+loop-again c = next (c .before .before .before .before .loop .inv) (omega arith) (c .before .before .check .ensures) (c .enum-told2 .given .1)
+
+returns-2 : tie.Need-returns-2 Inv-loop μ-loop
+unfolding check14
+returns-2 c = done (c .before .loop .inv) (omega arith)
+
+pub check-all-spec : {M : Type 1} → statement M
+check-all-spec =
+    tie.close
+    (tie.spec
+    Inv-loop
+    μ-loop
+    loop-holds
+    check-requires
+    enum-told
+    returns
+    enum-told-2
+    add-a
+    loop-less
+    loop-again
+    returns-2)

@@ -1,0 +1,90 @@
+-- Document 01, "Routine file": vertices, one action byte for each array.
+-- Assumes nothing.
+use mathlib.Core.Bool.{Bool, true, false, not, _&&_, _||_, cond}
+use mathlib.Core.List.{List}
+use Prim.Native.Nat.{ℕ, _-_}
+use lib.Dec.{eqb, ltb}
+use lib.ListN.{getD}
+use Rattle.routine.specs.declared.action.Access.the-variants.{Read, Define, Modify}
+use Rattle.routine.specs.declared.action.Action.{Action}
+use Rattle.routine.specs.declared.action.Action.the-variants.{Nothing, Reference, Remap, Unknown}
+use Rattle.routine.specs.declared.refusal.Refusal.the-variants.{WrongActionByte}
+use Rattle.routine.specs.declared.refusal.Verdict.{Verdict}
+use Rattle.routine.specs.Arrays.{arrayOf}
+use Rattle.routine.specs.Checks.{_andThen_, holds, firstFailed}
+use Rattle.routine.specs.Layout.{arrays, vertices, actionAt}
+
+-- 00 nothing, 10 read, 20 define, 30 modify, 40+k remap to version k, k below 16; every other byte is unknown
+unfoldable pub actionOf : ℕ → Action
+actionOf b =
+    cond (eqb b 0x00) Nothing
+    (cond (eqb b 0x10) (Reference Read)
+    (cond (eqb b 0x20) (Reference Define)
+    (cond (eqb b 0x30) (Reference Modify)
+    (cond (ltb b 0x40) Unknown
+    (cond (ltb b 0x50) (Remap (b - 0x40))
+    Unknown)))))
+
+abbrev pub actionByte : List ℕ → ℕ → ℕ → ℕ
+actionByte file v a = getD file (actionAt file v a) 0
+
+unfoldable pub action : List ℕ → ℕ → ℕ → Action
+unfolding actionOf
+action file v a = actionOf (actionByte file v a)
+
+abbrev pub isKnown : Action → Bool
+isKnown Nothing = true
+isKnown (Reference r) = true
+isKnown (Remap k) = true
+isKnown Unknown = false
+
+abbrev pub isReference : Action → Bool
+isReference Nothing = false
+isReference (Reference r) = true
+isReference (Remap k) = false
+isReference Unknown = false
+
+abbrev pub isRemap : Action → Bool
+isRemap Nothing = false
+isRemap (Reference r) = false
+isRemap (Remap k) = true
+isRemap Unknown = false
+
+-- a remap's version is below the array's number of versions
+abbrev pub remapsBelow : Action → ℕ → Bool
+remapsBelow Nothing n = true
+remapsBelow (Reference r) n = true
+remapsBelow (Remap k) n = ltb k n
+remapsBelow Unknown n = true
+
+-- vertex 0 is the entry, the last is the exit
+abbrev pub isEntryOrExit : List ℕ → ℕ → Bool
+isEntryOrExit file v = eqb v 0 || eqb v (vertices file - 1)
+
+-- a vertex has references or remappings, never both
+abbrev pub mixes : Action → Action → Bool
+mixes x y = isReference x && isRemap y || isRemap x && isReference y
+
+-- 15: action byte unknown, version too large, entry or exit row not zero, or kind mixed with an earlier one in its row
+abbrev pub wrong : List ℕ → ℕ → ℕ → Bool → Verdict
+wrong file v a bad = holds (not bad) (WrongActionByte (actionAt file v a))
+
+unfoldable pub mixedCheck : List ℕ → ℕ → ℕ → ℕ → Verdict
+unfolding action
+mixedCheck file v a earlier = wrong file v a (mixes (action file v earlier) (action file v a))
+
+unfoldable pub actionCheck : List ℕ → ℕ → ℕ → Verdict
+unfolding action arrayOf firstFailed mixedCheck
+actionCheck file v a =
+    wrong file v a (not (isKnown (action file v a)))
+    andThen wrong file v a (not (remapsBelow (action file v a) (arrayOf file a .versions)))
+    andThen wrong file v a (isEntryOrExit file v && not (eqb (actionByte file v a) 0))
+    andThen firstFailed (mixedCheck file v a) 0 a
+
+unfoldable pub rowCheck : List ℕ → ℕ → Verdict
+unfolding actionCheck firstFailed
+rowCheck file v = firstFailed (actionCheck file v) 0 (arrays file)
+
+unfoldable pub check15 : List ℕ → Verdict
+unfolding rowCheck firstFailed
+check15 file = firstFailed (rowCheck file) 0 (vertices file)

@@ -1,0 +1,34 @@
+-- Document 01, "Routine file": arrays, four bytes each.
+-- Assumes nothing.
+use mathlib.Core.List.{List}
+use Prim.Native.Nat.{ℕ, _+_}
+use lib.Dec.{eqb, leb, ltb}
+use lib.ListN.{getD, take, drop}
+use Rattle.routine.specs.declared.array.ArrayRecord.{ArrayRecord}
+use Rattle.routine.specs.declared.refusal.Refusal.the-variants.{WrongArrayByte}
+use Rattle.routine.specs.declared.refusal.Verdict.{Verdict}
+use Rattle.routine.specs.Checks.{_andThen_, holds, firstFailed}
+use Rattle.routine.specs.Layout.{arrays, recordAt, within}
+
+-- kind, number of versions, initial version, zero
+abbrev pub recordOf : List ℕ → ArrayRecord
+recordOf b = record { kind = getD b 0 0; versions = getD b 1 0; initial = getD b 2 0; zero = getD b 3 0 }
+
+unfoldable pub arrayOf : List ℕ → ℕ → ArrayRecord
+arrayOf file a = recordOf (take 4 (drop (recordAt a) file))
+
+-- kind 0 to 3, versions 1 to 16, initial version below that number, zero: the byte of the first that does not hold
+abbrev pub recordCheck : ArrayRecord → ℕ → Verdict
+recordCheck r at =
+    holds (leb (r .kind) 3) (WrongArrayByte at)
+    andThen holds (within 1 16 (r .versions)) (WrongArrayByte (at + 1))
+    andThen holds (ltb (r .initial) (r .versions)) (WrongArrayByte (at + 2))
+    andThen holds (eqb (r .zero) 0) (WrongArrayByte (at + 3))
+
+unfoldable pub arrayCheck : List ℕ → ℕ → Verdict
+arrayCheck file a = recordCheck (arrayOf file a) (recordAt a)
+
+-- 14: array byte
+unfoldable pub check14 : List ℕ → Verdict
+unfolding firstFailed arrayCheck
+check14 file = firstFailed (arrayCheck file) 0 (arrays file)

@@ -1,0 +1,61 @@
+-- The reader's answer, and what a routine that was read has.
+-- Assumes nothing.
+use mathlib.Core.Path.{_≡_}
+use mathlib.Core.List.{List}
+use Prim.Native.Nat.{ℕ, _≤_, _<_}
+use lib.ListN.{length}
+use Rattle.routine.specs.declared.header.Header.{Header}
+use Rattle.routine.specs.declared.reader.Answer.{Answer}
+use Rattle.routine.specs.declared.reader.Answer.the-variants.{Routine, Refused}
+use Rattle.routine.specs.declared.refusal.Verdict.{Verdict}
+use Rattle.routine.specs.declared.refusal.Verdict.the-variants.{Passed, Failed}
+use Rattle.routine.specs.Actions.{actionCheck, check15}
+use Rattle.routine.specs.Arrays.{arrayCheck, check14}
+use Rattle.routine.specs.Checks.{_andThen_}
+use Rattle.routine.specs.Edges.{edgeCheck, check16}
+use Rattle.routine.specs.Layout.{arrays, vertices, edges, endAt, headerOf, check10, check11, check12, check13}
+
+-- checks run 10 to 16
+unfoldable pub formCheck : List ℕ → Verdict
+unfolding check10 check11 check12 check13
+formCheck file = check10 file andThen check11 file andThen check12 file andThen check13 file
+
+unfoldable pub bodyCheck : List ℕ → Verdict
+unfolding check14 check15 check16
+bodyCheck file = check14 file andThen check15 file andThen check16 file
+
+abbrev pub answered : Verdict → Header → Answer
+answered Passed h = Routine h
+answered (Failed r) h = Refused r
+
+-- the header, or the first refusal
+unfoldable pub readOf : List ℕ → Answer
+unfolding formCheck bodyCheck
+readOf file = answered (formCheck file andThen bodyCheck file) (headerOf file)
+
+-- counts within their limits
+pub record Limits (h : Header) : Type 0 where
+  pub some-array : 1 ≤ h .arrays
+  pub few-arrays : h .arrays ≤ 8
+  pub two-vertices : 2 ≤ h .vertices
+  pub few-vertices : h .vertices ≤ 256
+  pub few-edges : h .edges ≤ 1024
+
+-- what checks 10 to 13 leave: counts within their limits, bodies that fill the file
+pub record Laid (file : List ℕ) : Type 0 where
+  pub limits : Limits (headerOf file)
+  pub ends : length file ≡ endAt file
+
+-- what checks 10 to 16 leave
+pub record WellFormed (file : List ℕ) : Type 0 where
+  pub laid : Laid file
+  pub arrays-pass : (a : ℕ) → a < arrays file → arrayCheck file a ≡ Passed
+  pub actions-pass : (v a : ℕ) → v < vertices file → a < arrays file → actionCheck file v a ≡ Passed
+  pub edges-pass : (i : ℕ) → i < edges file → edgeCheck file i ≡ Passed
+
+-- a laid file with its own header
+pub record Heads (h : Header) (file : List ℕ) : Type 0 where
+  pub laid : Laid file
+  pub arrays-are : h .arrays ≡ arrays file
+  pub vertices-are : h .vertices ≡ vertices file
+  pub edges-are : h .edges ≡ edges file

@@ -1,0 +1,27 @@
+-- Document 01, "Who can cause a refusal": the number and the two places of each reason; the second place is 0 unless said.
+-- Assumes nothing.
+use Prim.Native.Nat.{ℕ}
+use Rattle.routine.specs.declared.refusal.Outcome.{Outcome}
+use Rattle.routine.specs.declared.refusal.Refusal.{Refusal}
+use Rattle.routine.specs.declared.refusal.Refusal.the-variants.{TooShort, WrongMark, WrongEdition, CountOutsideLimits, WrongOffset, WrongLength, WrongArrayByte, WrongActionByte, WrongEdge, WritesInArgument, AmbiguousReference, PathLengthOutsideLimits, WrongStart, NoSuchEdge, ShortPlanBuffer, ShortReportBuffer}
+
+abbrev pub refused : ℕ → ℕ → ℕ → Outcome
+refused number first second = record { number = number; first = first; second = second }
+
+abbrev pub outcomeOf : Refusal → Outcome
+outcomeOf (TooShort length) = refused 10 length 0
+outcomeOf WrongMark = refused 10 0 0
+outcomeOf WrongEdition = refused 11 4 0
+outcomeOf (CountOutsideLimits byte) = refused 12 byte 0
+outcomeOf (WrongOffset byte) = refused 13 byte 0
+outcomeOf WrongLength = refused 13 18 0
+outcomeOf (WrongArrayByte byte) = refused 14 byte 0
+outcomeOf (WrongActionByte byte) = refused 15 byte 0
+outcomeOf (WrongEdge byte) = refused 16 byte 0
+outcomeOf (WritesInArgument vertex array) = refused 20 vertex array
+outcomeOf (AmbiguousReference vertex array) = refused 21 vertex array
+outcomeOf (PathLengthOutsideLimits length) = refused 30 length 0
+outcomeOf WrongStart = refused 31 0 0
+outcomeOf (NoSuchEdge index) = refused 32 index 0
+outcomeOf (ShortPlanBuffer needed) = refused 1 needed 0
+outcomeOf (ShortReportBuffer needed) = refused 2 needed 0

@@ -1,0 +1,33 @@
+-- Document 01, "Plan and report": success is 0 and the length written; bytes beyond it keep their contents; a refusal writes no byte.
+-- Assumes nothing.
+use mathlib.Core.List.{List, _++_}
+use Prim.Native.Nat.{ℕ}
+use lib.ListN.{drop}
+use Rattle.routine.specs.declared.reader.Answer.{Answer}
+use Rattle.routine.specs.declared.reader.Answer.the-variants.{Routine, Refused}
+use Rattle.routine.specs.declared.refusal.Outcome.{Outcome}
+use Rattle.routine.specs.declared.refusal.Reply.{Reply}
+use Rattle.routine.specs.declared.refusal.Reply.the-variants.{Written, Denied}
+use Rattle.routine.specs.declared.refusal.Verdict.{Verdict}
+use Rattle.routine.specs.declared.refusal.Verdict.the-variants.{Passed, Failed}
+use Rattle.routine.specs.Refusals.{outcomeOf}
+
+-- a call that writes n bytes where its checks pass
+abbrev pub written : Verdict → ℕ → Reply
+written Passed n = Written n
+written (Failed r) n = Denied r
+
+-- what a call that is to write `bytes` leaves in a buffer
+abbrev pub filledBy : Reply → List ℕ → List ℕ → List ℕ
+filledBy (Written n) bytes before = bytes ++ drop n before
+filledBy (Denied r) bytes before = before
+
+-- number, first place, second place
+abbrev pub replyOutcome : Reply → Outcome
+replyOutcome (Written n) = record { number = 0; first = n; second = 0 }
+replyOutcome (Denied r) = outcomeOf r
+
+-- a refusal of the reader's, handed on
+abbrev pub deniedOf : Answer → Reply
+deniedOf (Routine h) = Written 0
+deniedOf (Refused r) = Denied r

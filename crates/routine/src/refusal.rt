@@ -1,0 +1,149 @@
+// Refusals: a case for each reason, named for what it says (document 01, "Who can cause a refusal").
+ghost use mathlib.Core.Path.{_≡_};
+ghost use Rattle.routine.specs.Refusals.{outcomeOf};
+ghost use Rattle.routine.specs.Replies.{replyOutcome};
+
+pub enum Refusal {
+    // The file's writer.
+    TooShort { length: usize },
+    WrongMark,
+    WrongEdition,
+    CountOutsideLimits { byte: usize },
+    WrongOffset { byte: usize },
+    WrongLength,
+    WrongArrayByte { byte: usize },
+    WrongActionByte { byte: usize },
+    WrongEdge { byte: usize },
+    // The routine's programmer.
+    WritesInArgument { vertex: usize, array: usize },
+    AmbiguousReference { vertex: usize, array: usize },
+    // The path's writer.
+    PathLengthOutsideLimits { length: usize },
+    WrongStart,
+    NoSuchEdge { index: usize },
+    // The library's caller.
+    ShortPlanBuffer { needed: usize },
+    ShortReportBuffer { needed: usize },
+}
+
+// What one check, or a row of them, says.
+pub enum Verdict {
+    Passed,
+    Failed(Refusal),
+}
+
+// What a public call answers: the length written, or the refusal.
+pub enum Reply {
+    Written(usize),
+    Denied(Refusal),
+}
+
+// What a public call answers, in numbers: its number and two places; number 0 is success, with the length written as the first place.
+#[repr(C)]
+pub struct Outcome {
+    pub number: u64,
+    pub first: u64,
+    pub second: u64,
+}
+
+// Document 01's number and places of a refusal.
+pub fn outcome_of(r: Refusal) -> Outcome
+    ensures { λ o. ⌜ o ≡ outcomeOf r ⌝ }
+{
+    match r {
+        Refusal::TooShort { length } => Outcome {
+            number: 10,
+            first: length as u64,
+            second: 0,
+        },
+        Refusal::WrongMark => Outcome {
+            number: 10,
+            first: 0,
+            second: 0,
+        },
+        Refusal::WrongEdition => Outcome {
+            number: 11,
+            first: 4,
+            second: 0,
+        },
+        Refusal::CountOutsideLimits { byte } => Outcome {
+            number: 12,
+            first: byte as u64,
+            second: 0,
+        },
+        Refusal::WrongOffset { byte } => Outcome {
+            number: 13,
+            first: byte as u64,
+            second: 0,
+        },
+        Refusal::WrongLength => Outcome {
+            number: 13,
+            first: 18,
+            second: 0,
+        },
+        Refusal::WrongArrayByte { byte } => Outcome {
+            number: 14,
+            first: byte as u64,
+            second: 0,
+        },
+        Refusal::WrongActionByte { byte } => Outcome {
+            number: 15,
+            first: byte as u64,
+            second: 0,
+        },
+        Refusal::WrongEdge { byte } => Outcome {
+            number: 16,
+            first: byte as u64,
+            second: 0,
+        },
+        Refusal::WritesInArgument { vertex, array } => Outcome {
+            number: 20,
+            first: vertex as u64,
+            second: array as u64,
+        },
+        Refusal::AmbiguousReference { vertex, array } => Outcome {
+            number: 21,
+            first: vertex as u64,
+            second: array as u64,
+        },
+        Refusal::PathLengthOutsideLimits { length } => Outcome {
+            number: 30,
+            first: length as u64,
+            second: 0,
+        },
+        Refusal::WrongStart => Outcome {
+            number: 31,
+            first: 0,
+            second: 0,
+        },
+        Refusal::NoSuchEdge { index } => Outcome {
+            number: 32,
+            first: index as u64,
+            second: 0,
+        },
+        Refusal::ShortPlanBuffer { needed } => Outcome {
+            number: 1,
+            first: needed as u64,
+            second: 0,
+        },
+        Refusal::ShortReportBuffer { needed } => Outcome {
+            number: 2,
+            first: needed as u64,
+            second: 0,
+        },
+    }
+}
+
+// The same of a call's answer.
+pub fn reply_outcome(reply: Reply) -> Outcome
+    ensures { λ o. ⌜ o ≡ replyOutcome reply ⌝ }
+{
+    match reply {
+        Reply::Written(length) => Outcome {
+            number: 0,
+            first: length as u64,
+            second: 0,
+        },
+        Reply::Denied(r) => outcome_of(r),
+    }
+}
