@@ -1,0 +1,11 @@
+pub mod Ambiguity
+pub mod Arrivals
+pub mod Checks
+pub mod Events
+pub mod Kept
+pub mod Proper
+pub mod Reaching
+pub mod Tables
+pub mod Tests
+pub mod Uses
+pub mod Versions

@@ -1,0 +1,122 @@
+-- Paths from the entry: which vertices they reach, and which vertex of a kind is the last on them.
+-- Assumes nothing.
+use mathlib.Core.Path.{_≡_, refl, ap, subst, _∙_}
+use mathlib.Core.Bool.{Bool, true, false, not, cond}
+use mathlib.Core.List.{List, [], _∷_, _++_}
+use mathlib.Core.Logic.{_↔_, _⊎_, inl, inr, ⊎-elim}
+use mathlib.Core.Option.{Option, none, some, Option·none-ne-some}
+use Prim.Native.Nat.{ℕ}
+use lib.Dec.{T, eqb}
+use lib.ListN.{length}
+use Rattle.flow.specs.Paths.{Edge, Path, last, next, Joined, AllPass}
+use Rattle.flow.specs.Solver.{Ends}
+use Rattle.flow.proofs.Tests.{either, or-iff}
+use Rattle.flow.proofs.Paths.{list-iff, extend}
+use Rattle.flow.proofs.Exact.{solution-length}
+use Rattle.routine.specs.Layout.{vertices}
+use Rattle.sets.specs.Sets.{has}
+use Rattle.labels.specs.Events.{edgeBytes, entry}
+use Rattle.labels.specs.Reaching.{ArrivesBy, orLast, lastVersion, reachedSets, isReached}
+use Rattle.labels.proofs.Rules.Tables.{Finds, solved}
+use Rattle.labels.proofs.Rules.Tests.{is-true, is-false, eqb-iff}
+
+one-if : (b : Bool) → has (cond b 1 0) 0 ≡ b
+unfolding has
+one-if true = refl
+one-if false = refl
+
+all-pass : (us : List ℕ) → AllPass (λ u. true) us
+all-pass [] = tt
+all-pass (u ∷ us) = (tt, all-pass us)
+
+-- ---- which vertices are reached
+
+-- one set for each vertex
+pub reached-length : (file : List ℕ) → length (reachedSets file) ≡ vertices file
+unfolding reachedSets
+reached-length file = solution-length _ _ _ _ (vertices file)
+
+module _ (file : List ℕ) (ends : Ends (edgeBytes file) (vertices file)) where
+  from-entry : (v : ℕ) → T (isReached file v) ↔ ((v ≡ entry) ⊎ Finds (edgeBytes file) false (λ u. true) (λ u. u ≡ entry) v)
+  unfolding isReached reachedSets has
+  from-entry v = or-iff (eqb v entry) _ (eqb-iff v entry)
+      (solved (edgeBytes file) false _ _ (vertices file) ends (λ u. true) (λ u. u ≡ entry) 0 (λ u. rw (one-if (eqb u entry)) (eqb-iff u entry)) (λ w m u. refl) v)
+
+  -- v is reached exactly if some path from the entry arrives at it
+  pub reached-exact : (v : ℕ) → T (isReached file v) ↔ ((before : List ℕ) × ArrivesBy file before v)
+  reached-exact v = (
+    λ h. ⊎-elim (λ e. ([], e)) (λ f. let l = list-iff (edgeBytes file) (λ u. true) (f .place) v .0 (f .way) in (f .place ∷ l .inner, (f .met, l .joined))) (from-entry v .0 h),
+    λ p. from-entry v .1 (go (p .0) (p .1)),
+  )
+    where
+      go : (before : List ℕ) → ArrivesBy file before v → (v ≡ entry) ⊎ Finds (edgeBytes file) false (λ u. true) (λ u. u ≡ entry) v
+      go [] e = inl e
+      go (u ∷ us) p = inr (record { place = u; way = list-iff (edgeBytes file) (λ u. true) u v .1 (record { inner = us; joined = p .1; pass = all-pass us }); met = p .0 })
+
+  reached-next : (v w : ℕ) → T (isReached file v) → Edge (edgeBytes file) v w → T (isReached file w)
+  reached-next v w h e = from-entry w .1 (inr (⊎-elim
+      (λ x. record { place = v; way = last e; met = x })
+      (λ f. record { place = f .place; way = extend (f .way) tt e; met = f .met })
+      (from-entry v .0 h)))
+
+-- ---- paths in a row
+
+joined-append : (es : List ℕ) (u : ℕ) (us : List ℕ) (w : ℕ) (ws : List ℕ) (v : ℕ) → Joined es u us w → Joined es w ws v → Joined es u (us ++ w ∷ ws) v
+joined-append es u [] w ws v e t = (e, t)
+joined-append es u (x ∷ us) w ws v e t = (e .0, joined-append es x us w ws v (e .1) t)
+
+arrives-append : (file before : List ℕ) (w : ℕ) (ws : List ℕ) (v : ℕ) → ArrivesBy file before w → Joined (edgeBytes file) w ws v → ArrivesBy file (before ++ w ∷ ws) v
+arrives-append file [] w ws v e t = (e, t)
+arrives-append file (u ∷ us) w ws v p t = (p .0, joined-append (edgeBytes file) u us w ws v (p .1) t)
+
+-- ---- the last vertex of a kind
+
+module _ (q : ℕ → Bool) (version : ℕ → ℕ) where
+  -- none of the kind, and one with none after it
+  pub last-none : (us : List ℕ) → AllPass (λ u. not (q u)) us → lastVersion q version us ≡ none
+  last-none [] h = refl
+  last-none (u ∷ us) h = rw (last-none us (h .1), is-false (q u) (h .0))
+
+  last-some : (before : List ℕ) (w : ℕ) (us : List ℕ) → T (q w) → AllPass (λ u. not (q u)) us → lastVersion q version (before ++ w ∷ us) ≡ some (version w)
+  last-some [] w us m h = rw (last-none us h, is-true (q w) m)
+  last-some (u ∷ before) w us m h = rw (last-some before w us m h)
+
+  module _ (file : List ℕ) (ends : Ends (edgeBytes file) (vertices file)) where
+    -- a reached vertex of the kind that has version k and leads to v past no other
+    abbrev pub Carried : ℕ → ℕ → Type 0
+    Carried v k = Finds (edgeBytes file) false (λ x. not (q x)) (λ w. (T (isReached file w) × T (q w)) × (version w ≡ k)) v
+
+    -- the last vertex of the kind, where the vertices from u on lead to v: such a one, or none
+    abbrev pub Last : ℕ → ℕ → Option ℕ → Type 0
+    Last u v none = T (not (q u)) × Path (edgeBytes file) (λ x. not (q x)) u v
+    Last u v (some k) = Carried v k
+
+    here : (u v : ℕ) → T (isReached file u) → Path (edgeBytes file) (λ x. not (q x)) u v → Last u v (cond (q u) (some (version u)) none)
+    here u v h t = ⊎-elim
+        (λ m. rw (is-true (q u) m) (record { place = u; way = t; met = ((h, m), refl) }))
+        (λ m. rw (is-false (q u) m) (m, t))
+        (either (q u))
+
+    pub last-of : (u : ℕ) (us : List ℕ) (v : ℕ) → T (isReached file u) → Joined (edgeBytes file) u us v → Last u v (lastVersion q version (u ∷ us))
+    last-of u [] v h e = here u v h (last e)
+    last-of u (x ∷ us) v h e = step (lastVersion q version (x ∷ us)) (last-of x us v (reached-next file ends u x h (e .0)) (e .1))
+      where
+        step : (o : Option ℕ) → Last x v o → Last u v (orLast (cond (q u) (some (version u)) none) o)
+        step none l = here u v h (next (e .0) (l .0) (l .1))
+        step (some k) f = f
+
+    -- some path from the entry to v has version k at its last vertex of the kind
+    pub last-exact : (v k : ℕ) → ((before : List ℕ) × ArrivesBy file before v × (lastVersion q version before ≡ some k)) ↔ Carried v k
+    last-exact v k = (
+      λ p. go (p .0) (p .1) (p .2),
+      λ f. let b = reached-exact file ends (f .place) .0 (f .met .0 .0) in
+          let l = list-iff (edgeBytes file) _ _ v .0 (f .way) in (
+            b .0 ++ f .place ∷ l .inner,
+            arrives-append file (b .0) (f .place) (l .inner) v (b .1) (l .joined),
+            last-some (b .0) (f .place) (l .inner) (f .met .0 .1) (l .pass) ∙ ap some (f .met .1),
+          ),
+    )
+      where
+        go : (before : List ℕ) → ArrivesBy file before v → lastVersion q version before ≡ some k → Carried v k
+        go [] p e = absurd (Option·none-ne-some k e)
+        go (u ∷ us) p e = subst (Last u v) e (last-of u us v (reached-exact file ends u .1 ([], p .0)) (p .1))

@@ -1,0 +1,72 @@
+-- Kept sets: the computed sets hold what the rule by paths says.
+-- Assumes nothing.
+use mathlib.Core.Path.{_≡_, refl}
+use mathlib.Core.Bool.{Bool, true, false, not, _&&_, cond}
+use mathlib.Core.List.{List}
+use mathlib.Core.Logic.{_↔_, Iff·rfl}
+use Prim.Native.Nat.{ℕ, _^_, _<_}
+use lib.Bits.{bitOr, or-lt, or-zero-r}
+use lib.Dec.{T}
+use lib.ListN.{length, getD}
+use lib.Pow.{pow-pos}
+use Rattle.flow.proofs.Tests.{member-or}
+use Rattle.flow.proofs.Exact.{solution-length}
+use Rattle.routine.specs.Layout.{vertices}
+use Rattle.sets.specs.Sets.{has}
+use Rattle.labels.specs.declared.Use.{Use}
+use Rattle.labels.specs.declared.Use.the-variants.{N, D, R, W}
+use Rattle.labels.specs.Events.{width, version, isLabel}
+use Rattle.labels.specs.Kept.{isNOrR, passesKept, KeepsFor, InKept, leavingSet, keptSets, keptOf}
+use Rattle.labels.specs.Proper.{Proper}
+use Rattle.labels.specs.Uses.{useOf, isN, isKept, Leaves}
+use Rattle.labels.proofs.Rules.Tests.{member-cond, member-single}
+use Rattle.labels.proofs.Rules.Versions.{single-fits, versions-exact, versions-fit}
+
+-- one set for each vertex
+pub kept-length : (file : List ℕ) (a : ℕ) → length (keptSets file a) ≡ vertices file
+unfolding keptSets
+kept-length file a = solution-length _ _ _ _ (vertices file)
+
+module _ (file : List ℕ) (a : ℕ) (proper : Proper file a) (v : ℕ) where
+  -- the leaving version if there is one
+  leaving-exact : (k : ℕ) → T (has (leavingSet file a v) k) ↔ Leaves file a v k
+  unfolding leavingSet
+  leaving-exact k =
+      let f = member-cond (isKept file a v) (2 ^ version file a v) k Iff·rfl (member-single (version file a v) k) in
+      (λ h. let l = f .0 h in record { kept = l .0; with-version = l .1 }, λ l. f .1 (l .kept, l .with-version))
+
+  -- what an N or R label keeps for later ones
+  keeps-exact : (k : ℕ) → T (has (cond (isNOrR (useOf file a v)) (getD (keptSets file a) v 0) 0) k) ↔ KeepsFor file a v k
+  unfolding keptSets leavingSet
+  keeps-exact k =
+      let f = member-cond (isNOrR (useOf file a v)) (getD (keptSets file a) v 0) k Iff·rfl (versions-exact file a proper true _ _ (isKept file a) (passesKept file a) (λ u. refl) (λ u. refl) _ (λ u. Iff·rfl) v k) in (
+        λ h. let o = f .0 h in record { place = o .1 .place; here = o .0; path = o .1 .way; leaves = record { kept = o .1 .met .0; with-version = o .1 .met .1 } },
+        λ o. f .1 (o .here, record { place = o .place; way = o .path; met = (o .leaves .kept, o .leaves .with-version) }),
+      )
+
+  -- kept set: the leaving version; also that of each label that some path arrives at while every label from here up to it is N or R
+  pub kept-exact : (k : ℕ) → T (has (keptOf file a v) k) ↔ InKept file a v k
+  unfolding keptOf
+  kept-exact k = member-or (leavingSet file a v) _ k (leaving-exact k) (keeps-exact k)
+
+  -- a kept set is a 16-bit mask
+  pub kept-fits : keptOf file a v < 2 ^ width
+  unfolding keptOf leavingSet keptSets
+  kept-fits = or-lt width _ _ (single-fits file a proper (isKept file a v) v) (go (isNOrR (useOf file a v)))
+    where
+      go : (b : Bool) → cond b (getD (keptSets file a) v 0) 0 < 2 ^ width
+      go true = versions-fit file a proper true _ _ (isKept file a) (passesKept file a) (λ u. refl) v
+      go false = pow-pos width
+
+-- the kept set of a D or W label is its own version alone
+pub kept-alone : (file : List ℕ) (a v : ℕ) {u : Use} → useOf file a v ≡ u → T (not (isNOrR u)) → T (isLabel file a v) → keptOf file a v ≡ 2 ^ version file a v
+unfolding keptOf leavingSet isKept
+kept-alone file a v e h l = go (isLabel file a v) (useOf file a v) l (rw (← e) at h)
+  where
+    go : (b : Bool) (u : Use) → T b → T (not (isNOrR u))
+        → bitOr (cond (b && not (isN u)) (2 ^ version file a v) 0) (cond (isNOrR u) (getD (keptSets file a) v 0) 0) ≡ 2 ^ version file a v
+    go true D l h = or-zero-r (2 ^ version file a v)
+    go true W l h = or-zero-r (2 ^ version file a v)
+    go true N l h = absurd h
+    go true R l h = absurd h
+    go false u l h = absurd l

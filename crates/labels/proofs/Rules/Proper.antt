@@ -1,0 +1,55 @@
+-- A routine that was read has what the label rules need.
+-- Assumes nothing.
+use mathlib.Core.Path.{_≡_, sym, ap, _∙_}
+use mathlib.Core.List.{List}
+use Prim.Native.Nat.{ℕ, _+_, _*_, _<_}
+use native.Mathlib.Nat.{add-assoc}
+use native.Mathlib.Omega.{arith}
+use lib.ListN.{drop, length-drop}
+use lib.Seq.{getD-drop}
+use Rattle.words.specs.Words.{word}
+use Rattle.flow.specs.Paths.{edgeCount, edgeFrom, edgeTo}
+use Rattle.flow.specs.Solver.{Ends}
+use Rattle.routine.specs.Edges.{edgeOf}
+use Rattle.routine.specs.Layout.{arrays, vertices, edges, edgesAt}
+use Rattle.routine.specs.Reader.{Laid, WellFormed}
+use Rattle.routine.proofs.WellFormed.{Within, array-limits, edge-limits}
+use Rattle.labels.specs.Events.{edgeBytes}
+use Rattle.labels.specs.Proper.{Proper}
+
+word-drop : (n : ℕ) (s : List ℕ) (at : ℕ) → word (drop n s) at ≡ word s (n + at)
+unfolding word
+word-drop n s at = simp (getD-drop, add-assoc)
+
+-- ---- the edges of the file
+
+pub edge-count : (file : List ℕ) → Laid file → edgeCount (edgeBytes file) ≡ edges file
+edge-count file l = rw length-drop (omega (arith, l .ends))
+
+pub edge-from : (file : List ℕ) (i : ℕ) → edgeFrom (edgeBytes file) i ≡ edgeOf file i .from
+edge-from file i = word-drop (edgesAt file) file (4 * i)
+
+pub edge-to : (file : List ℕ) (i : ℕ) → edgeTo (edgeBytes file) i ≡ edgeOf file i .to
+edge-to file i = word-drop (edgesAt file) file (4 * i + 2) ∙ ap (word file) (omega arith)
+
+-- ---- what was read
+
+module _ (file : List ℕ) (w : WellFormed file) where
+  limits : (i : ℕ) → i < edgeCount (edgeBytes file) → Within (edgeOf file i) (vertices file)
+  limits i h = edge-limits w (omega (arith, edge-count file (w .laid)))
+
+  -- its edges are among its vertices
+  pub ends-within : Ends (edgeBytes file) (vertices file)
+  ends-within = record {
+    froms = λ i h. omega (arith, edge-from file i, limits i h);
+    tos = λ i h. omega (arith, edge-to file i, limits i h);
+  }
+
+  -- each of its arrays has what the rules need
+  pub proper : (a : ℕ) → a < arrays file → Proper file a
+  proper a in-a = record {
+    ends = ends-within;
+    none-enters = λ v e. limits (e .place) (e .listed) .to-other (sym (edge-to file (e .place)) ∙ e .enters);
+    none-leaves = λ v e. limits (e .place) (e .listed) .from-other (sym (edge-from file (e .place)) ∙ e .leaves);
+    initial-fits = omega (arith, array-limits w in-a);
+  }

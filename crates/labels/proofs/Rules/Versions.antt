@@ -1,0 +1,53 @@
+-- Version sets that the solver makes: what they hold, and that they fit the width.
+-- Assumes nothing.
+use mathlib.Core.Path.{_≡_, refl, subst}
+use mathlib.Core.Bool.{Bool, true, false, not, cond}
+use mathlib.Core.List.{List}
+use mathlib.Core.Logic.{_↔_}
+use Prim.Native.Nat.{ℕ, _^_, _<_}
+use lib.Dec.{T}
+use lib.ListN.{getD}
+use lib.Pow.{pow-pos, pow-lt}
+use Rattle.flow.specs.Solver.{solution}
+use Rattle.flow.proofs.Exact.{solution-fits}
+use Rattle.routine.specs.Layout.{vertices}
+use Rattle.sets.specs.Sets.{has}
+use Rattle.sets.proofs.Laws.{has-zero}
+use Rattle.labels.specs.Events.{width, everyVersion, edgeBytes, version}
+use Rattle.labels.specs.Proper.{Proper}
+use Rattle.labels.proofs.Rules.Events.{version-fits}
+use Rattle.labels.proofs.Rules.Tables.{table-all, Finds, solved}
+use Rattle.labels.proofs.Rules.Tests.{member-cond, member-single, has-full}
+use Rattle.words.specs.Tables.{table}
+
+-- nothing where a test passes, else every version
+pub all-but : (b : Bool) → cond b 0 everyVersion ≡ cond (not b) everyVersion 0
+all-but true = refl
+all-but false = refl
+
+-- every version where a test passes, else nothing
+all-if : (k : ℕ) → k < width → (b : Bool) → has (cond b everyVersion 0) k ≡ b
+all-if k h true = has-full width k h
+all-if k h false = has-zero k
+
+abbrev sets : List ℕ → Bool → (ℕ → ℕ) → (ℕ → ℕ) → List ℕ
+sets file along gives passes = solution (edgeBytes file) along (table gives (vertices file)) (table passes (vertices file)) (vertices file)
+
+module _ (file : List ℕ) (a : ℕ) (proper : Proper file a) where
+  -- a set of one version, or none
+  pub single-fits : (b : Bool) (v : ℕ) → cond b (2 ^ version file a v) 0 < 2 ^ width
+  single-fits true v = pow-lt (version-fits file a proper v)
+  single-fits false v = pow-pos width
+
+  -- where the vertices that pass `test` give their versions, and those that pass `through` pass every version
+  module _ (along : Bool) (gives passes : ℕ → ℕ) (test through : ℕ → Bool) (given : (u : ℕ) → gives u ≡ cond (test u) (2 ^ version file a u) 0) where
+    pub versions-exact : ((u : ℕ) → passes u ≡ cond (through u) everyVersion 0) → (Test : ℕ → Type 0) → ((u : ℕ) → T (test u) ↔ Test u) → (v k : ℕ)
+        → T (has (getD (sets file along gives passes) v 0) k) ↔ Finds (edgeBytes file) along through (λ u. Test u × (version file a u ≡ k)) v
+    versions-exact passed Test tests v k =
+        solved (edgeBytes file) along gives passes (vertices file) (proper .ends) through _ k
+        (λ u. rw (given u) (member-cond (test u) _ k (tests u) (member-single (version file a u) k)))
+        (λ w m u. rw (passed u) (all-if k (subst (λ (j : ℕ). j < width) (m .1) (version-fits file a proper w)) (through u))) v
+
+    pub versions-fit : (v : ℕ) → getD (sets file along gives passes) v 0 < 2 ^ width
+    versions-fit = solution-fits _ _ _ _ width (vertices file)
+        (table-all (λ m. m < 2 ^ width) gives (vertices file) (pow-pos width) (λ u. rw (given u) (single-fits (test u) u)))

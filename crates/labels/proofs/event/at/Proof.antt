@@ -1,0 +1,44 @@
+-- `event::at` meets its contract: the test tells the labels of the entry and of the exit.
+-- Assumes nothing.
+use mathlib.Core.Path.{_≡_, ap₂}
+use mathlib.Core.Bool.{not, _&&_, _||_, cond}
+use mathlib.Core.List.{List}
+use Prim.Native.Nat.{ℕ, _-_}
+use borrow.Author.Needs.{needs}
+use lib.Dec.{eqb}
+use Rattle.labels.specs.Events.{event}
+use Rattle.labels.specs.Routines.{OfArray}
+use Rattle.routine.specs.Actions.{action}
+use Rattle.routine.specs.declared.action.Action.the-variants.{Remap}
+use Rattle.routine.specs.declared.array.ArrayRecord.{ArrayRecord}
+use Rattle.routine.specs.declared.header.Header.{Header}
+use Rattle.labels.proofs.event.at.Statement.{statement}
+use Rattle.labels.proofs.event.at.Tie as tie
+
+-- the event, by the header and the array's record
+told : {file : List ℕ} {h : Header} {a : ℕ} {r : ArrayRecord} (v : ℕ) → OfArray file h a r
+    → cond (eqb v 0 || (eqb v (h .vertices - 1) && not (eqb (r .kind) 0))) (Remap (r .initial)) (action file v a) ≡ event file a v
+unfolding event
+told {file} {h} {a} v is =
+    ap₂
+    (λ (n : ℕ) (r : ArrayRecord). cond (eqb v 0 || (eqb v (n - 1) && not (eqb (r .kind) 0))) (Remap (r .initial)) (action file v a))
+    (is .read .heads .vertices-are) (is .recorded)
+
+sub-label : tie.Need-sub-label
+sub-label c = search needs
+
+returns : tie.Need-returns
+returns c =
+    let s = c .before .before .before .before in
+    rw (← told (s .args .v) (s .pre .0), c .if1 .taken)
+
+at-requires : tie.Need-at-requires
+at-requires c κs = search needs
+
+returns-2 : tie.Need-returns-2
+returns-2 c =
+    let s = c .before .before .before .before .before in
+    rw (← told (s .args .v) (s .pre .0), c .before .if1 .left) (c .at .ensures)
+
+pub at-spec : {M : Type 1} → statement M
+at-spec = tie.close (tie.spec sub-label returns at-requires returns-2)

@@ -1,0 +1,105 @@
+-- Document 01, "Labels": what a vertex does with an array once the entry and the exit are labels.
+-- Assumes nothing.
+use mathlib.Core.Bool.{Bool, true, false, not, _&&_, _||_, cond}
+use mathlib.Core.List.{List}
+use Prim.Native.Nat.{ℕ, _-_, _^_}
+use lib.Dec.{eqb}
+use lib.ListN.{drop}
+use Rattle.routine.specs.declared.action.Access.the-variants.{Read, Define, Modify}
+use Rattle.routine.specs.declared.action.Action.{Action}
+use Rattle.routine.specs.declared.action.Action.the-variants.{Nothing, Reference, Remap, Unknown}
+use Rattle.routine.specs.Actions.{action, isRemap}
+use Rattle.routine.specs.Arrays.{arrayOf}
+use Rattle.routine.specs.Layout.{vertices, edgesAt}
+
+-- the width of a version set: the one place where it is a number
+abbrev pub width : ℕ
+width = 16
+
+-- every version
+abbrev pub everyVersion : ℕ
+everyVersion = 2 ^ width - 1
+
+-- the bytes of the edges
+abbrev pub edgeBytes : List ℕ → List ℕ
+edgeBytes file = drop (edgesAt file) file
+
+-- vertex 0 is the entry, the last is the exit
+abbrev pub entry : ℕ
+entry = 0
+
+abbrev pub exit : List ℕ → ℕ
+exit file = vertices file - 1
+
+-- ---- kinds of arrays: 0 local, 1 in, 2 out, 3 inout; the last three are arguments
+
+abbrev pub kind : List ℕ → ℕ → ℕ
+kind file a = arrayOf file a .kind
+
+abbrev pub initial : List ℕ → ℕ → ℕ
+initial file a = arrayOf file a .initial
+
+abbrev pub isArgument : ℕ → Bool
+isArgument kind = not (eqb kind 0)
+
+abbrev pub isIn : ℕ → Bool
+isIn kind = eqb kind 1
+
+abbrev pub isInOrInout : ℕ → Bool
+isInOrInout kind = eqb kind 1 || eqb kind 3
+
+-- ---- events: entry labels every array as a remapping to its initial version; exit labels every argument so
+
+unfoldable pub event : List ℕ → ℕ → ℕ → Action
+unfolding arrayOf action
+event file a v =
+    cond (eqb v entry || (eqb v (exit file) && isArgument (kind file a))) (Remap (initial file a)) (action file v a)
+
+-- a label is a remapping; a remap action is a label even if that version already reaches it
+abbrev pub isLabel : List ℕ → ℕ → ℕ → Bool
+isLabel file a v = isRemap (event file a v)
+
+-- a label's version
+abbrev pub versionOf : Action → ℕ
+versionOf Nothing = 0
+versionOf (Reference r) = 0
+versionOf (Remap k) = k
+versionOf Unknown = 0
+
+unfoldable pub version : List ℕ → ℕ → ℕ → ℕ
+unfolding event
+version file a v = versionOf (event file a v)
+
+-- ---- tests of events
+
+abbrev pub isRead : Action → Bool
+isRead Nothing = false
+isRead (Reference Read) = true
+isRead (Reference Define) = false
+isRead (Reference Modify) = false
+isRead (Remap k) = false
+isRead Unknown = false
+
+abbrev pub isDefine : Action → Bool
+isDefine Nothing = false
+isDefine (Reference Read) = false
+isDefine (Reference Define) = true
+isDefine (Reference Modify) = false
+isDefine (Remap k) = false
+isDefine Unknown = false
+
+abbrev pub isModify : Action → Bool
+isModify Nothing = false
+isModify (Reference Read) = false
+isModify (Reference Define) = false
+isModify (Reference Modify) = true
+isModify (Remap k) = false
+isModify Unknown = false
+
+-- a define or modify
+abbrev pub isWrite : Action → Bool
+isWrite x = isDefine x || isModify x
+
+-- a read, a modify or a label
+abbrev pub needsValue : Action → Bool
+needsValue x = isRead x || isModify x || isRemap x

@@ -1,0 +1,57 @@
+-- Document 01, "Labels": kept sets.
+-- Assumes nothing.
+use mathlib.Core.Bool.{Bool, true, false, not, _||_, cond}
+use mathlib.Core.List.{List}
+use mathlib.Core.Logic.{_⊎_}
+use Prim.Native.Nat.{ℕ, _^_}
+use lib.Bits.{bitOr}
+use lib.Dec.{T}
+use lib.ListN.{getD}
+use Rattle.flow.specs.Paths.{Path}
+use Rattle.flow.specs.Solver.{solution}
+use Rattle.routine.specs.Layout.{vertices}
+use Rattle.labels.specs.declared.Use.{Use}
+use Rattle.labels.specs.declared.Use.the-variants.{N, D, R, W}
+use Rattle.labels.specs.Events.{everyVersion, edgeBytes, event, isLabel, version}
+use Rattle.labels.specs.Uses.{useOf, isKept, Leaves}
+use Rattle.words.specs.Tables.{table}
+
+abbrev pub isNOrR : Use → Bool
+isNOrR N = true
+isNOrR D = false
+isNOrR R = true
+isNOrR W = false
+
+-- no label, or one that is N or R
+unfoldable pub passesKept : List ℕ → ℕ → ℕ → Bool
+unfolding event useOf
+passesKept file a v = not (isLabel file a v) || isNOrR (useOf file a v)
+
+-- ---- by paths
+
+-- some path from v arrives at a label that leaves with k while every label from v up to it, v included and it excluded, is N or R
+pub record KeepsFor (file : List ℕ) (a v k : ℕ) : Type 0 where
+  pub place : ℕ
+  pub here : T (isNOrR (useOf file a v))
+  pub path : Path (edgeBytes file) (passesKept file a) v place
+  pub leaves : Leaves file a place k
+
+-- k is in the kept set of v: the leaving version if there is one; also each that v keeps for a later label
+abbrev pub InKept : List ℕ → ℕ → ℕ → ℕ → Type 0
+InKept file a v k = Leaves file a v k ⊎ KeepsFor file a v k
+
+-- ---- computed
+
+unfoldable pub leavingSet : List ℕ → ℕ → ℕ → ℕ
+unfolding isKept version
+leavingSet file a v = cond (isKept file a v) (2 ^ version file a v) 0
+
+unfoldable pub keptSets : List ℕ → ℕ → List ℕ
+unfolding solution leavingSet passesKept
+keptSets file a =
+    solution (edgeBytes file) true (table (leavingSet file a) (vertices file))
+    (table (λ v. cond (passesKept file a v) everyVersion 0) (vertices file)) (vertices file)
+
+unfoldable pub keptOf : List ℕ → ℕ → ℕ → ℕ
+unfolding leavingSet keptSets useOf
+keptOf file a v = bitOr (leavingSet file a v) (cond (isNOrR (useOf file a v)) (getD (keptSets file a) v 0) 0)

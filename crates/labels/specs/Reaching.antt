@@ -1,0 +1,76 @@
+-- Document 01, "Labels": reaching sets.
+-- Assumes nothing.
+use mathlib.Core.Path.{_≡_}
+use mathlib.Core.Bool.{Bool, false, _&&_, _||_, cond}
+use mathlib.Core.List.{List, [], _∷_}
+use mathlib.Core.Option.{Option, none, some}
+use Prim.Native.Nat.{ℕ, _^_}
+use lib.Dec.{eqb}
+use lib.ListN.{getD}
+use Rattle.flow.specs.Paths.{Joined}
+use Rattle.flow.specs.Solver.{solution}
+use Rattle.routine.specs.Layout.{vertices}
+use Rattle.sets.specs.Sets.{has}
+use Rattle.labels.specs.Events.{everyVersion, edgeBytes, entry, kind, initial, isInOrInout, version}
+use Rattle.labels.specs.Uses.{isKept}
+use Rattle.words.specs.Tables.{table}
+
+-- ---- by paths
+
+-- a path from the entry to v, as the list of the vertices before v
+abbrev pub ArrivesBy : List ℕ → List ℕ → ℕ → Type 0
+ArrivesBy file [] v = v ≡ entry
+ArrivesBy file (u ∷ us) v = (u ≡ entry) × Joined (edgeBytes file) u us v
+
+-- the version of the last vertex of a list that passes a test
+abbrev pub orLast : Option ℕ → Option ℕ → Option ℕ
+orLast earlier none = earlier
+orLast earlier (some k) = some k
+
+abbrev pub lastVersion : (ℕ → Bool) → (ℕ → ℕ) → List ℕ → Option ℕ
+lastVersion test version [] = none
+lastVersion test version (u ∷ us) = orLast (cond (test u) (some (version u)) none) (lastVersion test version us)
+
+-- where no kept label lies before, in and inout bring the initial version
+abbrev pub orInitial : List ℕ → ℕ → Option ℕ → Option ℕ
+orInitial file a none = cond (isInOrInout (kind file a)) (some (initial file a)) none
+orInitial file a (some k) = some k
+
+-- k is in the reaching set of v: some path from the entry to v has k as the leaving version of its last kept label before v;
+-- also if no kept label lies before v there, k is the initial version and the array is in or inout
+pub record Reaches (file : List ℕ) (a v k : ℕ) : Type 0 where
+  pub before : List ℕ
+  pub path : ArrivesBy file before v
+  pub brings : orInitial file a (lastVersion (isKept file a) (version file a) before) ≡ some k
+
+-- ---- computed: first which vertices some path from the entry reaches
+
+unfoldable pub reachedSets : List ℕ → List ℕ
+unfolding solution
+reachedSets file =
+    solution (edgeBytes file) false (table (λ v. cond (eqb v entry) 1 0) (vertices file)) (table (λ v. 1) (vertices file)) (vertices file)
+
+unfoldable pub isReached : List ℕ → ℕ → Bool
+unfolding reachedSets has
+isReached file v = eqb v entry || has (getD (reachedSets file) v 0) 0
+
+-- a kept label gives its version; so does the entry of in and inout, kept or not
+unfoldable pub reachGives : List ℕ → ℕ → ℕ → ℕ
+unfolding isReached isKept version
+reachGives file a v =
+    cond (isReached file v && (isKept file a v || (eqb v entry && isInOrInout (kind file a)))) (2 ^ version file a v) 0
+
+unfoldable pub reachPasses : List ℕ → ℕ → ℕ → ℕ
+unfolding isKept
+reachPasses file a v = cond (isKept file a v) 0 everyVersion
+
+unfoldable pub reachSets : List ℕ → ℕ → List ℕ
+unfolding solution reachGives reachPasses
+reachSets file a =
+    solution (edgeBytes file) false (table (reachGives file a) (vertices file)) (table (reachPasses file a) (vertices file)) (vertices file)
+
+-- the entry's own set comes from the path of no edge
+unfoldable pub reachingOf : List ℕ → ℕ → ℕ → ℕ
+unfolding reachSets
+reachingOf file a v =
+    cond (eqb v entry) (cond (isInOrInout (kind file a)) (2 ^ initial file a) 0) (getD (reachSets file a) v 0)

@@ -1,0 +1,19 @@
+-- What the passes are handed: a routine that was read, its header, an array and its record.
+-- Assumes nothing.
+use mathlib.Core.Path.{_≡_}
+use mathlib.Core.List.{List}
+use Prim.Native.Nat.{ℕ, _<_}
+use Rattle.routine.specs.Arrays.{arrayOf}
+use Rattle.routine.specs.Layout.{arrays}
+use Rattle.routine.specs.Reader.{Heads, WellFormed}
+use Rattle.routine.specs.declared.array.ArrayRecord.{ArrayRecord}
+use Rattle.routine.specs.declared.header.Header.{Header}
+
+pub record ReadAs (file : List ℕ) (h : Header) : Type 0 where
+  pub well : WellFormed file
+  pub heads : Heads h file
+
+pub record OfArray (file : List ℕ) (h : Header) (a : ℕ) (r : ArrayRecord) : Type 0 where
+  pub read : ReadAs file h
+  pub within : a < arrays file
+  pub recorded : r ≡ arrayOf file a

@@ -1,0 +1,121 @@
+-- Document 01, "Labels": segments; use, one letter; leaving version; kept labels.
+-- Assumes nothing.
+use mathlib.Core.Path.{_≡_}
+use mathlib.Core.Bool.{Bool, true, false, not, _&&_, cond}
+use mathlib.Core.List.{List}
+use Prim.Native.Nat.{ℕ}
+use lib.Dec.{T, eqb}
+use lib.ListN.{getD}
+use Rattle.flow.specs.Paths.{Path}
+use Rattle.flow.specs.Solver.{solution}
+use Rattle.routine.specs.Actions.{isReference}
+use Rattle.routine.specs.Layout.{vertices}
+use Rattle.routine.specs.declared.action.Access.the-variants.{Read, Define, Modify}
+use Rattle.routine.specs.declared.action.Action.{Action}
+use Rattle.routine.specs.declared.action.Action.the-variants.{Nothing, Reference, Remap, Unknown}
+use Rattle.sets.specs.Sets.{has}
+use Rattle.labels.specs.declared.Use.{Use}
+use Rattle.labels.specs.declared.Use.the-variants.{N, D, R, W}
+use Rattle.labels.specs.Events.{edgeBytes, exit, kind, isIn, event, isLabel, version, isRead, isDefine, isWrite, needsValue}
+use Rattle.words.specs.Tables.{table}
+
+-- ---- segments
+
+-- a segment: a path from a label at v that goes no further than the array's next label
+abbrev pub Segment : List ℕ → ℕ → ℕ → ℕ → Type 0
+Segment file a v w = Path (edgeBytes file) (λ u. not (isLabel file a u)) v w
+
+-- a segment with no define before its end
+abbrev pub UndefinedSegment : List ℕ → ℕ → ℕ → ℕ → Type 0
+UndefinedSegment file a v w = Path (edgeBytes file) (λ u. not (isLabel file a u) && not (isDefine (event file a u))) v w
+
+-- some segment from v meets an event that passes the test
+pub record Meets (file : List ℕ) (a : ℕ) (test : Action → Bool) (v : ℕ) : Type 0 where
+  pub place : ℕ
+  pub segment : Segment file a v place
+  pub met : T (test (event file a place))
+
+-- some segment from v meets such an event without a define before it
+pub record MeetsUndefined (file : List ℕ) (a : ℕ) (test : Action → Bool) (v : ℕ) : Type 0 where
+  pub place : ℕ
+  pub segment : UndefinedSegment file a v place
+  pub met : T (test (event file a place))
+
+-- ---- use, one letter, by segments
+
+-- N: no segment meets a reference
+abbrev pub Unused : List ℕ → ℕ → ℕ → Type 0
+Unused file a v = Meets file a isReference v → ⊥
+
+-- D: not N, and no segment meets a read, a modify or the next label without a define before it
+abbrev pub Defined : List ℕ → ℕ → ℕ → Type 0
+Defined file a v = (Unused file a v → ⊥) × (MeetsUndefined file a needsValue v → ⊥)
+
+-- R: some segment meets a read, none a define or modify
+abbrev pub OnlyRead : List ℕ → ℕ → ℕ → Type 0
+OnlyRead file a v = Meets file a isRead v × (Meets file a isWrite v → ⊥)
+
+-- W: all else
+abbrev pub Rule : List ℕ → ℕ → ℕ → Use → Type 0
+Rule file a v N = Unused file a v
+Rule file a v D = Defined file a v
+Rule file a v R = OnlyRead file a v
+Rule file a v W = (Unused file a v → ⊥) × (Defined file a v → ⊥) × (OnlyRead file a v → ⊥)
+
+-- at the exit: R for in, W for out and inout
+abbrev pub exitUse : ℕ → Use
+exitUse kind = cond (isIn kind) R W
+
+-- the letter of the label at v
+pub record IsUse (file : List ℕ) (a v : ℕ) (u : Use) : Type 0 where
+  pub at-exit : v ≡ exit file → u ≡ exitUse (kind file a)
+  pub elsewhere : (v ≡ exit file → ⊥) → Rule file a v u
+
+-- ---- use, computed: bit 0 a reference met; bit 1 a read, a modify or a label met with no define before; bit 2 a read; bit 3 a write
+
+abbrev pub useGives : Action → ℕ
+useGives Nothing = 0b0000
+useGives (Reference Read) = 0b0111
+useGives (Reference Define) = 0b1001
+useGives (Reference Modify) = 0b1011
+useGives (Remap k) = 0b0010
+useGives Unknown = 0b0000
+
+-- a label passes nothing, a define all but bit 1
+abbrev pub usePasses : Action → ℕ
+usePasses Nothing = 0b1111
+usePasses (Reference Read) = 0b1111
+usePasses (Reference Define) = 0b1101
+usePasses (Reference Modify) = 0b1111
+usePasses (Remap k) = 0b0000
+usePasses Unknown = 0b1111
+
+unfoldable pub useSets : List ℕ → ℕ → List ℕ
+unfolding solution event
+useSets file a =
+    solution (edgeBytes file) true (table (λ v. useGives (event file a v)) (vertices file))
+    (table (λ v. usePasses (event file a v)) (vertices file)) (vertices file)
+
+abbrev pub letterOf : ℕ → Use
+letterOf m = cond (not (has m 0)) N (cond (not (has m 1)) D (cond (has m 2 && not (has m 3)) R W))
+
+unfoldable pub useOf : List ℕ → ℕ → ℕ → Use
+unfolding useSets has
+useOf file a v = cond (eqb v (exit file)) (exitUse (kind file a)) (letterOf (getD (useSets file a) v 0))
+
+-- ---- leaving: the label's version, or none for N; a label is kept if it is not N
+
+abbrev pub isN : Use → Bool
+isN N = true
+isN D = false
+isN R = false
+isN W = false
+
+unfoldable pub isKept : List ℕ → ℕ → ℕ → Bool
+unfolding event useOf
+isKept file a v = isLabel file a v && not (isN (useOf file a v))
+
+-- v is a label that leaves with version k
+pub record Leaves (file : List ℕ) (a v k : ℕ) : Type 0 where
+  pub kept : T (isKept file a v)
+  pub with-version : version file a v ≡ k

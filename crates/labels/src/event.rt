@@ -1,0 +1,113 @@
+// Events: what a vertex does with an array once entry and exit are labels (document 01, "Labels").
+use crate::Use;
+use routine::action;
+use routine::action::Action;
+use routine::array::ArrayRecord;
+use routine::header::Header;
+ghost use mathlib.Core.Path.{_≡_};
+ghost use mathlib.Core.Bool.{cond, not, _&&_};
+ghost use Prim.Native.Nat.{_<_, _^_};
+ghost use Rattle.labels.specs.Events.{event, versionOf, everyVersion, isInOrInout};
+ghost use Rattle.labels.specs.Routines.{OfArray};
+ghost use Rattle.labels.specs.Uses.{isN};
+ghost use Rattle.routine.specs.Actions.{isReference, isRemap};
+ghost use Rattle.routine.specs.Layout.{vertices};
+
+// Every version.
+const EVERY: u16 = 0xffff;
+
+// What vertex v does with array a, whose record is r.
+pub fn at(file: &[u8], h: Header, r: ArrayRecord, a: usize, v: usize) -> Action
+    requires { ⌜ OfArray (now file) h a r ⌝ }
+    requires { ⌜ v < vertices (now file) ⌝ }
+    ensures { λ x. ⌜ x ≡ event (now (file .entry)) a v ⌝ }
+{
+    let label = (v == 0) | ((v == h.vertices - 1) & (r.kind != 0));
+    if label {
+        return Action::Remap(r.initial);
+    }
+    action::at(file, h, v, a)
+}
+
+pub fn is_reference(x: Action) -> bool
+    ensures { λ r. ⌜ r ≡ isReference x ⌝ }
+{
+    match x {
+        Action::Reference(_) => true,
+        Action::Nothing => false,
+        Action::Remap(_) => false,
+        Action::Unknown => false,
+    }
+}
+
+pub fn is_label(x: Action) -> bool
+    ensures { λ r. ⌜ r ≡ isRemap x ⌝ }
+{
+    match x {
+        Action::Remap(_) => true,
+        Action::Nothing => false,
+        Action::Reference(_) => false,
+        Action::Unknown => false,
+    }
+}
+
+fn is_n(u: Use) -> bool
+    ensures { λ r. ⌜ r ≡ isN u ⌝ }
+{
+    match u {
+        Use::N => true,
+        Use::D => false,
+        Use::R => false,
+        Use::W => false,
+    }
+}
+
+// Whether an event of this letter is a kept label.
+pub fn is_kept(x: Action, u: Use) -> bool
+    ensures { λ r. ⌜ r ≡ (isRemap x && not (isN u)) ⌝ }
+{
+    is_label(x) & !is_n(u)
+}
+
+// A label's version.
+pub fn version_of(x: Action) -> u8
+    ensures { λ r. ⌜ r ≡ versionOf x ⌝ }
+{
+    match x {
+        Action::Remap(k) => k,
+        Action::Nothing => 0,
+        Action::Reference(_) => 0,
+        Action::Unknown => 0,
+    }
+}
+
+// The set, or the empty set.
+pub fn set_if(given: bool, set: u16) -> u16
+    ensures { λ r. ⌜ r ≡ cond given set 0 ⌝ }
+{
+    if given {
+        return set;
+    }
+    0
+}
+
+// The label's version as a set, or the empty set.
+pub fn version_set(given: bool, x: Action) -> u16
+    requires { ⌜ versionOf x < 16 ⌝ }
+    ensures { λ r. ⌜ r ≡ cond given (2 ^ versionOf x) 0 ⌝ }
+{
+    set_if(given, sets::single(version_of(x)))
+}
+
+// Every version, or none.
+pub fn every_if(pass: bool) -> u16
+    ensures { λ r. ⌜ r ≡ cond pass everyVersion 0 ⌝ }
+{
+    set_if(pass, EVERY)
+}
+
+pub fn is_in_or_inout(r: ArrayRecord) -> bool
+    ensures { λ b. ⌜ b ≡ isInOrInout (r .kind) ⌝ }
+{
+    (r.kind == 1) | (r.kind == 3)
+}

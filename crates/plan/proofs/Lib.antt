@@ -1,0 +1,4 @@
+pub mod Cells
+pub mod Filling
+pub mod Sizes
+pub mod Ways

@@ -1,0 +1,49 @@
+-- The ways out of the call `plan`: what the checks say, as the definition's answer.
+-- Assumes nothing.
+use mathlib.Core.Path.{_≡_, refl, sym, ap, _∙_}
+use mathlib.Core.List.{List}
+use Prim.Native.Nat.{ℕ, _≤_, _<_}
+use borrow.Author.Tests.{le-leb, lt-leb}
+use Rattle.labels.specs.Checks.{programmerCheck}
+use Rattle.plan.specs.Calls.{planCheck, planOf}
+use Rattle.plan.specs.Plan.{planLength}
+use Rattle.routine.specs.Reader.{readOf}
+use Rattle.routine.specs.Replies.{written, filledBy, deniedOf}
+use Rattle.routine.specs.declared.header.Header.{Header}
+use Rattle.routine.specs.declared.reader.Answer.{Answer}
+use Rattle.routine.specs.declared.reader.Answer.the-variants.{Routine, Refused}
+use Rattle.routine.specs.declared.refusal.Refusal.{Refusal}
+use Rattle.routine.specs.declared.refusal.Refusal.the-variants.{ShortPlanBuffer}
+use Rattle.routine.specs.declared.refusal.Reply.{Reply}
+use Rattle.routine.specs.declared.refusal.Reply.the-variants.{Written, Denied}
+use Rattle.routine.specs.declared.refusal.Verdict.{Verdict}
+use Rattle.routine.specs.declared.refusal.Verdict.the-variants.{Passed, Failed}
+
+module _ (file : List ℕ) (size : ℕ) {v : Verdict} (is : v ≡ programmerCheck file) where
+  -- 20 or 21
+  pub denied-way : {r : Refusal} → v ≡ Failed r → Denied r ≡ written (planCheck file size) (planLength file)
+  unfolding planCheck
+  denied-way e = rw (← is, e)
+
+  -- 1
+  pub short-way : v ≡ Passed → size < planLength file → Denied (ShortPlanBuffer (planLength file)) ≡ written (planCheck file size) (planLength file)
+  unfolding planCheck
+  short-way e h = rw (← is, e, lt-leb (planLength file) size h)
+
+  pub written-way : v ≡ Passed → planLength file ≤ size → Written (planLength file) ≡ written (planCheck file size) (planLength file)
+  unfolding planCheck
+  written-way e h = rw (← is, e, le-leb (planLength file) size h)
+
+-- 10 to 16, or a routine that was read
+module _ (file : List ℕ) (size : ℕ) {a : Answer} (is : a ≡ readOf file) where
+  pub refused-way : {r : Refusal} → a ≡ Refused r → deniedOf a ≡ planOf file size
+  unfolding planOf
+  refused-way e = rw (← is, e)
+
+  pub read-way : {h : Header} → a ≡ Routine h → written (planCheck file size) (planLength file) ≡ planOf file size
+  unfolding planOf
+  read-way e = rw (← is, e)
+
+-- a refusal leaves the buffer as it was
+pub unwritten : {reply : Reply} {a : Answer} {r : Refusal} (bytes before : List ℕ) → reply ≡ deniedOf a → a ≡ Refused r → before ≡ filledBy reply bytes before
+unwritten bytes before e f = rw (e, f)

@@ -1,0 +1,42 @@
+-- What the call `plan` answers, and what it leaves in the buffer, for every list of bytes.
+-- Assumes nothing.
+use mathlib.Core.Path.{_≡_}
+use mathlib.Core.List.{List}
+use Prim.Native.Nat.{ℕ}
+use lib.Dec.{leb}
+use lib.ListN.{length}
+use Rattle.labels.specs.Checks.{programmerCheck}
+use Rattle.plan.specs.Plan.{planBytes, planLength}
+use Rattle.routine.specs.Checks.{_andThen_, holds}
+use Rattle.routine.specs.Reader.{readOf}
+use Rattle.routine.specs.Replies.{written, filledBy}
+use Rattle.routine.specs.declared.reader.Answer.{Answer}
+use Rattle.routine.specs.declared.reader.Answer.the-variants.{Routine, Refused}
+use Rattle.routine.specs.declared.refusal.Refusal.the-variants.{ShortPlanBuffer}
+use Rattle.routine.specs.declared.refusal.Reply.{Reply}
+use Rattle.routine.specs.declared.refusal.Reply.the-variants.{Denied}
+use Rattle.routine.specs.declared.refusal.Verdict.{Verdict}
+
+-- checks run 10 to 16, 20, 21, then for a plan 1: a buffer of `size` bytes is too short
+unfoldable pub planCheck : List ℕ → ℕ → Verdict
+unfolding programmerCheck planLength
+planCheck file size = programmerCheck file andThen holds (leb (planLength file) size) (ShortPlanBuffer (planLength file))
+
+abbrev pub planReply : Answer → List ℕ → ℕ → Reply
+unfolding planCheck planLength
+planReply (Refused r) file size = Denied r
+planReply (Routine h) file size = written (planCheck file size) (planLength file)
+
+unfoldable pub planOf : List ℕ → ℕ → Reply
+unfolding readOf planCheck planLength
+planOf file size = planReply (readOf file) file size
+
+-- of a routine that was read
+pub record PlannedRead (file before : List ℕ) (reply : Reply) (after : List ℕ) : Type 0 where
+  pub answer : reply ≡ written (planCheck file (length before)) (planLength file)
+  pub buffer : after ≡ filledBy reply (planBytes file) before
+
+-- of any list of bytes
+pub record Planned (file before : List ℕ) (reply : Reply) (after : List ℕ) : Type 0 where
+  pub answer : reply ≡ planOf file (length before)
+  pub buffer : after ≡ filledBy reply (planBytes file) before

@@ -1,0 +1,89 @@
+-- Document 01, "Plan and report": the plan's bytes.
+-- Assumes nothing.
+use mathlib.Core.Bool.{cond}
+use mathlib.Core.List.{List, [], _∷_, _++_}
+use Prim.Native.Nat.{ℕ, zero, suc, _+_, _*_}
+use Rattle.labels.specs.Events.{event, isLabel, version}
+use Rattle.labels.specs.Kept.{keptOf}
+use Rattle.labels.specs.Letters.{letterByte}
+use Rattle.labels.specs.Reaching.{reachingOf}
+use Rattle.labels.specs.Uses.{useOf, isN}
+use Rattle.routine.specs.Layout.{arrays, vertices}
+use Rattle.words.specs.Tables.{rows}
+use Rattle.words.specs.Words.{bytes16}
+
+-- `HPFP`
+abbrev pub mark : List ℕ
+mark = 72 ∷ 80 ∷ 70 ∷ 80 ∷ []
+
+-- ---- how many labels
+
+-- among the first m arrays of vertex v
+unfoldable pub labelsAmong : List ℕ → ℕ → ℕ → ℕ
+unfolding event
+labelsAmong file v zero = 0
+labelsAmong file v (suc a) = labelsAmong file v a + cond (isLabel file a v) 1 0
+
+unfoldable pub labelsAt : List ℕ → ℕ → ℕ
+unfolding labelsAmong
+labelsAt file v = labelsAmong file v (arrays file)
+
+-- of the vertices before v: the index of v's first label, or the one that it would have had
+unfoldable pub labelsBefore : List ℕ → ℕ → ℕ
+unfolding labelsAt
+labelsBefore file zero = 0
+labelsBefore file (suc v) = labelsBefore file v + labelsAt file v
+
+unfoldable pub labelCount : List ℕ → ℕ
+unfolding labelsBefore
+labelCount file = labelsBefore file (vertices file)
+
+-- ---- contents: for each vertex the index of its first label and how many, 16 bits each
+
+unfoldable pub contentsEntry : List ℕ → ℕ → List ℕ
+unfolding labelsBefore labelsAt
+contentsEntry file v = bytes16 (labelsBefore file v) ++ bytes16 (labelsAt file v)
+
+unfoldable pub contents : List ℕ → List ℕ
+unfolding rows contentsEntry
+contents file = rows (contentsEntry file) (vertices file)
+
+-- ---- labels of eight bytes by vertex, then array: array, use letter, leaving version (255 none), zero, reaching, kept
+
+unfoldable pub leavingByte : List ℕ → ℕ → ℕ → ℕ
+unfolding useOf version
+leavingByte file a v = cond (isN (useOf file a v)) 255 (version file a v)
+
+abbrev pub eightBytes : ℕ → ℕ → ℕ → ℕ → ℕ → List ℕ
+eightBytes array letter leaving reaching kept = array ∷ letter ∷ leaving ∷ 0 ∷ (bytes16 reaching ++ bytes16 kept)
+
+unfoldable pub labelBytes : List ℕ → ℕ → ℕ → List ℕ
+unfolding useOf leavingByte reachingOf keptOf
+labelBytes file v a =
+    eightBytes a (letterByte (useOf file a v)) (leavingByte file a v) (reachingOf file a v) (keptOf file a v)
+
+-- a label's bytes, none where array a has no label at v
+unfoldable pub labelEntry : List ℕ → ℕ → ℕ → List ℕ
+unfolding event labelBytes
+labelEntry file v a = cond (isLabel file a v) (labelBytes file v a) []
+
+unfoldable pub labelRow : List ℕ → ℕ → List ℕ
+unfolding rows labelEntry
+labelRow file v = rows (labelEntry file v) (arrays file)
+
+unfoldable pub labels : List ℕ → List ℕ
+unfolding rows labelRow
+labels file = rows (labelRow file) (vertices file)
+
+-- ---- the plan: mark, vertex count, label count, contents, labels
+
+abbrev pub planHead : ℕ → ℕ → List ℕ
+planHead vertexCount labelCount = mark ++ (bytes16 vertexCount ++ bytes16 labelCount)
+
+unfoldable pub planBytes : List ℕ → List ℕ
+unfolding labelCount contents labels
+planBytes file = (planHead (vertices file) (labelCount file) ++ contents file) ++ labels file
+
+unfoldable pub planLength : List ℕ → ℕ
+unfolding labelCount
+planLength file = 8 + 4 * vertices file + 8 * labelCount file
