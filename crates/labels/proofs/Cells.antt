@@ -37,3 +37,8 @@ pub letter-entry : {h : Header} {file : List ℕ} (is : Heads h file) {a v : ℕ
     → letters ≡ rows (letterTable file) (arrays file) → getD letters (a * h .vertices + v) 0 ≡ letterByte (useOf file a v)
 unfolding letterTable
 letter-entry {file} is in-a in-v e = entry is in-a in-v (λ a v. letterByte (useOf file a v)) e
+
+pub letter-inside : {h : Header} {file : List ℕ} (is : Heads h file) {a v : ℕ} → a < arrays file → v < vertices file → {letters : List ℕ}
+    → letters ≡ rows (letterTable file) (arrays file) → a * h .vertices + v < length letters
+unfolding letterTable
+letter-inside {file} is in-a in-v e = inside is in-a in-v (λ a v. letterByte (useOf file a v)) e

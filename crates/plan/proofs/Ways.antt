@@ -1,6 +1,6 @@
 -- The ways out of the call `plan`: what the checks say, as the definition's answer.
 -- Assumes nothing.
-use mathlib.Core.Path.{_≡_, refl, sym, ap, _∙_}
+use mathlib.Core.Path.{_≡_}
 use mathlib.Core.List.{List}
 use Prim.Native.Nat.{ℕ, _≤_, _<_}
 use borrow.Author.Tests.{le-leb, lt-leb}
@@ -8,13 +8,12 @@ use Rattle.labels.specs.Checks.{programmerCheck}
 use Rattle.plan.specs.Calls.{planCheck, planOf}
 use Rattle.plan.specs.Plan.{planLength}
 use Rattle.routine.specs.Reader.{readOf}
-use Rattle.routine.specs.Replies.{written, filledBy, deniedOf}
+use Rattle.routine.specs.Replies.{written, deniedOf}
 use Rattle.routine.specs.declared.header.Header.{Header}
 use Rattle.routine.specs.declared.reader.Answer.{Answer}
 use Rattle.routine.specs.declared.reader.Answer.the-variants.{Routine, Refused}
 use Rattle.routine.specs.declared.refusal.Refusal.{Refusal}
 use Rattle.routine.specs.declared.refusal.Refusal.the-variants.{ShortPlanBuffer}
-use Rattle.routine.specs.declared.refusal.Reply.{Reply}
 use Rattle.routine.specs.declared.refusal.Reply.the-variants.{Written, Denied}
 use Rattle.routine.specs.declared.refusal.Verdict.{Verdict}
 use Rattle.routine.specs.declared.refusal.Verdict.the-variants.{Passed, Failed}
@@ -43,7 +42,3 @@ module _ (file : List ℕ) (size : ℕ) {a : Answer} (is : a ≡ readOf file) wh
   pub read-way : {h : Header} → a ≡ Routine h → written (planCheck file size) (planLength file) ≡ planOf file size
   unfolding planOf
   read-way e = rw (← is, e)
-
--- a refusal leaves the buffer as it was
-pub unwritten : {reply : Reply} {a : Answer} {r : Refusal} (bytes before : List ℕ) → reply ≡ deniedOf a → a ≡ Refused r → before ≡ filledBy reply bytes before
-unwritten bytes before e f = rw (e, f)

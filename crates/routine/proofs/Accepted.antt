@@ -4,7 +4,10 @@ use mathlib.Core.Path.{_≡_, refl, ap}
 use mathlib.Core.List.{List}
 use Prim.Native.Nat.{ℕ}
 use Rattle.routine.specs.declared.header.Header.{Header}
-use Rattle.routine.specs.declared.reader.Answer.the-variants.{Routine}
+use Rattle.routine.specs.declared.reader.Answer.{Answer}
+use Rattle.routine.specs.declared.reader.Answer.the-variants.{Routine, Refused}
+use Rattle.routine.specs.declared.refusal.Refusal.{Refusal}
+use Rattle.routine.specs.declared.refusal.Reply.{Reply}
 use Rattle.routine.specs.declared.refusal.Verdict.{Verdict}
 use Rattle.routine.specs.declared.refusal.Verdict.the-variants.{Passed, Failed}
 use Rattle.routine.specs.Actions.{actionCheck, rowCheck, check15}
@@ -12,6 +15,7 @@ use Rattle.routine.specs.Arrays.{arrayCheck, check14}
 use Rattle.routine.specs.Checks.{_andThen_}
 use Rattle.routine.specs.Edges.{edgeCheck, check16}
 use Rattle.routine.specs.Layout.{arrays, vertices, edges, headerOf}
+use Rattle.routine.specs.Replies.{filledBy, deniedOf}
 use Rattle.routine.specs.Reader.{Laid, formCheck, bodyCheck, answered, readOf, WellFormed, Heads}
 use Rattle.routine.proofs.Form.{laid, heads}
 use Rattle.routine.proofs.Laws.{goes-on, parts, each-passed, all-passed}
@@ -51,3 +55,7 @@ accepted file {h} e =
 pub accepts : (file : List ℕ) → formCheck file ≡ Passed → WellFormed file → readOf file ≡ Routine (headerOf file)
 unfolding readOf
 accepts file f w = ap (λ (v : Verdict). answered v (headerOf file)) (goes-on f (passed-bodies file w))
+
+-- ---- a refusal handed on leaves the buffer as it was
+pub unwritten : {reply : Reply} {a : Answer} {r : Refusal} (bytes before : List ℕ) → reply ≡ deniedOf a → a ≡ Refused r → before ≡ filledBy reply bytes before
+unwritten bytes before e f = rw (e, f)

@@ -4,8 +4,8 @@ use mathlib.Core.Path.{_≡_, sym, ap, ap₂, _∙_}
 use mathlib.Core.List.{List, _++_, append-assoc, append-nil}
 use Prim.Native.Nat.{ℕ, _+_, _-_, _≤_}
 use native.Mathlib.Omega.{arith}
-use lib.ListN.{length, take, drop, length-append, length-drop, drop-of-length-le}
-use lib.Seq.{take-at, drop-at, drop-drop, take-all}
+use lib.ListN.{length, take, drop, length-append, length-take, length-drop, drop-of-length-le}
+use lib.Seq.{take-at, drop-at, drop-drop, take-all, length-take-le}
 use Rattle.words.specs.Tables.{wrote}
 
 pub wrote-length : (old done : List ℕ) → length done ≤ length old → length (wrote old done) ≡ length old
@@ -16,6 +16,22 @@ wrote-length old done h =
 -- what a callee sees of `&mut xs[at..]`
 abbrev pub partFrom : List ℕ → ℕ → List ℕ
 partFrom xs at = take (length xs - at) (drop at xs)
+
+pub part-length : (xs : List ℕ) (at : ℕ) → length (partFrom xs at) ≡ length xs - at
+part-length xs at = omega (arith, length-take (length xs - at) (drop at xs), length-drop at xs)
+
+-- what comes back of it is as long
+pub lent-length : (xs ys : List ℕ) (at : ℕ) → at ≤ length xs → length ys ≡ length (partFrom xs at)
+    → length (take at xs ++ (ys ++ drop (length xs - at) (drop at xs))) ≡ length xs
+lent-length xs ys at fits e =
+    simp length-append (omega (arith, length-take at xs, length-drop at xs, length-drop (length xs - at) (drop at xs), part-length xs at))
+
+-- what comes back of it, if its first bytes were written
+lent-back : (xs r ys : List ℕ) (at : ℕ) → ys ≡ r ++ drop (length r) (partFrom xs at) → ys ++ drop (length xs - at) (drop at xs) ≡ r ++ drop (length r) (drop at xs)
+lent-back xs r ys at e =
+    let short : length (drop at xs) ≤ length xs - at = omega (arith, length-drop at xs) in
+    ap (λ (l : List ℕ). ys ++ l) (drop-of-length-le (drop at xs) short) ∙ append-nil ys ∙ e
+    ∙ ap (λ (l : List ℕ). r ++ drop (length r) l) (take-all (length xs - at) (drop at xs) short)
 
 -- a callee that is lent the part behind what has been written, and writes r at its front
 pub write-more :
@@ -30,16 +46,16 @@ write-more old done out r ys at e is wrote-r =
     back : drop at out ≡ drop (length done) old
     back = ap (λ (l : List ℕ). drop at l) is ∙ drop-at done (drop (length done) old) at (sym e)
 
-    short : length (drop at out) ≤ length out - at
-    short = omega (arith, length-drop at out)
-
-    whole : partFrom out at ≡ drop (length done) old
-    whole = take-all (length out - at) (drop at out) short ∙ back
-
     past : drop (length r) (drop (length done) old) ≡ drop (length (done ++ r)) old
     past = drop-drop (length r) (length done) old ∙ ap (λ (n : ℕ). drop n old) (sym (length-append done r))
 
     behind : ys ++ drop (length out - at) (drop at out) ≡ r ++ drop (length (done ++ r)) old
-    behind =
-        ap (λ (l : List ℕ). ys ++ l) (drop-of-length-le (drop at out) short) ∙ append-nil ys ∙ wrote-r
-        ∙ ap (λ (l : List ℕ). r ++ drop (length r) l) whole ∙ ap (λ (l : List ℕ). r ++ l) past
+    behind = lent-back out r ys at wrote-r ∙ ap (λ (l : List ℕ). r ++ drop (length r) l) back ∙ ap (λ (l : List ℕ). r ++ l) past
+
+-- the part behind `front` is lent and written first, and then `front` itself
+pub write-front : (old front r ys : List ℕ) (at : ℕ) → at ≡ length front → at ≤ length old → ys ≡ r ++ drop (length r) (partFrom old at)
+    → wrote (take at old ++ (ys ++ drop (length old - at) (drop at old))) front ≡ wrote old (front ++ r)
+write-front old front r ys at e fits wrote-r =
+    ap (λ (l : List ℕ). front ++ l) (drop-at (take at old) (ys ++ drop (length old - at) (drop at old)) (length front) (length-take-le at old fits ∙ e) ∙ lent-back old r ys at wrote-r)
+    ∙ ap (λ (l : List ℕ). front ++ (r ++ l)) (drop-drop (length r) at old ∙ ap (λ (n : ℕ). drop n old) (ap (λ (n : ℕ). n + length r) e ∙ sym (length-append front r)))
+    ∙ sym (append-assoc front r (drop (length (front ++ r)) old))

@@ -3,8 +3,8 @@
 use mathlib.Core.Path.{sym, _∙_}
 use lib.ListN.{length}
 use Rattle.plan.specs.Plan.{planBytes}
-use Rattle.plan.proofs.Ways.{refused-way, read-way, unwritten}
-use Rattle.routine.proofs.Accepted.{accepted}
+use Rattle.plan.proofs.Ways.{refused-way, read-way}
+use Rattle.routine.proofs.Accepted.{accepted, unwritten}
 use borrow.Author.Needs.{needs}
 use Rattle.plan.proofs.plan.Statement.{statement}
 use Rattle.plan.proofs.plan.Tie as tie

@@ -1,0 +1,30 @@
+-- `hpf_plan` meets its contract: the answer of `plan`, in numbers.
+-- Assumes nothing.
+use mathlib.Core.Path.{ap, _∙_}
+use Rattle.plan.specs.Plan.{planBytes}
+use Rattle.routine.specs.Replies.{filledBy, replyOutcome}
+use Rattle.routine.specs.declared.refusal.Reply.{Reply}
+use borrow.Author.Needs.{needs}
+use Rattle.remap.proofs.hpf_plan.Statement.{statement}
+use Rattle.remap.proofs.hpf_plan.Tie as tie
+
+plan-requires : tie.Need-plan-requires
+plan-requires c κs = search needs
+
+reply-outcome-requires : tie.Need-reply-outcome-requires
+reply-outcome-requires c κs = search needs
+
+same-length : tie.Need-same-length
+same-length c = search needs
+
+returns : tie.Need-returns
+returns c =
+    let a = c .before .before .before .before .before .before .before .args in
+    let p = c .before .before .before .plan .ensures in
+    record {
+      answer = c .reply-outcome .ensures ∙ ap replyOutcome (p .answer);
+      buffer = p .buffer ∙ ap (λ (r : Reply). filledBy r (planBytes (a .file .now)) (a .out .now)) (p .answer);
+    }
+
+pub hpf-plan-spec : {M : Type 1} → statement M
+hpf-plan-spec = tie.close (tie.spec plan-requires reply-outcome-requires same-length returns)

@@ -1,0 +1,21 @@
+-- What the C interface answers, and what it leaves in the buffer, for all bytes: the definitions' answers in numbers.
+-- Assumes nothing.
+use mathlib.Core.Path.{_≡_}
+use mathlib.Core.List.{List}
+use Prim.Native.Nat.{ℕ}
+use lib.ListN.{length}
+use Rattle.plan.specs.Calls.{planOf}
+use Rattle.plan.specs.Plan.{planBytes}
+use Rattle.routine.specs.Replies.{filledBy, replyOutcome}
+use Rattle.routine.specs.declared.refusal.Outcome.{Outcome}
+use Rattle.run.specs.Calls.{runOf, DemandMet}
+use Rattle.run.specs.Report.{reportBytes}
+
+pub record PlannedC (file before : List ℕ) (outcome : Outcome) (after : List ℕ) : Type 0 where
+  pub answer : outcome ≡ replyOutcome (planOf file (length before))
+  pub buffer : after ≡ filledBy (planOf file (length before)) (planBytes file) before
+
+pub record RanC (file path before : List ℕ) (outcome : Outcome) (after : List ℕ) : Type 0 where
+  pub answer : outcome ≡ replyOutcome (runOf file path (length before))
+  pub buffer : after ≡ filledBy (runOf file path (length before)) (reportBytes file path) before
+  pub demand : DemandMet (runOf file path (length before)) file path

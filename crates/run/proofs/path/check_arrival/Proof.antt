@@ -1,0 +1,45 @@
+-- `check_arrival` meets its contract, by cases of the test.
+-- Assumes nothing.
+use mathlib.Core.Path.{_≡_, ap, ap₂, _∙_}
+use Prim.Native.Nat.{_+_, _-_}
+use native.Mathlib.Omega.{arith}
+use borrow.Author.Needs.{needs}
+use borrow.Author.Tests.{not-true, not-false}
+use Rattle.run.specs.Paths.{vertexAt, isEdge, arrivalCheck}
+use Rattle.run.proofs.path.check_arrival.Statement.{statement}
+use Rattle.run.proofs.path.check_arrival.Tie as tie
+
+add-next : tie.Need-add-next
+add-next c = search needs
+
+vertex-requires : tie.Need-vertex-requires
+vertex-requires c κs = search needs
+
+vertex-requires-2 : tie.Need-vertex-requires-2
+vertex-requires-2 c κs = search needs
+
+is-edge-requires : tie.Need-is-edge-requires
+is-edge-requires c κs = search needs
+
+-- what the test says
+told : (c : tie.After-is-edge) →
+    let a = c .before .before .before .before .before .args in
+    c .is-edge .result ≡ isEdge (a .file .now) (vertexAt (a .path .now) (a .i + 1 - 1)) (vertexAt (a .path .now) (a .i + 1))
+told c =
+    let a = c .before .before .before .before .before .args in
+    let back : a .i ≡ a .i + 1 - 1 = omega arith in
+    c .is-edge .ensures
+    ∙ ap₂ (isEdge (a .file .now)) (c .before .before .vertex .ensures ∙ ap (vertexAt (a .path .now)) back) (c .before .vertex2 .ensures)
+
+returns : tie.Need-returns
+unfolding arrivalCheck
+returns c = rw (← told (c .before), not-true (c .before .is-edge .result) (c .if1 .taken))
+
+returns-2 : tie.Need-returns-2
+unfolding arrivalCheck
+returns-2 c = rw (← told (c .before), not-false (c .before .is-edge .result) (c .if1 .left))
+
+pub check-arrival-spec : {M : Type 1} → statement M
+check-arrival-spec =
+    tie.close
+    (tie.spec add-next vertex-requires vertex-requires-2 is-edge-requires returns returns-2)

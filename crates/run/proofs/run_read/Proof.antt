@@ -1,0 +1,47 @@
+-- `run_read` meets its contract: the work slices are arrays of the largest sizes.
+-- Assumes nothing.
+use mathlib.Core.Path.{refl}
+use borrow.Author.Needs.{needs}
+use Rattle.run.proofs.run_read.Statement.{statement}
+use Rattle.run.proofs.run_read.Tie as tie
+
+slice-aggregate-run-within : tie.Need-slice-aggregate-run-within
+slice-aggregate-run-within c = search needs
+
+slice-aggregate-run-within-2 : tie.Need-slice-aggregate-run-within-2
+slice-aggregate-run-within-2 c = search needs
+
+slice-aggregate-run-within-3 : tie.Need-slice-aggregate-run-within-3
+slice-aggregate-run-within-3 c = search needs
+
+slice-aggregate-run-within-4 : tie.Need-slice-aggregate-run-within-4
+slice-aggregate-run-within-4 c = search needs
+
+slice-aggregate-run-within-5 : tie.Need-slice-aggregate-run-within-5
+slice-aggregate-run-within-5 c = search needs
+
+slice-aggregate-run-within-6 : tie.Need-slice-aggregate-run-within-6
+slice-aggregate-run-within-6 c = search needs
+
+run-within-requires : tie.Need-run-within-requires
+run-within-requires c κs = (c .before .before .before .before .before .before .before .before .before .before .pre, (refl, (refl, (refl, (refl, (refl, refl))))))
+
+same-length : tie.Need-same-length
+same-length c = search needs
+
+returns : tie.Need-returns
+returns c = search needs
+
+pub run-read-spec : {M : Type 1} → statement M
+run-read-spec =
+    tie.close
+    (tie.spec
+    slice-aggregate-run-within
+    slice-aggregate-run-within-2
+    slice-aggregate-run-within-3
+    slice-aggregate-run-within-4
+    slice-aggregate-run-within-5
+    slice-aggregate-run-within-6
+    run-within-requires
+    same-length
+    returns)

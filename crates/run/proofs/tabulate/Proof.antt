@@ -1,0 +1,48 @@
+-- `tabulate` meets its contract: each table is filled by its function, and the work slices keep their length.
+-- Assumes nothing.
+use mathlib.Core.Path.{_∙_}
+use borrow.Author.Needs.{needs}
+use Rattle.run.proofs.tabulate.Statement.{statement}
+use Rattle.run.proofs.tabulate.Tie as tie
+
+letters-requires : tie.Need-letters-requires
+letters-requires c κs =
+    let p = c .before .before .before .before .before .before .before .before .before .before .pre in
+    (p .0, (p .1 .0, (p .1 .1 .1 .0, (p .1 .1 .1 .1 .0, p .1 .1 .1 .1 .1))))
+
+kept-requires : tie.Need-kept-requires
+kept-requires c κs =
+    let p = c .before .before .before .before .before .before .before .before .before .before .before .before .before .before .before .before .before .before .before .before .before .before .before .pre in
+    let l = c .before .before .before .before .before .before .before .before .before .before .before .before .letters in
+    (p .0, (l .ensures, (p .1 .1 .0, (l .kept .1 .1 .1 .0 ∙ p .1 .1 .1 .0, l .kept .1 .1 .1 .1 .0 ∙ p .1 .1 .1 .1 .0))))
+
+same-length : tie.Need-same-length
+same-length c = search needs
+
+same-length-2 : tie.Need-same-length-2
+same-length-2 c = search needs
+
+same-length-3 : tie.Need-same-length-3
+same-length-3 c = search needs
+
+same-length-4 : tie.Need-same-length-4
+same-length-4 c = search needs
+
+same-length-5 : tie.Need-same-length-5
+same-length-5 c = search needs
+
+returns : tie.Need-returns
+returns c = search needs
+
+pub tabulate-spec : {M : Type 1} → statement M
+tabulate-spec =
+    tie.close
+    (tie.spec
+    letters-requires
+    kept-requires
+    same-length
+    same-length-2
+    same-length-3
+    same-length-4
+    same-length-5
+    returns)

@@ -1,0 +1,54 @@
+-- What the call `run` answers, and what it leaves in the buffer, for all lists of bytes.
+-- Assumes nothing.
+use mathlib.Core.Path.{_≡_}
+use mathlib.Core.List.{List}
+use Prim.Native.Nat.{ℕ}
+use lib.Dec.{leb}
+use lib.ListN.{length}
+use Rattle.labels.specs.Checks.{programmerCheck}
+use Rattle.routine.specs.Checks.{_andThen_, holds}
+use Rattle.routine.specs.Reader.{readOf}
+use Rattle.routine.specs.Replies.{written, filledBy}
+use Rattle.routine.specs.declared.reader.Answer.{Answer}
+use Rattle.routine.specs.declared.reader.Answer.the-variants.{Routine, Refused}
+use Rattle.routine.specs.declared.refusal.Refusal.the-variants.{ShortReportBuffer}
+use Rattle.routine.specs.declared.refusal.Reply.{Reply}
+use Rattle.routine.specs.declared.refusal.Reply.the-variants.{Written, Denied}
+use Rattle.routine.specs.declared.refusal.Verdict.{Verdict}
+use Rattle.run.specs.Demand.{Demand3}
+use Rattle.run.specs.Paths.{pathCheck}
+use Rattle.run.specs.Report.{reportBytes, reportLength}
+
+-- checks run 10 to 16, 20, 21, for a run 30 to 32, then 2: a buffer of `size` bytes is too short
+unfoldable pub runCheck : List ℕ → List ℕ → ℕ → Verdict
+unfolding programmerCheck pathCheck reportLength
+runCheck file path size =
+    programmerCheck file
+    andThen pathCheck file path
+    andThen holds (leb (reportLength file path) size) (ShortReportBuffer (reportLength file path))
+
+abbrev pub runReply : Answer → List ℕ → List ℕ → ℕ → Reply
+unfolding runCheck reportLength
+runReply (Refused r) file path size = Denied r
+runReply (Routine h) file path size = written (runCheck file path size) (reportLength file path)
+
+unfoldable pub runOf : List ℕ → List ℕ → ℕ → Reply
+unfolding readOf runCheck reportLength
+runOf file path size = runReply (readOf file) file path size
+
+-- demand 3, where the run is made
+abbrev pub DemandMet : Reply → List ℕ → List ℕ → Type 0
+DemandMet (Written n) file path = Demand3 file path
+DemandMet (Denied r) file path = Unit {0}
+
+-- of a routine that was read
+pub record RanRead (file path before : List ℕ) (reply : Reply) (after : List ℕ) : Type 0 where
+  pub answer : reply ≡ written (runCheck file path (length before)) (reportLength file path)
+  pub buffer : after ≡ filledBy reply (reportBytes file path) before
+  pub demand : DemandMet reply file path
+
+-- of any lists of bytes
+pub record Ran (file path before : List ℕ) (reply : Reply) (after : List ℕ) : Type 0 where
+  pub answer : reply ≡ runOf file path (length before)
+  pub buffer : after ≡ filledBy reply (reportBytes file path) before
+  pub demand : DemandMet reply file path

@@ -1,0 +1,61 @@
+-- Document 01, "Who can cause a refusal", the path's writer: a path is 16-bit vertices; an odd last byte is ignored.
+-- Assumes nothing.
+use mathlib.Core.Path.{_≡_}
+use mathlib.Core.Bool.{Bool, true, false, _&&_, _||_}
+use mathlib.Core.List.{List}
+use Prim.Native.Nat.{ℕ, zero, suc, _-_, _*_, _/_, _≤_, _<_}
+use lib.Dec.{eqb}
+use lib.ListN.{length}
+use Rattle.labels.specs.Events.{entry}
+use Rattle.routine.specs.Checks.{_andThen_, holds, firstFailed}
+use Rattle.routine.specs.declared.edge.Edge.{Edge}
+use Rattle.routine.specs.Edges.{edgeOf, before}
+use Rattle.routine.specs.Layout.{edges, within}
+use Rattle.routine.specs.declared.refusal.Refusal.the-variants.{PathLengthOutsideLimits, WrongStart, NoSuchEdge}
+use Rattle.routine.specs.declared.refusal.Verdict.{Verdict}
+use Rattle.words.specs.Words.{word}
+
+-- how many vertices the path has, and the vertex at an index
+abbrev pub steps : List ℕ → ℕ
+steps path = length path / 2
+
+abbrev pub vertexAt : List ℕ → ℕ → ℕ
+vertexAt path i = word path (2 * i)
+
+-- an edge of the routine from v to w among the first n
+unfoldable pub edgeAmong : List ℕ → ℕ → ℕ → ℕ → Bool
+edgeAmong file v w zero = false
+edgeAmong file v w (suc n) = edgeAmong file v w n || (eqb (edgeOf file n .from) v && eqb (edgeOf file n .to) w)
+
+unfoldable pub isEdge : List ℕ → ℕ → ℕ → Bool
+unfolding edgeAmong
+isEdge file v w = edgeAmong file v w (edges file)
+
+-- 30: length 0 or above 4,096
+abbrev pub check30 : List ℕ → Verdict
+check30 path = holds (within 1 4096 (steps path)) (PathLengthOutsideLimits (steps path))
+
+-- 31: first vertex not the entry
+abbrev pub check31 : List ℕ → Verdict
+check31 path = holds (eqb (vertexAt path 0) entry) WrongStart
+
+-- 32: no such edge, at the index of the vertex arrived at
+unfoldable pub arrivalCheck : List ℕ → List ℕ → ℕ → Verdict
+unfolding isEdge
+arrivalCheck file path i = holds (isEdge file (vertexAt path (i - 1)) (vertexAt path i)) (NoSuchEdge i)
+
+unfoldable pub check32 : List ℕ → List ℕ → Verdict
+unfolding firstFailed arrivalCheck
+check32 file path = firstFailed (arrivalCheck file path) 1 (steps path - 1)
+
+unfoldable pub pathCheck : List ℕ → List ℕ → Verdict
+unfolding check32
+pathCheck file path = check30 path andThen check31 path andThen check32 file path
+
+-- ---- the search for an edge
+
+-- r is the place of the first edge that does not stand before e
+pub record FirstNotBefore (file : List ℕ) (e : Edge) (r : ℕ) : Type 0 where
+  pub within-edges : r ≤ edges file
+  pub all-before : (i : ℕ) → i < r → before (edgeOf file i) e ≡ true
+  pub none-after : (i : ℕ) → r ≤ i → i < edges file → before (edgeOf file i) e ≡ false

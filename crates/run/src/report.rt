@@ -1,0 +1,125 @@
+// The report: its length, and the entries of the arrays (document 01, "Plan and report").
+use crate::path;
+use crate::record::Record;
+use crate::state::State;
+use labels::event;
+use routine::array;
+use routine::array::ArrayRecord;
+use routine::header::Header;
+ghost use mathlib.Core.Path.{_≡_};
+ghost use mathlib.Core.Bool.{cond};
+ghost use Prim.Native.Nat.{_*_, _<_, _≤_};
+ghost use lib.ListN.{length};
+ghost use Rattle.labels.specs.Events.{event};
+ghost use Rattle.labels.specs.Routines.{ReadAs};
+ghost use Rattle.routine.specs.Actions.{isReference};
+ghost use Rattle.routine.specs.Layout.{arrays, vertices};
+ghost use Rattle.routine.specs.Reader.{WellFormed};
+ghost use Rattle.routine.specs.declared.refusal.Verdict.the-variants.{Passed};
+ghost use Rattle.run.specs.Paths.{steps, pathCheck};
+ghost use Rattle.run.specs.Report.{entryBytes, entriesOf, referencesAt, referencesOn, reportLength};
+ghost use Rattle.words.specs.Tables.{table, wrote};
+
+// Bytes of an array's entry.
+pub const ENTRY: usize = 6;
+
+// Whether vertex v refers to array a, 1 or 0.
+fn reference_at(file: &[u8], h: Header, v: usize, a: usize) -> usize
+    requires { ⌜ ReadAs (now file) h ⌝ }
+    requires { ⌜ v < vertices (now file) ⌝ }
+    requires { ⌜ a < arrays (now file) ⌝ }
+    ensures { λ r. ⌜ r ≡ cond (isReference (event (now (file .entry)) a v)) 1 0 ⌝ }
+{
+    let reference = event::is_reference(event::at(file, h, array::record_of(file, a), a, v));
+    if reference {
+        return 1;
+    }
+    0
+}
+
+// How many arrays vertex v refers to.
+fn references_at(file: &[u8], h: Header, v: usize) -> usize
+    requires { ⌜ ReadAs (now file) h ⌝ }
+    requires { ⌜ v < vertices (now file) ⌝ }
+    ensures { λ r. ⌜ r ≡ referencesAt (now (file .entry)) v ⌝ }
+    ensures { λ r. ⌜ r ≤ 8 ⌝ }
+{
+    let m = h.arrays;
+    let mut count = 0;
+    let mut a = 0;
+    while a < m {
+        count += reference_at(file, h, v, a);
+        a += 1;
+    }
+    count
+}
+
+// How many references each vertex has.
+fn fill(file: &[u8], h: Header, counts: &mut [u8])
+    requires { ⌜ ReadAs (now file) h ⌝ }
+    requires { ⌜ length (now counts) ≡ vertices (now file) ⌝ }
+    ensures { λ _. ⌜ now (counts .exit) ≡ table (referencesAt (now (file .entry))) (vertices (now (file .entry))) ⌝ }
+{
+    let n = h.vertices;
+    let mut v = 0;
+    while v < n {
+        counts[v] = references_at(file, h, v) as u8;
+        v += 1;
+    }
+}
+
+// How many references the path meets.
+fn references_on(file: &[u8], path: &[u8], counts: &[u8]) -> usize
+    requires { ⌜ WellFormed (now file) ⌝ }
+    requires { ⌜ now counts ≡ table (referencesAt (now file)) (vertices (now file)) ⌝ }
+    requires { ⌜ pathCheck (now file) (now path) ≡ Passed ⌝ }
+    ensures { λ r. ⌜ r ≡ referencesOn (now (file .entry)) (now (path .entry)) (steps (now (path .entry))) ⌝ }
+    ensures { λ r. ⌜ r ≤ 32768 ⌝ }
+{
+    let n = path::count(path);
+    let mut count = 0;
+    let mut i = 0;
+    while i < n {
+        count += counts[path::vertex(path, i)] as usize;
+        i += 1;
+    }
+    count
+}
+
+// The length of the report. `counts` is a work slice of one entry for each vertex.
+pub fn length(file: &[u8], h: Header, path: &[u8], counts: &mut [u8]) -> usize
+    requires { ⌜ ReadAs (now file) h ⌝ }
+    requires { ⌜ pathCheck (now file) (now path) ≡ Passed ⌝ }
+    requires { ⌜ length (now counts) ≡ vertices (now file) ⌝ }
+    ensures { λ r. ⌜ r ≡ reportLength (now (file .entry)) (now (path .entry)) ⌝ }
+{
+    fill(file, h, counts);
+    ENTRY * h.arrays + Record::SIZE * references_on(file, path, counts)
+}
+
+// Writes the entry of one array at the front of what is lent.
+fn write_entry(out: &mut [u8], s: State)
+    requires { ⌜ 6 ≤ length (now out) ⌝ }
+    ensures { λ _. ⌜ now (out .exit) ≡ wrote (now (out .entry)) (entryBytes s) ⌝ }
+{
+    out[0] = (s.copies % 256) as u8;
+    out[1] = (s.copies / 256) as u8;
+    out[2] = (s.live % 256) as u8;
+    out[3] = (s.live / 256) as u8;
+    out[4] = s.current;
+    out[5] = 0;
+}
+
+// Writes the entries of the first m arrays at the front of what is lent.
+pub fn write_entries(states: [State; ArrayRecord::MAX], m: usize, out: &mut [u8])
+    requires { ⌜ m ≤ 8 ⌝ }
+    requires { ⌜ 6 * m ≤ length (now out) ⌝ }
+    ensures { λ _. ⌜ now (out .exit) ≡ wrote (now (out .entry)) (entriesOf states m) ⌝ }
+{
+    let mut a = 0;
+    while a < m {
+        let at = ENTRY * a;
+        write_entry(&mut out[at..], states[a]);
+        a += 1;
+    }
+}

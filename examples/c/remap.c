@@ -1,0 +1,66 @@
+/* Plans routine P of document 01, runs its case 2, and prints what the plan's flags and the report show. */
+#include <stdio.h>
+#include <stdlib.h>
+
+#include "hpf_remap.h"
+
+static const uint8_t routine[62] = {
+    'H', 'P', 'F', 'R', 1, 0,
+    18, 0, 1, 0, /* arrays: offset, count */
+    22, 0, 8, 0, /* vertices */
+    30, 0, 8, 0, /* edges */
+    0, 3, 0, 0,  /* one local array, 3 versions, initial 0 */
+    0x00, 0x20, 0x41, 0x10, 0x42, 0x40, 0x10, 0x00,
+    0, 0, 1, 0, 1, 0, 2, 0, 2, 0, 3, 0, 3, 0, 4, 0,
+    4, 0, 5, 0, 5, 0, 6, 0, 6, 0, 2, 0, 6, 0, 7, 0,
+};
+
+static const uint8_t path[18] = {0, 0, 1, 0, 2, 0, 3, 0, 4, 0, 5, 0, 6, 0, 2, 0, 3, 0};
+
+static unsigned word(const uint8_t *bytes) { return bytes[0] + 256u * bytes[1]; }
+
+static void refused(const char *call, hpf_outcome outcome) {
+    fprintf(stderr, "%s: %llu %llu %llu\n", call, (unsigned long long)outcome.number, (unsigned long long)outcome.first,
+            (unsigned long long)outcome.second);
+    exit(EXIT_FAILURE);
+}
+
+static void print_plan(const uint8_t *plan) {
+    unsigned vertices = word(plan + 4);
+    const uint8_t *labels = plan + 8 + 4 * vertices;
+    for (unsigned v = 0; v < vertices; v++) {
+        unsigned first = word(plan + 8 + 4 * v), count = word(plan + 10 + 4 * v);
+        for (unsigned i = first; i < first + count; i++) {
+            const uint8_t *label = labels + 8 * i;
+            if (label[1] == 'N')
+                printf("vertex %u: array %u is not copied\n", v, label[0]);
+            else
+                printf("vertex %u: array %u leaves as version %u, use %c, keep %04x\n", v, label[0], label[2], label[1],
+                       word(label + 6));
+        }
+    }
+}
+
+static void print_report(const uint8_t *report, size_t length) {
+    printf("array 0: %u copy, live %04x, current %u\n", word(report), word(report + 2), report[4]);
+    for (const uint8_t *record = report + 6; record < report + length; record += 10)
+        printf("step %u: version %u, kind %u, sees %u, gives %u\n", word(record), record[3], record[4], word(record + 6),
+               word(record + 8));
+}
+
+int main(void) {
+    uint8_t plan[HPF_LARGEST_PLAN];
+    hpf_outcome planned = hpf_plan(routine, sizeof routine, plan, sizeof plan);
+    if (planned.number != 0) refused("hpf_plan", planned);
+    print_plan(plan);
+
+    hpf_outcome asked = hpf_run(routine, sizeof routine, path, sizeof path, plan, 0);
+    if (asked.number != 2) refused("hpf_run", asked);
+    uint8_t *report = malloc(asked.first);
+    if (report == NULL) return EXIT_FAILURE;
+    hpf_outcome ran = hpf_run(routine, sizeof routine, path, sizeof path, report, asked.first);
+    if (ran.number != 0) refused("hpf_run", ran);
+    print_report(report, ran.first);
+    free(report);
+    return EXIT_SUCCESS;
+}

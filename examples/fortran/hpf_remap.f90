@@ -1,0 +1,35 @@
+! Array remapping by copies, from Fortran. `include/hpf_remap.h` documents formats and answers.
+module hpf_remap
+  use iso_c_binding, only: c_int64_t, c_int8_t, c_size_t
+  implicit none
+  private
+  public :: hpf_outcome, hpf_plan, hpf_run
+
+  integer, parameter, public :: hpf_largest_plan = 17416
+
+  type, bind(c) :: hpf_outcome
+    integer(c_int64_t) :: number, first, second
+  end type hpf_outcome
+
+  interface
+    function hpf_plan(routine, routine_len, plan, plan_len) bind(c) result(outcome)
+      import :: hpf_outcome, c_int8_t, c_size_t
+      integer(c_int8_t), intent(in) :: routine(*)
+      integer(c_size_t), value :: routine_len
+      integer(c_int8_t), intent(inout) :: plan(*)
+      integer(c_size_t), value :: plan_len
+      type(hpf_outcome) :: outcome
+    end function hpf_plan
+
+    function hpf_run(routine, routine_len, path, path_len, report, report_len) bind(c) result(outcome)
+      import :: hpf_outcome, c_int8_t, c_size_t
+      integer(c_int8_t), intent(in) :: routine(*)
+      integer(c_size_t), value :: routine_len
+      integer(c_int8_t), intent(in) :: path(*)
+      integer(c_size_t), value :: path_len
+      integer(c_int8_t), intent(inout) :: report(*)
+      integer(c_size_t), value :: report_len
+      type(hpf_outcome) :: outcome
+    end function hpf_run
+  end interface
+end module hpf_remap

@@ -1,0 +1,86 @@
+! Plans routine P of document 01, runs its case 2, and prints what the plan's flags and the report show.
+program remap
+  use iso_c_binding, only: c_int8_t, c_size_t
+  use hpf_remap, only: hpf_outcome, hpf_plan, hpf_run, hpf_largest_plan
+  implicit none
+
+  integer, parameter :: edges(2, 8) = reshape([0, 1, 1, 2, 2, 3, 3, 4, 4, 5, 5, 6, 6, 2, 6, 7], [2, 8])
+  integer, parameter :: actions(8) = [0, 32, 65, 16, 66, 64, 16, 0]
+  integer, parameter :: steps(9) = [0, 1, 2, 3, 4, 5, 6, 2, 3]
+  integer(c_int8_t) :: routine(62), path(18)
+  integer(c_int8_t) :: plan(hpf_largest_plan)
+  integer(c_int8_t), allocatable :: report(:)
+  type(hpf_outcome) :: outcome
+  integer :: i
+
+  routine(1:4) = int([iachar('H'), iachar('P'), iachar('F'), iachar('R')], c_int8_t)
+  routine(5:18) = int([1, 0, 18, 0, 1, 0, 22, 0, 8, 0, 30, 0, 8, 0], c_int8_t)
+  routine(19:22) = int([0, 3, 0, 0], c_int8_t)
+  routine(23:30) = int(actions, c_int8_t)
+  do i = 1, 8
+    routine(27 + 4 * i:30 + 4 * i) = int([edges(1, i), 0, edges(2, i), 0], c_int8_t)
+  end do
+  do i = 1, 9
+    path(2 * i - 1:2 * i) = int([steps(i), 0], c_int8_t)
+  end do
+
+  outcome = hpf_plan(routine, size(routine, kind=c_size_t), plan, size(plan, kind=c_size_t))
+  call expect('hpf_plan', outcome, 0)
+  call print_plan()
+
+  outcome = hpf_run(routine, size(routine, kind=c_size_t), path, size(path, kind=c_size_t), plan, 0_c_size_t)
+  call expect('hpf_run', outcome, 2)
+  allocate (report(outcome%first))
+  outcome = hpf_run(routine, size(routine, kind=c_size_t), path, size(path, kind=c_size_t), report, size(report, kind=c_size_t))
+  call expect('hpf_run', outcome, 0)
+  call print_report()
+
+contains
+
+  subroutine expect(call_name, got, number)
+    character(*), intent(in) :: call_name
+    type(hpf_outcome), intent(in) :: got
+    integer, intent(in) :: number
+    if (got%number == number) return
+    print '(a, 3(1x, i0))', call_name, got%number, got%first, got%second
+    error stop 1
+  end subroutine expect
+
+  ! A byte as a number from 0 to 255.
+  pure integer function byte(bytes, at)
+    integer(c_int8_t), intent(in) :: bytes(:)
+    integer, intent(in) :: at
+    byte = iand(int(bytes(at)), 255)
+  end function byte
+
+  pure integer function word(bytes, at)
+    integer(c_int8_t), intent(in) :: bytes(:)
+    integer, intent(in) :: at
+    word = byte(bytes, at) + 256 * byte(bytes, at + 1)
+  end function word
+
+  subroutine print_plan()
+    integer :: v, k, at, vertices
+    vertices = word(plan, 5)
+    do v = 0, vertices - 1
+      do k = word(plan, 9 + 4 * v), word(plan, 9 + 4 * v) + word(plan, 11 + 4 * v) - 1
+        at = 9 + 4 * vertices + 8 * k
+        if (achar(byte(plan, at + 1)) == 'N') then
+          print '(a, i0, a, i0, a)', 'vertex ', v, ': array ', byte(plan, at), ' is not copied'
+        else
+          print '(a, i0, a, i0, a, i0, 3a, z4.4)', 'vertex ', v, ': array ', byte(plan, at), ' leaves as version ', &
+            byte(plan, at + 2), ', use ', achar(byte(plan, at + 1)), ', keep ', word(plan, at + 6)
+        end if
+      end do
+    end do
+  end subroutine print_plan
+
+  subroutine print_report()
+    integer :: at
+    print '(a, i0, a, z4.4, a, i0)', 'array 0: ', word(report, 1), ' copy, live ', word(report, 3), ', current ', byte(report, 5)
+    do at = 7, size(report), 10
+      print '(a, i0, a, i0, a, i0, a, i0, a, i0)', 'step ', word(report, at), ': version ', byte(report, at + 3), ', kind ', &
+        byte(report, at + 4), ', sees ', word(report, at + 6), ', gives ', word(report, at + 8)
+    end do
+  end subroutine print_report
+end program remap
