@@ -81,14 +81,44 @@ pub fn put_p(file: &mut Buffer) {
     put_edge(file, 58, 6, 7);
 }
 
-// Local arrays of one version each.
-fn put_arrays(file: &mut Buffer, arrays: usize)
-    requires { ⌜ arrays ≤ 9 ⌝ }
+// Routine T: one local array of 2 versions, 4 vertices, 4 edges.
+pub fn put_t(file: &mut Buffer) {
+    put_head(file, 1, 4, 4);
+    put(file, 19, 2);
+    put(file, 23, 0x41);
+    put(file, 24, 0x10);
+    put_edge(file, 26, 0, 1);
+    put_edge(file, 30, 0, 2);
+    put_edge(file, 34, 1, 2);
+    put_edge(file, 38, 2, 3);
+}
+
+// Routine T with a define between its read and its exit, 47 bytes.
+pub fn put_longer_t(file: &mut Buffer) {
+    put_head(file, 1, 5, 5);
+    put(file, 19, 2);
+    put(file, 23, 0x41);
+    put(file, 24, 0x10);
+    put(file, 25, 0x20);
+    put_edge(file, 27, 0, 1);
+    put_edge(file, 31, 0, 2);
+    put_edge(file, 35, 1, 2);
+    put_edge(file, 39, 2, 3);
+    put_edge(file, 43, 3, 4);
+}
+
+// The same byte `count` times, `step` bytes apart.
+fn put_every(file: &mut Buffer, at: usize, step: usize, count: usize, byte: u8)
+    requires { ⌜ at ≤ 8192 ⌝ }
+    requires { ⌜ step ≤ 4 ⌝ }
+    requires { ⌜ count ≤ 8192 ⌝ }
 {
-    let mut a = 0;
-    while a < arrays {
-        put(file, 19 + 4 * a, 1);
-        a += 1;
+    let mut i = 0;
+    let mut next = at;
+    while i < count {
+        put(file, next, byte);
+        next += step;
+        i += 1;
     }
 }
 
@@ -104,15 +134,27 @@ fn put_edges(file: &mut Buffer, at: usize, edges: usize)
     }
 }
 
-// A routine whose vertices do nothing; the result is its length. With edges it takes 66 vertices or more.
+// A routine of local arrays of one version each, whose vertices do nothing; the result is its length. With edges it takes 66 vertices or
+// more.
 pub fn put_idle(file: &mut Buffer, arrays: usize, vertices: usize, edges: usize) -> usize
     requires { ⌜ arrays ≤ 9 ⌝ }
     requires { ⌜ vertices ≤ 257 ⌝ }
     requires { ⌜ edges ≤ 1025 ⌝ }
+    ensures { λ r. ⌜ r ≤ 8192 ⌝ }
 {
     let edges_at = edges_offset(arrays, vertices);
     put_head(file, arrays, vertices, edges);
-    put_arrays(file, arrays);
+    put_every(file, 19, 4, arrays, 1);
     put_edges(file, edges_at, edges);
     edges_at + 4 * edges
+}
+
+// A routine with the longest plan: 8 inout arrays and 256 vertices, each but the entry and the exit with 8 remappings; no edges.
+pub fn put_full(file: &mut Buffer) -> usize
+    ensures { λ r. ⌜ r ≤ 8192 ⌝ }
+{
+    let length = put_idle(file, 8, 256, 0);
+    put_every(file, 18, 4, 8, 3);
+    put_every(file, 58, 1, 2032, 0x40);
+    length
 }

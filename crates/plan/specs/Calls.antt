@@ -31,12 +31,16 @@ unfoldable pub planOf : List ℕ → ℕ → Reply
 unfolding readOf planCheck planLength
 planOf file size = planReply (readOf file) file size
 
+-- the plan at the front of the buffer, or the buffer as it was
+abbrev pub planInto : Reply → List ℕ → List ℕ → List ℕ
+planInto reply file before = filledBy reply (planBytes file) before
+
 -- of a routine that was read
 pub record PlannedRead (file before : List ℕ) (reply : Reply) (after : List ℕ) : Type 0 where
   pub answer : reply ≡ written (planCheck file (length before)) (planLength file)
-  pub buffer : after ≡ filledBy reply (planBytes file) before
+  pub buffer : after ≡ planInto reply file before
 
 -- of any list of bytes
 pub record Planned (file before : List ℕ) (reply : Reply) (after : List ℕ) : Type 0 where
   pub answer : reply ≡ planOf file (length before)
-  pub buffer : after ≡ filledBy reply (planBytes file) before
+  pub buffer : after ≡ planInto reply file before

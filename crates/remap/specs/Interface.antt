@@ -4,18 +4,16 @@ use mathlib.Core.Path.{_≡_}
 use mathlib.Core.List.{List}
 use Prim.Native.Nat.{ℕ}
 use lib.ListN.{length}
-use Rattle.plan.specs.Calls.{planOf}
-use Rattle.plan.specs.Plan.{planBytes}
-use Rattle.routine.specs.Replies.{filledBy, replyOutcome}
+use Rattle.plan.specs.Calls.{planOf, planInto}
+use Rattle.routine.specs.Replies.{replyOutcome}
 use Rattle.routine.specs.declared.refusal.Outcome.{Outcome}
-use Rattle.run.specs.Calls.{runOf, DemandMet}
-use Rattle.run.specs.Report.{reportBytes}
+use Rattle.run.specs.Calls.{runOf, runInto, DemandMet}
 
 pub record PlannedC (file before : List ℕ) (outcome : Outcome) (after : List ℕ) : Type 0 where
   pub answer : outcome ≡ replyOutcome (planOf file (length before))
-  pub buffer : after ≡ filledBy (planOf file (length before)) (planBytes file) before
+  pub buffer : after ≡ planInto (planOf file (length before)) file before
 
 pub record RanC (file path before : List ℕ) (outcome : Outcome) (after : List ℕ) : Type 0 where
   pub answer : outcome ≡ replyOutcome (runOf file path (length before))
-  pub buffer : after ≡ filledBy (runOf file path (length before)) (reportBytes file path) before
+  pub buffer : after ≡ runInto (runOf file path (length before)) file path before
   pub demand : DemandMet (runOf file path (length before)) file path

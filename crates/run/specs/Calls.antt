@@ -41,14 +41,18 @@ abbrev pub DemandMet : Reply → List ℕ → List ℕ → Type 0
 DemandMet (Written n) file path = Demand3 file path
 DemandMet (Denied r) file path = Unit {0}
 
+-- the report at the front of the buffer, or the buffer as it was
+abbrev pub runInto : Reply → List ℕ → List ℕ → List ℕ → List ℕ
+runInto reply file path before = filledBy reply (reportBytes file path) before
+
 -- of a routine that was read
 pub record RanRead (file path before : List ℕ) (reply : Reply) (after : List ℕ) : Type 0 where
   pub answer : reply ≡ written (runCheck file path (length before)) (reportLength file path)
-  pub buffer : after ≡ filledBy reply (reportBytes file path) before
+  pub buffer : after ≡ runInto reply file path before
   pub demand : DemandMet reply file path
 
 -- of any lists of bytes
 pub record Ran (file path before : List ℕ) (reply : Reply) (after : List ℕ) : Type 0 where
   pub answer : reply ≡ runOf file path (length before)
-  pub buffer : after ≡ filledBy reply (reportBytes file path) before
+  pub buffer : after ≡ runInto reply file path before
   pub demand : DemandMet reply file path

@@ -1,8 +1,8 @@
 -- `hpf_plan` meets its contract: the answer of `plan`, in numbers.
 -- Assumes nothing.
 use mathlib.Core.Path.{ap, _∙_}
-use Rattle.plan.specs.Plan.{planBytes}
-use Rattle.routine.specs.Replies.{filledBy, replyOutcome}
+use Rattle.plan.specs.Calls.{planInto}
+use Rattle.routine.specs.Replies.{replyOutcome}
 use Rattle.routine.specs.declared.refusal.Reply.{Reply}
 use borrow.Author.Needs.{needs}
 use Rattle.remap.proofs.hpf_plan.Statement.{statement}
@@ -23,7 +23,7 @@ returns c =
     let p = c .before .before .before .plan .ensures in
     record {
       answer = c .reply-outcome .ensures ∙ ap replyOutcome (p .answer);
-      buffer = p .buffer ∙ ap (λ (r : Reply). filledBy r (planBytes (a .file .now)) (a .out .now)) (p .answer);
+      buffer = p .buffer ∙ ap (λ (r : Reply). planInto r (a .file .now) (a .out .now)) (p .answer);
     }
 
 pub hpf-plan-spec : {M : Type 1} → statement M

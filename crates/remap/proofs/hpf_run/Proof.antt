@@ -1,10 +1,9 @@
 -- `hpf_run` meets its contract: the answer of `run`, in numbers, and demand 3.
 -- Assumes nothing.
 use mathlib.Core.Path.{ap, subst, _∙_}
-use Rattle.routine.specs.Replies.{filledBy, replyOutcome}
+use Rattle.routine.specs.Replies.{replyOutcome}
 use Rattle.routine.specs.declared.refusal.Reply.{Reply}
-use Rattle.run.specs.Calls.{DemandMet}
-use Rattle.run.specs.Report.{reportBytes}
+use Rattle.run.specs.Calls.{runInto, DemandMet}
 use borrow.Author.Needs.{needs}
 use Rattle.remap.proofs.hpf_run.Statement.{statement}
 use Rattle.remap.proofs.hpf_run.Tie as tie
@@ -24,7 +23,7 @@ returns c =
     let r = c .before .before .before .run .ensures in
     record {
       answer = c .reply-outcome .ensures ∙ ap replyOutcome (r .answer);
-      buffer = r .buffer ∙ ap (λ (r : Reply). filledBy r (reportBytes (a .file .now) (a .path .now)) (a .out .now)) (r .answer);
+      buffer = r .buffer ∙ ap (λ (r : Reply). runInto r (a .file .now) (a .path .now) (a .out .now)) (r .answer);
       demand = subst (λ (r : Reply). DemandMet r (a .file .now) (a .path .now)) (r .answer) (r .demand);
     }
 

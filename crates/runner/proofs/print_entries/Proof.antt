@@ -1,27 +1,24 @@
--- `put_arrays` is safe and ends: the count is small.
+-- `print_entries` is safe and ends.
 -- Assumes nothing.
 use Prim.Native.Nat.{_≤_, _-_}
 use borrow.Author.Needs.{needs}
-use Rattle.cases.proofs.build.put_arrays.Statement.{statement}
-use Rattle.cases.proofs.build.put_arrays.Tie as tie
+use Rattle.runner.proofs.print_entries.Statement.{statement}
+use Rattle.runner.proofs.print_entries.Tie as tie
 
 abbrev Inv-loop : tie.InvT-loop
-Inv-loop file₀ arrays a₀ file a = a ≤ arrays
+Inv-loop report arrays a₀ a = a ≤ arrays
 
 abbrev μ-loop : tie.MeasureT-loop
-μ-loop file₀ arrays a₀ file a = arrays - a
+μ-loop report arrays a₀ a = arrays - a
 
 loop-holds : tie.Need-loop-holds Inv-loop μ-loop
 loop-holds c = search needs
 
-mul-put : tie.Need-mul-put Inv-loop μ-loop
-mul-put c = search needs
+mul-print-entry : tie.Need-mul-print-entry Inv-loop μ-loop
+mul-print-entry c = search needs
 
-add-put : tie.Need-add-put Inv-loop μ-loop
-add-put c = search needs
-
-put-requires : tie.Need-put-requires Inv-loop μ-loop
-put-requires c κs = search needs
+print-entry-requires : tie.Need-print-entry-requires Inv-loop μ-loop
+print-entry-requires c κs = search needs
 
 add-a : tie.Need-add-a Inv-loop μ-loop
 add-a c = search needs
@@ -35,16 +32,15 @@ loop-again c = search needs
 returns : tie.Need-returns Inv-loop μ-loop
 returns c = search needs
 
-pub put-arrays-spec : {M : Type 1} → statement M
-put-arrays-spec =
+pub print-entries-spec : {M : Type 1} → statement M
+print-entries-spec =
     tie.close
     (tie.spec
     Inv-loop
     μ-loop
     loop-holds
-    mul-put
-    add-put
-    put-requires
+    mul-print-entry
+    print-entry-requires
     add-a
     loop-less
     loop-again

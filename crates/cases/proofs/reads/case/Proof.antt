@@ -3,11 +3,17 @@
 use native.Mathlib.Omega.{arith}
 use borrow.Author.Needs.{needs}
 use lib.ListN.{length-take}
-use Rattle.cases.proofs.case.Statement.{statement}
-use Rattle.cases.proofs.case.Tie as tie
+use Rattle.cases.proofs.reads.case.Statement.{statement}
+use Rattle.cases.proofs.reads.case.Tie as tie
 
-write-all-requires : tie.Need-write-all-requires
-write-all-requires c κs = search needs
+text-requires : tie.Need-text-requires
+text-requires c κs = search needs
+
+slice-aggregate-text : tie.Need-slice-aggregate-text
+slice-aggregate-text c = search needs
+
+text-requires-2 : tie.Need-text-requires-2
+text-requires-2 c κs = search needs
 
 array-share-prefix-file : tie.Need-array-share-prefix-file
 array-share-prefix-file c = search needs
@@ -18,12 +24,6 @@ slice-aggregate-write-answer c = simp length-take (omega arith)
 write-answer-requires : tie.Need-write-answer-requires
 write-answer-requires c κs = search needs
 
-slice-aggregate-write-all : tie.Need-slice-aggregate-write-all
-slice-aggregate-write-all c = search needs
-
-write-all-requires-2 : tie.Need-write-all-requires-2
-write-all-requires-2 c κs = search needs
-
 returns : tie.Need-returns
 returns c = search needs
 
@@ -31,10 +31,10 @@ pub case-spec : {M : Type 1} → statement M
 case-spec =
     tie.close
     (tie.spec
-    write-all-requires
+    text-requires
+    slice-aggregate-text
+    text-requires-2
     array-share-prefix-file
     slice-aggregate-write-answer
     write-answer-requires
-    slice-aggregate-write-all
-    write-all-requires-2
     returns)

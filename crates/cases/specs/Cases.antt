@@ -1,0 +1,395 @@
+-- Document 01, "Routine P and others": the starred cases as one table, from the bytes of routine files and paths to what the definitions
+-- answer. The theorem is `all-hold` of proofs/Cases.
+-- Assumes nothing.
+use mathlib.Core.Path.{_≡_}
+use mathlib.Core.Bool.{cond}
+use mathlib.Core.List.{List, [], _∷_, _++_}
+use mathlib.Core.Option.{Option, none, some}
+use Prim.Native.Nat.{ℕ, zero, suc}
+use lib.Dec.{eqb}
+use lib.ListN.{length}
+use Rattle.labels.specs.Events.{isLabel, version}
+use Rattle.labels.specs.Kept.{keptOf}
+use Rattle.labels.specs.Reaching.{reachingOf}
+use Rattle.labels.specs.Uses.{isN, useOf}
+use Rattle.labels.specs.declared.Use.{Use}
+use Rattle.labels.specs.declared.Use.the-variants.{N, D, R, W}
+use Rattle.plan.specs.Calls.{planOf}
+use Rattle.plan.specs.Plan.{planBytes}
+use Rattle.routine.specs.Layout.{arrays, vertices}
+use Rattle.routine.specs.Refusals.{refused}
+use Rattle.routine.specs.Replies.{replyOutcome}
+use Rattle.routine.specs.declared.refusal.Outcome.{Outcome}
+use Rattle.routine.specs.declared.refusal.Reply.the-variants.{Written}
+use Rattle.run.specs.Calls.{runOf}
+use Rattle.run.specs.Machine.{machineAfter}
+use Rattle.run.specs.Paths.{steps}
+use Rattle.run.specs.Report.{reportBytes}
+use Rattle.run.specs.Run.{stateAfter, runRecords}
+use Rattle.run.specs.declared.record.Record.{Record}
+
+-- ---- a line of the planner's listing
+
+pub data Line : Type 0 where
+  -- vertex, array, use, leave, reach, keep
+  line : ℕ → ℕ → Use → Option ℕ → ℕ → ℕ → Line
+
+abbrev pub lineAt : List ℕ → ℕ → ℕ → List Line
+lineAt file v a =
+    cond (isLabel file a v)
+    (line v a (useOf file a v) (cond (isN (useOf file a v)) none (some (version file a v))) (reachingOf file a v) (keptOf file a v) ∷ [])
+    []
+
+-- n lists of lines, one after the other
+abbrev pub gathered : (ℕ → List Line) → ℕ → List Line
+gathered f zero = []
+gathered f (suc n) = gathered f n ++ f n
+
+-- by vertex, then array
+abbrev pub linesOf : List ℕ → List Line
+linesOf file = gathered (λ v. gathered (lineAt file v) (arrays file)) (vertices file)
+
+-- ---- what a read sees
+
+pub data Seen : Type 0 where
+  -- stamp, version
+  seen : ℕ → ℕ → Seen
+
+-- the reads among the records
+abbrev pub readsOf : List Record → List Seen
+readsOf [] = []
+readsOf (r ∷ rs) = cond (eqb (r .kind) 1) (seen (r .seen) (r .version) ∷ readsOf rs) (readsOf rs)
+
+-- ---- cases
+
+-- a routine that is planned: the lines of its listing; and the plan whole, in rows of bytes: mark and counts; contents; labels
+pub record Plans : Type 0 where
+  pub file : List ℕ
+  pub lines : List Line
+  pub plan : List ℕ
+
+-- a routine that is refused: number and two places
+pub record Refuses : Type 0 where
+  pub file : List ℕ
+  pub outcome : Outcome
+
+-- a run of a routine with one array: its copies, against those of copying at every remapping; what its reads see; and the report whole,
+-- in rows of bytes: the array; a reference in each other row
+pub record Runs : Type 0 where
+  pub file : List ℕ
+  pub path : List ℕ
+  pub copies : ℕ
+  pub against : ℕ
+  pub reads : List Seen
+  pub report : List ℕ
+
+pub data Case : Type 0 where
+  plans : Plans → Case
+  refuses : Refuses → Case
+  runs : Runs → Case
+
+-- what the definitions answer. A buffer as long as the plan or the report is enough; a routine is refused whatever the buffer and the path
+abbrev pub Holds : Case → Type 0
+Holds (plans c) =
+    (planOf (c .file) (length (c .plan)) ≡ Written (length (c .plan)))
+    × (linesOf (c .file) ≡ c .lines)
+    × (planBytes (c .file) ≡ c .plan)
+Holds (refuses c) =
+    ((size : ℕ) → replyOutcome (planOf (c .file) size) ≡ c .outcome)
+    × ((path : List ℕ) (size : ℕ) → replyOutcome (runOf (c .file) path size) ≡ c .outcome)
+Holds (runs c) =
+    (runOf (c .file) (c .path) (length (c .report)) ≡ Written (length (c .report)))
+    × (stateAfter (c .file) (c .path) 0 (steps (c .path)) .copies ≡ c .copies)
+    × (machineAfter (c .file) (c .path) 0 (steps (c .path)) .count ≡ c .against)
+    × (readsOf (runRecords (c .file) (c .path)) ≡ c .reads)
+    × (reportBytes (c .file) (c .path) ≡ c .report)
+
+abbrev pub AllHold : List Case → Type 0
+AllHold [] = Unit {0}
+AllHold (c ∷ cs) = Holds c × AllHold cs
+
+-- ---- routine files, in rows of bytes: mark, edition and contents; array; actions; edges
+
+-- P: one local array, 3 versions, initial 0; 1 define, 2 remap 1, 3 read, 4 remap 2, 5 remap 0, 6 read, 7 exit;
+-- edges 0-1, 1-2, 2-3, 3-4, 4-5, 5-6, 6-2, 6-7
+abbrev pub P : List ℕ
+P =
+    72 ∷ 80 ∷ 70 ∷ 82 ∷ 1 ∷ 0 ∷ 18 ∷ 0 ∷ 1 ∷ 0 ∷ 22 ∷ 0 ∷ 8 ∷ 0 ∷ 30 ∷ 0 ∷ 8 ∷ 0
+    ∷ 0 ∷ 3 ∷ 0 ∷ 0
+    ∷ 0x00 ∷ 0x20 ∷ 0x41 ∷ 0x10 ∷ 0x42 ∷ 0x40 ∷ 0x10 ∷ 0x00
+    ∷ 0 ∷ 0 ∷ 1 ∷ 0 ∷ 1 ∷ 0 ∷ 2 ∷ 0 ∷ 2 ∷ 0 ∷ 3 ∷ 0 ∷ 3 ∷ 0 ∷ 4 ∷ 0
+    ∷ 4 ∷ 0 ∷ 5 ∷ 0 ∷ 5 ∷ 0 ∷ 6 ∷ 0 ∷ 6 ∷ 0 ∷ 2 ∷ 0 ∷ 6 ∷ 0 ∷ 7 ∷ 0
+    ∷ []
+
+-- Q: inout, 2 versions, initial 0; 1 remap 1, 2 define, 3 remap 0, 4 read, 5 exit; edges 0-1, 1-2, 1-3, 2-3, 3-4, 4-5
+abbrev pub Q : List ℕ
+Q =
+    72 ∷ 80 ∷ 70 ∷ 82 ∷ 1 ∷ 0 ∷ 18 ∷ 0 ∷ 1 ∷ 0 ∷ 22 ∷ 0 ∷ 6 ∷ 0 ∷ 28 ∷ 0 ∷ 6 ∷ 0
+    ∷ 3 ∷ 2 ∷ 0 ∷ 0
+    ∷ 0x00 ∷ 0x41 ∷ 0x20 ∷ 0x40 ∷ 0x10 ∷ 0x00
+    ∷ 0 ∷ 0 ∷ 1 ∷ 0 ∷ 1 ∷ 0 ∷ 2 ∷ 0 ∷ 1 ∷ 0 ∷ 3 ∷ 0 ∷ 2 ∷ 0 ∷ 3 ∷ 0
+    ∷ 3 ∷ 0 ∷ 4 ∷ 0 ∷ 4 ∷ 0 ∷ 5 ∷ 0
+    ∷ []
+
+-- S: local, 3 versions, initial 0, a chain: 1 define, 2 remap 1, 3 remap 2, 4 read, 5 exit
+abbrev pub S : List ℕ
+S =
+    72 ∷ 80 ∷ 70 ∷ 82 ∷ 1 ∷ 0 ∷ 18 ∷ 0 ∷ 1 ∷ 0 ∷ 22 ∷ 0 ∷ 6 ∷ 0 ∷ 28 ∷ 0 ∷ 5 ∷ 0
+    ∷ 0 ∷ 3 ∷ 0 ∷ 0
+    ∷ 0x00 ∷ 0x20 ∷ 0x41 ∷ 0x42 ∷ 0x10 ∷ 0x00
+    ∷ 0 ∷ 0 ∷ 1 ∷ 0 ∷ 1 ∷ 0 ∷ 2 ∷ 0 ∷ 2 ∷ 0 ∷ 3 ∷ 0 ∷ 3 ∷ 0 ∷ 4 ∷ 0
+    ∷ 4 ∷ 0 ∷ 5 ∷ 0
+    ∷ []
+
+-- T: local, 2 versions, initial 0; 1 remap 1, 2 read, 3 exit; edges 0-1, 0-2, 1-2, 2-3
+abbrev pub T : List ℕ
+T =
+    72 ∷ 80 ∷ 70 ∷ 82 ∷ 1 ∷ 0 ∷ 18 ∷ 0 ∷ 1 ∷ 0 ∷ 22 ∷ 0 ∷ 4 ∷ 0 ∷ 26 ∷ 0 ∷ 4 ∷ 0
+    ∷ 0 ∷ 2 ∷ 0 ∷ 0
+    ∷ 0x00 ∷ 0x41 ∷ 0x10 ∷ 0x00
+    ∷ 0 ∷ 0 ∷ 1 ∷ 0 ∷ 0 ∷ 0 ∷ 2 ∷ 0 ∷ 1 ∷ 0 ∷ 2 ∷ 0 ∷ 2 ∷ 0 ∷ 3 ∷ 0
+    ∷ []
+
+-- T with nothing at 2
+abbrev pub T-with-nothing : List ℕ
+T-with-nothing =
+    72 ∷ 80 ∷ 70 ∷ 82 ∷ 1 ∷ 0 ∷ 18 ∷ 0 ∷ 1 ∷ 0 ∷ 22 ∷ 0 ∷ 4 ∷ 0 ∷ 26 ∷ 0 ∷ 4 ∷ 0
+    ∷ 0 ∷ 2 ∷ 0 ∷ 0
+    ∷ 0x00 ∷ 0x41 ∷ 0x00 ∷ 0x00
+    ∷ 0 ∷ 0 ∷ 1 ∷ 0 ∷ 0 ∷ 0 ∷ 2 ∷ 0 ∷ 1 ∷ 0 ∷ 2 ∷ 0 ∷ 2 ∷ 0 ∷ 3 ∷ 0
+    ∷ []
+
+-- U, not of document 01: local, 2 versions, initial 0, a chain: 1 define, 2 remap 1, 3 define, 4 read, 5 remap 0, 6 read, 7 exit
+abbrev pub U : List ℕ
+U =
+    72 ∷ 80 ∷ 70 ∷ 82 ∷ 1 ∷ 0 ∷ 18 ∷ 0 ∷ 1 ∷ 0 ∷ 22 ∷ 0 ∷ 8 ∷ 0 ∷ 30 ∷ 0 ∷ 7 ∷ 0
+    ∷ 0 ∷ 2 ∷ 0 ∷ 0
+    ∷ 0x00 ∷ 0x20 ∷ 0x41 ∷ 0x20 ∷ 0x10 ∷ 0x40 ∷ 0x10 ∷ 0x00
+    ∷ 0 ∷ 0 ∷ 1 ∷ 0 ∷ 1 ∷ 0 ∷ 2 ∷ 0 ∷ 2 ∷ 0 ∷ 3 ∷ 0 ∷ 3 ∷ 0 ∷ 4 ∷ 0
+    ∷ 4 ∷ 0 ∷ 5 ∷ 0 ∷ 5 ∷ 0 ∷ 6 ∷ 0 ∷ 6 ∷ 0 ∷ 7 ∷ 0
+    ∷ []
+
+-- ---- paths: 16-bit vertices
+
+-- 0 1 2 3 4 5 6 2 3
+abbrev pub path2 : List ℕ
+path2 = 0 ∷ 0 ∷ 1 ∷ 0 ∷ 2 ∷ 0 ∷ 3 ∷ 0 ∷ 4 ∷ 0 ∷ 5 ∷ 0 ∷ 6 ∷ 0 ∷ 2 ∷ 0 ∷ 3 ∷ 0 ∷ []
+
+-- 0 1 3 4
+abbrev pub path4 : List ℕ
+path4 = 0 ∷ 0 ∷ 1 ∷ 0 ∷ 3 ∷ 0 ∷ 4 ∷ 0 ∷ []
+
+-- 0 1 2 3 4
+abbrev pub path5 : List ℕ
+path5 = 0 ∷ 0 ∷ 1 ∷ 0 ∷ 2 ∷ 0 ∷ 3 ∷ 0 ∷ 4 ∷ 0 ∷ []
+
+-- 0 1 2 3 4
+abbrev pub path6 : List ℕ
+path6 = 0 ∷ 0 ∷ 1 ∷ 0 ∷ 2 ∷ 0 ∷ 3 ∷ 0 ∷ 4 ∷ 0 ∷ []
+
+-- 0 1 2 3 4 5 6
+abbrev pub pathU : List ℕ
+pathU = 0 ∷ 0 ∷ 1 ∷ 0 ∷ 2 ∷ 0 ∷ 3 ∷ 0 ∷ 4 ∷ 0 ∷ 5 ∷ 0 ∷ 6 ∷ 0 ∷ []
+
+-- ---- the table
+
+-- 1. ★ P's labels
+abbrev pub case1 : Case
+case1 =
+    plans
+    (record {
+      file = P;
+      lines =
+          line 0 0 D (some 0) 0x0000 0x0001
+          ∷ line 2 0 R (some 1) 0x0001 0x0003
+          ∷ line 4 0 N none 0x0002 0x0003
+          ∷ line 5 0 R (some 0) 0x0002 0x0003
+          ∷ [];
+      plan =
+          72 ∷ 80 ∷ 70 ∷ 80 ∷ 8 ∷ 0 ∷ 4 ∷ 0
+          ∷ 0 ∷ 0 ∷ 1 ∷ 0 ∷ 1 ∷ 0 ∷ 0 ∷ 0 ∷ 1 ∷ 0 ∷ 1 ∷ 0 ∷ 2 ∷ 0 ∷ 0 ∷ 0
+          ∷ 2 ∷ 0 ∷ 1 ∷ 0 ∷ 3 ∷ 0 ∷ 1 ∷ 0 ∷ 4 ∷ 0 ∷ 0 ∷ 0 ∷ 4 ∷ 0 ∷ 0 ∷ 0
+          ∷ 0 ∷ 68 ∷ 0 ∷ 0 ∷ 0 ∷ 0 ∷ 1 ∷ 0
+          ∷ 0 ∷ 82 ∷ 1 ∷ 0 ∷ 1 ∷ 0 ∷ 3 ∷ 0
+          ∷ 0 ∷ 78 ∷ 255 ∷ 0 ∷ 2 ∷ 0 ∷ 3 ∷ 0
+          ∷ 0 ∷ 82 ∷ 0 ∷ 0 ∷ 2 ∷ 0 ∷ 3 ∷ 0
+          ∷ [];
+    })
+
+-- 2. ★ P, path 0 1 2 3 4 5 6 2 3: one copy, against 4; reads see stamp 2 in versions 1, 0, 1
+abbrev pub case2 : Case
+case2 =
+    runs
+    (record {
+      file = P;
+      path = path2;
+      copies = 1;
+      against = 4;
+      reads = seen 2 1 ∷ seen 2 0 ∷ seen 2 1 ∷ [];
+      report =
+          1 ∷ 0 ∷ 3 ∷ 0 ∷ 1 ∷ 0
+          ∷ 2 ∷ 0 ∷ 0 ∷ 0 ∷ 2 ∷ 0 ∷ 0 ∷ 0 ∷ 2 ∷ 0
+          ∷ 4 ∷ 0 ∷ 0 ∷ 1 ∷ 1 ∷ 0 ∷ 2 ∷ 0 ∷ 0 ∷ 0
+          ∷ 7 ∷ 0 ∷ 0 ∷ 0 ∷ 1 ∷ 0 ∷ 2 ∷ 0 ∷ 0 ∷ 0
+          ∷ 9 ∷ 0 ∷ 0 ∷ 1 ∷ 1 ∷ 0 ∷ 2 ∷ 0 ∷ 0 ∷ 0
+          ∷ [];
+    })
+
+-- 3. ★ Q: use at 1 is W
+abbrev pub case3 : Case
+case3 =
+    plans
+    (record {
+      file = Q;
+      lines =
+          line 0 0 N none 0x0001 0x0002
+          ∷ line 1 0 W (some 1) 0x0001 0x0002
+          ∷ line 3 0 R (some 0) 0x0002 0x0001
+          ∷ line 5 0 W (some 0) 0x0001 0x0001
+          ∷ [];
+      plan =
+          72 ∷ 80 ∷ 70 ∷ 80 ∷ 6 ∷ 0 ∷ 4 ∷ 0
+          ∷ 0 ∷ 0 ∷ 1 ∷ 0 ∷ 1 ∷ 0 ∷ 1 ∷ 0 ∷ 2 ∷ 0 ∷ 0 ∷ 0 ∷ 2 ∷ 0 ∷ 1 ∷ 0
+          ∷ 3 ∷ 0 ∷ 0 ∷ 0 ∷ 3 ∷ 0 ∷ 1 ∷ 0
+          ∷ 0 ∷ 78 ∷ 255 ∷ 0 ∷ 1 ∷ 0 ∷ 2 ∷ 0
+          ∷ 0 ∷ 87 ∷ 1 ∷ 0 ∷ 1 ∷ 0 ∷ 2 ∷ 0
+          ∷ 0 ∷ 82 ∷ 0 ∷ 0 ∷ 2 ∷ 0 ∷ 1 ∷ 0
+          ∷ 0 ∷ 87 ∷ 0 ∷ 0 ∷ 1 ∷ 0 ∷ 1 ∷ 0
+          ∷ [];
+    })
+
+-- 4. ★ Q, path 0 1 3 4: read sees 65,535; two copies
+abbrev pub case4 : Case
+case4 =
+    runs
+    (record {
+      file = Q;
+      path = path4;
+      copies = 2;
+      against = 2;
+      reads = seen 65535 0 ∷ [];
+      report =
+          2 ∷ 0 ∷ 1 ∷ 0 ∷ 0 ∷ 0
+          ∷ 4 ∷ 0 ∷ 0 ∷ 0 ∷ 1 ∷ 0 ∷ 255 ∷ 255 ∷ 0 ∷ 0
+          ∷ [];
+    })
+
+-- 5. ★ Q, path 0 1 2 3 4: read sees 3
+abbrev pub case5 : Case
+case5 =
+    runs
+    (record {
+      file = Q;
+      path = path5;
+      copies = 2;
+      against = 2;
+      reads = seen 3 0 ∷ [];
+      report =
+          2 ∷ 0 ∷ 1 ∷ 0 ∷ 0 ∷ 0
+          ∷ 3 ∷ 0 ∷ 0 ∷ 1 ∷ 2 ∷ 0 ∷ 0 ∷ 0 ∷ 3 ∷ 0
+          ∷ 5 ∷ 0 ∷ 0 ∷ 0 ∷ 1 ∷ 0 ∷ 3 ∷ 0 ∷ 0 ∷ 0
+          ∷ [];
+    })
+
+-- 6. ★ S, path 0 1 2 3 4: read sees 2 in version 2, one copy against 2; the lines `1 4 2`, `2 0 0 2 0 2` and `5 0 2 1 2 0`
+abbrev pub case6 : Case
+case6 =
+    runs
+    (record {
+      file = S;
+      path = path6;
+      copies = 1;
+      against = 2;
+      reads = seen 2 2 ∷ [];
+      report =
+          1 ∷ 0 ∷ 4 ∷ 0 ∷ 2 ∷ 0
+          ∷ 2 ∷ 0 ∷ 0 ∷ 0 ∷ 2 ∷ 0 ∷ 0 ∷ 0 ∷ 2 ∷ 0
+          ∷ 5 ∷ 0 ∷ 0 ∷ 2 ∷ 1 ∷ 0 ∷ 2 ∷ 0 ∷ 0 ∷ 0
+          ∷ [];
+    })
+
+-- 7. ★ T: refused 21, places 2 and 0
+abbrev pub case7 : Case
+case7 = refuses (record { file = T; outcome = refused 21 2 0 })
+
+-- 8. ★ T with nothing at 2: accepted
+abbrev pub case8 : Case
+case8 =
+    plans
+    (record {
+      file = T-with-nothing;
+      lines =
+          line 0 0 N none 0x0000 0x0000
+          ∷ line 1 0 N none 0x0000 0x0000
+          ∷ [];
+      plan =
+          72 ∷ 80 ∷ 70 ∷ 80 ∷ 4 ∷ 0 ∷ 2 ∷ 0
+          ∷ 0 ∷ 0 ∷ 1 ∷ 0 ∷ 1 ∷ 0 ∷ 1 ∷ 0 ∷ 2 ∷ 0 ∷ 0 ∷ 0 ∷ 2 ∷ 0 ∷ 0 ∷ 0
+          ∷ 0 ∷ 78 ∷ 255 ∷ 0 ∷ 0 ∷ 0 ∷ 0 ∷ 0
+          ∷ 0 ∷ 78 ∷ 255 ∷ 0 ∷ 0 ∷ 0 ∷ 0 ∷ 0
+          ∷ [];
+    })
+
+-- not starred: S's labels
+abbrev pub caseS : Case
+caseS =
+    plans
+    (record {
+      file = S;
+      lines =
+          line 0 0 D (some 0) 0x0000 0x0001
+          ∷ line 2 0 N none 0x0001 0x0004
+          ∷ line 3 0 R (some 2) 0x0001 0x0004
+          ∷ [];
+      plan =
+          72 ∷ 80 ∷ 70 ∷ 80 ∷ 6 ∷ 0 ∷ 3 ∷ 0
+          ∷ 0 ∷ 0 ∷ 1 ∷ 0 ∷ 1 ∷ 0 ∷ 0 ∷ 0 ∷ 1 ∷ 0 ∷ 1 ∷ 0 ∷ 2 ∷ 0 ∷ 1 ∷ 0
+          ∷ 3 ∷ 0 ∷ 0 ∷ 0 ∷ 3 ∷ 0 ∷ 0 ∷ 0
+          ∷ 0 ∷ 68 ∷ 0 ∷ 0 ∷ 0 ∷ 0 ∷ 1 ∷ 0
+          ∷ 0 ∷ 78 ∷ 255 ∷ 0 ∷ 1 ∷ 0 ∷ 4 ∷ 0
+          ∷ 0 ∷ 82 ∷ 2 ∷ 0 ∷ 1 ∷ 0 ∷ 4 ∷ 0
+          ∷ [];
+    })
+
+-- not starred: U's labels, among them `2 0 D 1 0001 0002`
+abbrev pub caseU : Case
+caseU =
+    plans
+    (record {
+      file = U;
+      lines =
+          line 0 0 D (some 0) 0x0000 0x0001
+          ∷ line 2 0 D (some 1) 0x0001 0x0002
+          ∷ line 5 0 R (some 0) 0x0002 0x0001
+          ∷ [];
+      plan =
+          72 ∷ 80 ∷ 70 ∷ 80 ∷ 8 ∷ 0 ∷ 3 ∷ 0
+          ∷ 0 ∷ 0 ∷ 1 ∷ 0 ∷ 1 ∷ 0 ∷ 0 ∷ 0 ∷ 1 ∷ 0 ∷ 1 ∷ 0 ∷ 2 ∷ 0 ∷ 0 ∷ 0
+          ∷ 2 ∷ 0 ∷ 0 ∷ 0 ∷ 2 ∷ 0 ∷ 1 ∷ 0 ∷ 3 ∷ 0 ∷ 0 ∷ 0 ∷ 3 ∷ 0 ∷ 0 ∷ 0
+          ∷ 0 ∷ 68 ∷ 0 ∷ 0 ∷ 0 ∷ 0 ∷ 1 ∷ 0
+          ∷ 0 ∷ 68 ∷ 1 ∷ 0 ∷ 1 ∷ 0 ∷ 2 ∷ 0
+          ∷ 0 ∷ 82 ∷ 0 ∷ 0 ∷ 2 ∷ 0 ∷ 1 ∷ 0
+          ∷ [];
+    })
+
+-- not starred: U, path 0 1 2 3 4 5 6: the last read sees 4
+abbrev pub runU : Case
+runU =
+    runs
+    (record {
+      file = U;
+      path = pathU;
+      copies = 1;
+      against = 2;
+      reads = seen 4 1 ∷ seen 4 0 ∷ [];
+      report =
+          1 ∷ 0 ∷ 1 ∷ 0 ∷ 0 ∷ 0
+          ∷ 2 ∷ 0 ∷ 0 ∷ 0 ∷ 2 ∷ 0 ∷ 0 ∷ 0 ∷ 2 ∷ 0
+          ∷ 4 ∷ 0 ∷ 0 ∷ 1 ∷ 2 ∷ 0 ∷ 0 ∷ 0 ∷ 4 ∷ 0
+          ∷ 5 ∷ 0 ∷ 0 ∷ 1 ∷ 1 ∷ 0 ∷ 4 ∷ 0 ∷ 0 ∷ 0
+          ∷ 7 ∷ 0 ∷ 0 ∷ 0 ∷ 1 ∷ 0 ∷ 4 ∷ 0 ∷ 0 ∷ 0
+          ∷ [];
+    })
+
+abbrev pub cases : List Case
+cases = case1 ∷ case2 ∷ case3 ∷ case4 ∷ case5 ∷ case6 ∷ case7 ∷ case8 ∷ caseS ∷ caseU ∷ runU ∷ []

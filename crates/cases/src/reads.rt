@@ -1,0 +1,162 @@
+// The reader's answers (document 01, "Routine file", "Who can cause a refusal", case 9): for an accepted file 0 and the counts of arrays,
+// vertices and edges; for a refused one the number and the two places.
+use crate::build;
+use crate::build::Buffer;
+use routine::reader;
+use routine::reader::Answer;
+use routine::refusal::Reply;
+ghost use Prim.Native.Nat.{_≤_};
+
+fn write_answer(file: &[u8]) {
+    match reader::read(file) {
+        Answer::Routine(h) => {
+            listing::number(0);
+            listing::next(h.arrays as u64);
+            listing::next(h.vertices as u64);
+            listing::next(h.edges as u64);
+            listing::text(b"\n");
+        }
+        Answer::Refused(r) => listing::outcome(Reply::Denied(r)),
+    }
+}
+
+// The answer for the first `length` bytes.
+fn case(name: &[u8], file: Buffer, length: usize)
+    requires { ⌜ length ≤ 8192 ⌝ }
+{
+    listing::text(name);
+    listing::text(b" ");
+    write_answer(&file[..length]);
+}
+
+// The first `length` bytes of routine P, and zeros past its 62.
+fn p_of_length(name: &[u8], length: usize)
+    requires { ⌜ length ≤ 8192 ⌝ }
+{
+    let mut file = build::zeros();
+    build::put_p(&mut file);
+    case(name, file, length);
+}
+
+// Routine P with another byte.
+fn p_with(name: &[u8], at: usize, byte: u8) {
+    let mut file = build::zeros();
+    build::put_p(&mut file);
+    build::put(&mut file, at, byte);
+    case(name, file, 62);
+}
+
+// Routine P with two other bytes.
+fn p_with_two(name: &[u8], at: usize, byte: u8, at2: usize, byte2: u8) {
+    let mut file = build::zeros();
+    build::put_p(&mut file);
+    build::put(&mut file, at, byte);
+    build::put(&mut file, at2, byte2);
+    case(name, file, 62);
+}
+
+// A routine whose vertices do nothing.
+fn idle(name: &[u8], arrays: usize, vertices: usize, edges: usize)
+    requires { ⌜ arrays ≤ 9 ⌝ }
+    requires { ⌜ vertices ≤ 257 ⌝ }
+    requires { ⌜ edges ≤ 1025 ⌝ }
+{
+    let mut file = build::zeros();
+    let length = build::put_idle(&mut file, arrays, vertices, edges);
+    case(name, file, length);
+}
+
+// Two arrays and three vertices, the middle one with these actions at bytes 28 and 29.
+fn middle_row(name: &[u8], first: u8, second: u8) {
+    let mut file = build::zeros();
+    let length = build::put_idle(&mut file, 2, 3, 0);
+    build::put(&mut file, 28, first);
+    build::put(&mut file, 29, second);
+    case(name, file, length);
+}
+
+fn accepted() {
+    p_of_length(b"p", 62);
+    idle(b"largest", 8, 256, 1024);
+}
+
+// 10: under 18 bytes, wrong mark. 11: edition.
+fn marks_and_editions() {
+    p_of_length(b"empty", 0);
+    p_of_length(b"under_18_bytes", 17);
+    p_with(b"mark_first_byte", 0, b'h');
+    p_with(b"mark_last_byte", 3, b'P');
+    p_with(b"edition_2", 4, 2);
+    p_with(b"edition_257", 5, 1);
+}
+
+// 12.
+fn counts() {
+    p_with(b"arrays_0", 8, 0);
+    idle(b"arrays_8", 8, 2, 0);
+    idle(b"arrays_9", 9, 2, 0);
+    p_with(b"vertices_1", 12, 1);
+    idle(b"vertices_2", 1, 2, 0);
+    idle(b"vertices_256", 1, 256, 0);
+    idle(b"vertices_257", 1, 257, 0);
+    idle(b"edges_1024", 1, 66, 1024);
+    idle(b"edges_1025", 1, 66, 1025);
+}
+
+// 13; a wrong count comes first.
+fn offsets_and_lengths() {
+    p_with(b"arrays_offset", 6, 19);
+    p_with(b"vertices_offset", 10, 23);
+    p_with(b"edges_offset", 14, 29);
+    p_of_length(b"a_byte_short", 61);
+    p_of_length(b"a_byte_long", 63);
+    p_with_two(b"count_before_offset", 6, 19, 17, 5);
+}
+
+// 14; the lowest byte comes first.
+fn array_bytes() {
+    p_with(b"kind_3", 18, 3);
+    p_with(b"kind_4", 18, 4);
+    p_with(b"versions_0", 19, 0);
+    p_with(b"versions_16", 19, 16);
+    p_with(b"versions_17", 19, 17);
+    p_with(b"initial_2_of_3", 20, 2);
+    p_with(b"initial_3_of_3", 20, 3);
+    p_with(b"fourth_byte_1", 21, 1);
+    p_with_two(b"lowest_byte_first", 21, 1, 18, 4);
+}
+
+// 15.
+fn action_bytes() {
+    p_with(b"action_11", 25, 0x11);
+    p_with(b"action_50", 23, 0x50);
+    p_with(b"remap_2_of_3", 24, 0x42);
+    p_with(b"remap_3_of_3", 24, 0x43);
+    p_with(b"entry_row", 22, 0x10);
+    p_with(b"exit_row", 29, 0x40);
+    middle_row(b"row_of_references", 0x10, 0x30);
+    middle_row(b"row_of_remappings", 0x40, 0x40);
+    middle_row(b"remap_after_read", 0x10, 0x40);
+    middle_row(b"define_after_remap", 0x40, 0x20);
+}
+
+// 16.
+fn edges() {
+    p_with(b"edge_from_8_of_8", 30, 8);
+    p_with(b"edge_to_8_of_8", 60, 8);
+    p_with(b"edge_into_entry", 56, 0);
+    p_with(b"edge_out_of_exit", 58, 7);
+    p_with(b"edge_to_itself", 36, 1);
+    p_with_two(b"edge_falls", 38, 1, 40, 1);
+    p_with_two(b"edge_twice", 34, 0, 36, 1);
+}
+
+pub fn all() {
+    accepted();
+    marks_and_editions();
+    counts();
+    offsets_and_lengths();
+    array_bytes();
+    action_bytes();
+    edges();
+}

@@ -1,0 +1,104 @@
+// The run program (document 01, "Routine P and others"): reads the files `routine` and `path` and prints the report of the run, or the
+// refusal; a path beyond 512 vertices prints `long` and no more.
+use routine::refusal::Reply;
+ghost use Prim.Native.Nat.{_≤_};
+ghost use Rattle.io.specs.Counts.{Counts};
+
+// More than the longest routine file, which has 6,194 bytes: a byte too many is seen, and no later one matters.
+const ROUTINE: usize = 6195;
+
+// 513 vertices: as many are too long.
+const PATH: usize = 1026;
+
+// The longest report of 512 vertices: 8 arrays, and 8 references at each vertex but the entry.
+const REPORT: usize = 40928;
+
+// The number of bytes read; a file that cannot be opened counts as empty.
+fn read_file(name: &[u8], buf: &mut [u8]) -> usize
+    ensures { λ r. ⌜ Counts r (now (buf .exit)) ⌝ }
+{
+    let fd = os::open_read(name);
+    if fd < 0 {
+        return 0;
+    }
+    let n = io::read_full(fd, buf);
+    libc::close(fd);
+    n
+}
+
+// An array's entry as a line: copies, live set, current version.
+fn print_entry(report: &[u8], at: usize)
+    requires { ⌜ at ≤ 2000000 ⌝ }
+{
+    listing::number(listing::word(report, at));
+    listing::next(listing::word(report, at + 2));
+    listing::next(listing::byte(report, at + 4));
+    listing::text(b"\n");
+}
+
+// A record as a line: step, array, version, kind, stamp seen, new stamp.
+fn print_record(report: &[u8], at: usize)
+    requires { ⌜ at ≤ 2000000 ⌝ }
+{
+    listing::number(listing::word(report, at));
+    listing::next(listing::byte(report, at + 2));
+    listing::next(listing::byte(report, at + 3));
+    listing::next(listing::byte(report, at + 4));
+    listing::next(listing::word(report, at + 6));
+    listing::next(listing::word(report, at + 8));
+    listing::text(b"\n");
+}
+
+fn print_entries(report: &[u8], arrays: u64)
+    requires { ⌜ arrays ≤ 65535 ⌝ }
+{
+    let mut a: u64 = 0;
+    while a < arrays {
+        print_entry(report, 6 * (a as usize));
+        a += 1;
+    }
+}
+
+// The records from `at` on, up to the report's end.
+fn print_records(report: &[u8], from: usize, length: usize)
+    requires { ⌜ length ≤ 1000000 ⌝ }
+{
+    let mut at = from;
+    while at < length {
+        print_record(report, at);
+        at += 10;
+    }
+}
+
+fn print_report(file: &[u8], report: &[u8], length: usize) {
+    let arrays = listing::word(file, 8);
+    print_entries(report, arrays);
+    if length <= REPORT {
+        print_records(report, 6 * (arrays as usize), length);
+    }
+}
+
+fn print_run(file: &[u8], path: &[u8], report: &mut [u8]) {
+    let reply = run::run(file, path, report);
+    match reply {
+        Reply::Written(length) => print_report(file, report, length),
+        Reply::Denied(_) => listing::outcome(reply),
+    }
+}
+
+fn run_files(file: &mut [u8], path: &mut [u8], report: &mut [u8]) {
+    let n = read_file(b"path", path);
+    if n >= PATH {
+        listing::text(b"long\n");
+        return;
+    }
+    let k = read_file(b"routine", file);
+    print_run(&file[..k], &path[..n], report);
+}
+
+fn main() {
+    let mut file = [0u8; ROUTINE];
+    let mut path = [0u8; PATH];
+    let mut report = [0u8; REPORT];
+    run_files(&mut file, &mut path, &mut report);
+}

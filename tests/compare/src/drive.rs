@@ -1,0 +1,297 @@
+//! The whole comparison: which inputs are tried, in which order.
+
+use crate::check::{Fault, check};
+use crate::library::{Input, Library};
+use crate::shrink::shrink;
+use crate::tally::Tally;
+use oracle::builder::{self, Draft, path_bytes};
+use oracle::generate::rng::Rng;
+use oracle::generate::routines::{self, Size};
+use oracle::generate::{damage, limits, paths};
+
+/// What a comparison tries.
+#[derive(Clone, Copy, Debug)]
+pub struct Options {
+    /// Random routines that are planned.
+    pub routines: u64,
+    /// Random paths that are run.
+    pub paths: u64,
+    pub seed: u64,
+    /// The runner is left out.
+    pub plan_only: bool,
+}
+
+/// An input on which library and oracle differ, made small.
+#[derive(Debug)]
+pub struct Mismatch {
+    pub kind: &'static str,
+    /// Number of the input within its kind.
+    pub index: u64,
+    pub input: Input,
+    pub fault: Fault,
+}
+
+type Compared = Result<(), Box<Mismatch>>;
+
+struct Driver<'a> {
+    library: &'a Library,
+    options: Options,
+    tally: Tally,
+}
+
+/// Compares a library with the oracle on all inputs, up to the first mismatch.
+pub fn compare(library: &Library, options: Options) -> Result<Tally, Box<Mismatch>> {
+    let mut driver = Driver {
+        library,
+        options,
+        tally: Tally::default(),
+    };
+    driver.named_plans()?;
+    driver.plans_at_limits()?;
+    driver.small_plans()?;
+    driver.damaged_plans()?;
+    driver.random_plans()?;
+    if !options.plan_only {
+        driver.named_runs()?;
+        driver.runs_at_limits()?;
+        driver.small_runs()?;
+        driver.damaged_runs()?;
+        driver.random_runs()?;
+    }
+    Ok(driver.tally)
+}
+
+/// Routines with a name, each with paths.
+fn named() -> Vec<(Draft, Vec<Vec<u16>>)> {
+    vec![
+        (
+            builder::p(),
+            vec![
+                vec![0, 1, 2, 3, 4, 5, 6, 2, 3],
+                vec![0, 1, 2, 3, 4, 5, 6, 7],
+                vec![0, 2],
+            ],
+        ),
+        (
+            builder::q(),
+            vec![
+                vec![0, 1, 3, 4],
+                vec![0, 1, 2, 3, 4],
+                vec![0, 1, 3, 4, 5],
+                vec![0, 1, 2, 3, 4, 5],
+            ],
+        ),
+        (builder::s(), vec![vec![0, 1, 2, 3, 4], vec![0]]),
+        (builder::t(), vec![vec![0, 1, 2, 3], vec![]]),
+        (builder::t_without_read(), vec![vec![0, 2, 3]]),
+        (
+            builder::u(),
+            vec![vec![0, 1, 2, 3, 4, 5, 6], vec![0, 1, 2, 3, 4, 5, 6, 7]],
+        ),
+    ]
+}
+
+/// Small routines whose files are damaged at every byte: those with a name, and some of
+/// several arrays.
+fn small(seed: u64) -> Vec<Draft> {
+    let size = Size {
+        vertices: 6,
+        arrays: 3,
+        versions: 4,
+    };
+    let mut rng = Rng::new(seed);
+    let mut drafts: Vec<Draft> = named().into_iter().map(|(draft, _)| draft).collect();
+    drafts.extend((0..4).map(|_| routines::accepted(&mut rng, size)));
+    drafts
+}
+
+impl Driver<'_> {
+    fn try_one(&mut self, kind: &'static str, index: u64, input: Input) -> Compared {
+        match check(self.library, &input) {
+            Ok(numbers) => {
+                self.tally.count(kind, input.path.is_some(), &numbers);
+                Ok(())
+            }
+            Err(_) => Err(self.mismatch(kind, index, input)),
+        }
+    }
+
+    fn try_all(&mut self, kind: &'static str, inputs: impl Iterator<Item = Input>) -> Compared {
+        for (index, input) in inputs.enumerate() {
+            self.try_one(kind, index as u64, input)?;
+        }
+        Ok(())
+    }
+
+    fn mismatch(&self, kind: &'static str, index: u64, input: Input) -> Box<Mismatch> {
+        let input = shrink(input, &|input| check(self.library, input).is_err());
+        match check(self.library, &input) {
+            Err(fault) => Box::new(Mismatch {
+                kind,
+                index,
+                input,
+                fault: *fault,
+            }),
+            Ok(_) => unreachable!("a shrunk input still differs"),
+        }
+    }
+
+    fn named_plans(&mut self) -> Compared {
+        let inputs = named()
+            .into_iter()
+            .map(|(draft, _)| Input::plan(draft.bytes()));
+        self.try_all("plan, named", inputs)
+    }
+
+    fn plans_at_limits(&mut self) -> Compared {
+        let mut rng = Rng::new(self.options.seed);
+        let mut drafts = limits::at_limits(&mut rng);
+        drafts.extend(limits::beyond_limits());
+        let inputs = drafts.iter().map(|draft| Input::plan(draft.bytes()));
+        self.try_all("plan, limits", inputs)
+    }
+
+    fn small_plans(&mut self) -> Compared {
+        let inputs = routines::all_of_four_vertices().map(|draft| Input::plan(draft.bytes()));
+        self.try_all("plan, all of four vertices", inputs)
+    }
+
+    fn damaged_plans(&mut self) -> Compared {
+        for draft in small(self.options.seed) {
+            let file = draft.bytes();
+            let inputs = damage::every_byte(&file).map(Input::plan);
+            self.try_all("plan, every byte damaged", inputs)?;
+            let inputs = damage::every_length(&file).map(Input::plan);
+            self.try_all("plan, every length", inputs)?;
+        }
+        Ok(())
+    }
+
+    fn random_plans(&mut self) -> Compared {
+        for index in 0..self.options.routines {
+            let mut rng = Rng::for_input(self.options.seed, index);
+            let size = Size::any(&mut rng);
+            let (kind, file) = match index % 10 {
+                0..=2 => {
+                    let mut draft = routines::program(&mut rng, size);
+                    routines::make_acceptable(&mut rng, &mut draft);
+                    ("plan, program made acceptable", draft.bytes())
+                }
+                3 | 4 => (
+                    "plan, program as drawn",
+                    routines::program(&mut rng, size).bytes(),
+                ),
+                5 => {
+                    let mut draft = routines::any_graph(&mut rng, size);
+                    routines::make_acceptable(&mut rng, &mut draft);
+                    ("plan, graph made acceptable", draft.bytes())
+                }
+                6 => (
+                    "plan, graph as drawn",
+                    routines::any_graph(&mut rng, size).bytes(),
+                ),
+                7 | 8 => {
+                    let number = rng.pick(&damage::FILE_REFUSALS);
+                    ("plan, refused by number", damage::refused(&mut rng, number))
+                }
+                _ => ("plan, several faults", damage::several_faults(&mut rng)),
+            };
+            self.try_one(kind, index, Input::plan(file))?;
+        }
+        Ok(())
+    }
+
+    fn named_runs(&mut self) -> Compared {
+        for (draft, paths) in named() {
+            let inputs = paths
+                .iter()
+                .map(|path| Input::run(draft.bytes(), path_bytes(path)));
+            self.try_all("run, named", inputs)?;
+        }
+        Ok(())
+    }
+
+    fn runs_at_limits(&mut self) -> Compared {
+        let kind = "run, limits";
+        let longest = limits::longest_path();
+        let mut too_long = longest.clone();
+        too_long.push(1);
+        let mut odd = path_bytes(&longest);
+        odd.push(1);
+        for draft in [limits::largest_report(), limits::largest_plan()] {
+            let paths = [path_bytes(&longest), path_bytes(&too_long), odd.clone()];
+            let inputs = paths.map(|path| Input::run(draft.bytes(), path));
+            self.try_all(kind, inputs.into_iter())?;
+        }
+        let mut rng = Rng::new(self.options.seed);
+        for (index, draft) in limits::at_limits(&mut rng).iter().enumerate() {
+            let path = path_bytes(&paths::walk(&mut rng, draft, 4096));
+            self.try_one(kind, index as u64, Input::run(draft.bytes(), path))?;
+        }
+        Ok(())
+    }
+
+    /// One path through each routine of four vertices.
+    fn small_runs(&mut self) -> Compared {
+        let mut rng = Rng::new(self.options.seed);
+        let inputs = routines::all_of_four_vertices().map(|draft| {
+            let wanted = rng.between(2, 8);
+            let path = paths::walk(&mut rng, &draft, wanted);
+            Input::run(draft.bytes(), path_bytes(&path))
+        });
+        self.try_all("run, all of four vertices", inputs)
+    }
+
+    /// Every byte and length of P and Q with a path of each, and of the path.
+    fn damaged_runs(&mut self) -> Compared {
+        for (draft, paths) in named().into_iter().take(2) {
+            let file = draft.bytes();
+            let path = path_bytes(&paths[0]);
+            let run = |file| Input::run(file, path.clone());
+            self.try_all(
+                "run, every byte damaged",
+                damage::every_byte(&file).map(run),
+            )?;
+            self.try_all("run, every length", damage::every_length(&file).map(run))?;
+            let run = |path| Input::run(file.clone(), path);
+            self.try_all(
+                "run, every path byte damaged",
+                damage::every_byte(&path).map(run),
+            )?;
+            self.try_all(
+                "run, every path length",
+                damage::every_length(&path).map(run),
+            )?;
+        }
+        Ok(())
+    }
+
+    fn random_runs(&mut self) -> Compared {
+        for index in 0..self.options.paths {
+            // Another seed than for plans, so that the routines differ.
+            let mut rng = Rng::for_input(!self.options.seed, index);
+            let size = Size::any(&mut rng);
+            let (kind, file, path) = match index % 10 {
+                0..=6 => {
+                    let draft = routines::accepted(&mut rng, size);
+                    let wanted = paths::any_length(&mut rng);
+                    let path = path_bytes(&paths::walk(&mut rng, &draft, wanted));
+                    ("run, path along edges", draft.bytes(), path)
+                }
+                7 | 8 => {
+                    let draft = routines::accepted(&mut rng, size);
+                    let path = paths::damaged(&mut rng, &draft);
+                    ("run, damaged path", draft.bytes(), path)
+                }
+                _ => {
+                    let number = rng.pick(&damage::FILE_REFUSALS);
+                    let file = damage::refused(&mut rng, number);
+                    let path = (0..rng.below(12)).map(|_| rng.below(3) as u8).collect();
+                    ("run, refused routine", file, path)
+                }
+            };
+            self.try_one(kind, index, Input::run(file, path))?;
+        }
+        Ok(())
+    }
+}

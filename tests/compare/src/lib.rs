@@ -1,0 +1,11 @@
+//! Holds a library with the two calls against the oracle, byte by byte.
+
+pub mod check;
+pub mod drive;
+pub mod library;
+pub mod render;
+pub mod shrink;
+pub mod tally;
+
+#[cfg(test)]
+mod self_test;

@@ -1,0 +1,185 @@
+//! Routine files made from their parts, and the routines that have names.
+
+use crate::routine::HEAD;
+
+pub const READ: u8 = 0x10;
+pub const DEFINE: u8 = 0x20;
+pub const MODIFY: u8 = 0x30;
+
+pub const LOCAL: u8 = 0;
+pub const IN: u8 = 1;
+pub const OUT: u8 = 2;
+pub const INOUT: u8 = 3;
+
+/// The byte of a remap to a version.
+pub const fn remap(version: u8) -> u8 {
+    0x40 + version
+}
+
+/// The parts of a routine file, right or wrong.
+#[derive(Clone, Debug, Default, PartialEq, Eq)]
+pub struct Draft {
+    /// Kind, versions, initial version, zero.
+    pub arrays: Vec<[u8; 4]>,
+    /// One row of action bytes for each vertex.
+    pub rows: Vec<Vec<u8>>,
+    pub edges: Vec<(u16, u16)>,
+}
+
+impl Draft {
+    /// A routine of one array; `actions` are those of the vertices between entry and exit.
+    pub fn one_array(
+        kind: u8,
+        versions: u8,
+        initial: u8,
+        actions: &[u8],
+        edges: &[(u16, u16)],
+    ) -> Draft {
+        let mut rows = vec![vec![0]];
+        rows.extend(actions.iter().map(|&action| vec![action]));
+        rows.push(vec![0]);
+        Draft {
+            arrays: vec![[kind, versions, initial, 0]],
+            rows,
+            edges: edges.to_vec(),
+        }
+    }
+
+    /// A routine of one array whose vertices form a chain.
+    pub fn chain(kind: u8, versions: u8, initial: u8, actions: &[u8]) -> Draft {
+        let edges: Vec<(u16, u16)> = (0..=actions.len() as u16).map(|v| (v, v + 1)).collect();
+        Draft::one_array(kind, versions, initial, actions, &edges)
+    }
+
+    /// The routine file.
+    pub fn bytes(&self) -> Vec<u8> {
+        let first_row = HEAD + 4 * self.arrays.len();
+        let first_edge = first_row + self.rows.iter().map(Vec::len).sum::<usize>();
+        let mut file = b"HPFR".to_vec();
+        for word in [
+            1,
+            HEAD,
+            self.arrays.len(),
+            first_row,
+            self.rows.len(),
+            first_edge,
+            self.edges.len(),
+        ] {
+            file.extend((word as u16).to_le_bytes());
+        }
+        file.extend(self.arrays.iter().flatten());
+        file.extend(self.rows.iter().flatten());
+        for (from, to) in &self.edges {
+            file.extend(from.to_le_bytes());
+            file.extend(to.to_le_bytes());
+        }
+        file
+    }
+
+    /// The parts of a file whose contents and length fit together.
+    pub fn from_bytes(file: &[u8]) -> Option<Draft> {
+        let word = |at: usize| usize::from(u16::from_le_bytes([file[at], file[at + 1]]));
+        if file.len() < HEAD {
+            return None;
+        }
+        let (arrays, vertices, edges) = (word(8), word(12), word(16));
+        let first_row = HEAD + 4 * arrays;
+        let first_edge = first_row + arrays * vertices;
+        if arrays == 0 || file.len() != first_edge + 4 * edges {
+            return None;
+        }
+        let edge = |&[from, from_high, to, to_high]: &[u8; 4]| {
+            (
+                u16::from_le_bytes([from, from_high]),
+                u16::from_le_bytes([to, to_high]),
+            )
+        };
+        let draft = Draft {
+            arrays: file[HEAD..first_row].as_chunks().0.to_vec(),
+            rows: file[first_row..first_edge]
+                .chunks_exact(arrays)
+                .map(<[u8]>::to_vec)
+                .collect(),
+            edges: file[first_edge..].as_chunks().0.iter().map(edge).collect(),
+        };
+        (draft.bytes() == file).then_some(draft)
+    }
+
+    /// The successors of each vertex.
+    pub fn successors(&self) -> Vec<Vec<u16>> {
+        let mut successors = vec![Vec::new(); self.rows.len()];
+        for &(from, to) in &self.edges {
+            successors[usize::from(from)].push(to);
+        }
+        successors
+    }
+}
+
+/// A path's bytes.
+pub fn path_bytes(vertices: &[u16]) -> Vec<u8> {
+    vertices.iter().flat_map(|v| v.to_le_bytes()).collect()
+}
+
+/// Routine P of document 01.
+pub fn p() -> Draft {
+    Draft::one_array(
+        LOCAL,
+        3,
+        0,
+        &[DEFINE, remap(1), READ, remap(2), remap(0), READ],
+        &[
+            (0, 1),
+            (1, 2),
+            (2, 3),
+            (3, 4),
+            (4, 5),
+            (5, 6),
+            (6, 2),
+            (6, 7),
+        ],
+    )
+}
+
+/// Routine Q of document 01: one branch defines and the other does not.
+pub fn q() -> Draft {
+    Draft::one_array(
+        INOUT,
+        2,
+        0,
+        &[remap(1), DEFINE, remap(0), READ],
+        &[(0, 1), (1, 2), (1, 3), (2, 3), (3, 4), (4, 5)],
+    )
+}
+
+/// Routine S of document 01: a dropped label between two kept ones.
+pub fn s() -> Draft {
+    Draft::chain(LOCAL, 3, 0, &[DEFINE, remap(1), remap(2), READ])
+}
+
+/// Routine T of document 01: an ambiguous read.
+pub fn t() -> Draft {
+    Draft::one_array(
+        LOCAL,
+        2,
+        0,
+        &[remap(1), READ],
+        &[(0, 1), (0, 2), (1, 2), (2, 3)],
+    )
+}
+
+/// T with nothing at vertex 2.
+pub fn t_without_read() -> Draft {
+    let mut draft = t();
+    draft.rows[2] = vec![0];
+    draft
+}
+
+/// Routine U: a define, then a read, under one label.
+pub fn u() -> Draft {
+    Draft::chain(
+        LOCAL,
+        2,
+        0,
+        &[DEFINE, remap(1), DEFINE, READ, remap(0), READ],
+    )
+}

@@ -1,0 +1,7 @@
+//! Random routines, damaged files and paths. A seed decides every draw.
+
+pub mod damage;
+pub mod limits;
+pub mod paths;
+pub mod rng;
+pub mod routines;

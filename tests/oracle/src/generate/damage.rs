@@ -1,0 +1,213 @@
+//! Files and paths that are refused.
+
+use super::rng::Rng;
+use super::routines::{self, Size};
+use crate::builder::{DEFINE, Draft, IN, MODIFY, READ, remap};
+use crate::labels::fixpoint;
+use crate::routine::{HEAD, Routine};
+
+/// The refusals that a routine file can meet.
+pub const FILE_REFUSALS: [u64; 9] = [10, 11, 12, 13, 14, 15, 16, 20, 21];
+
+const SMALL: Size = Size {
+    vertices: 12,
+    arrays: 3,
+    versions: 4,
+};
+
+/// A well-formed routine with at least three vertices and two edges.
+fn base(rng: &mut Rng) -> Draft {
+    loop {
+        let draft = routines::accepted(rng, SMALL);
+        if draft.rows.len() > 2 && draft.edges.len() > 1 {
+            return draft;
+        }
+    }
+}
+
+fn set_word(file: &mut [u8], at: usize, value: usize) {
+    file[at..at + 2].copy_from_slice(&(value as u16).to_le_bytes());
+}
+
+/// A value of 16 bits other than `right`, often near it.
+fn other_word(rng: &mut Rng, right: usize) -> usize {
+    let near = [right + 1, right.wrapping_sub(1), right + 256, right * 2 + 1];
+    let value = if rng.chance(50) {
+        rng.pick(&near)
+    } else {
+        rng.below(65_536)
+    };
+    if value & 0xffff == right {
+        right ^ 1
+    } else {
+        value & 0xffff
+    }
+}
+
+/// A routine file that is refused with this number of `FILE_REFUSALS`.
+pub fn refused(rng: &mut Rng, number: u64) -> Vec<u8> {
+    if number == 21 {
+        return ambiguous(rng);
+    }
+    let mut draft = base(rng);
+    damage_parts(rng, &mut draft, number);
+    let mut file = draft.bytes();
+    damage_head(rng, &mut file, number);
+    file
+}
+
+/// A fault with one of the numbers 14 to 20.
+fn damage_parts(rng: &mut Rng, draft: &mut Draft, number: u64) {
+    match number {
+        14 => damage_array(rng, draft),
+        15 => damage_action(rng, draft),
+        16 => damage_edge(rng, draft),
+        20 => change_in_argument(rng, draft),
+        _ => {}
+    }
+}
+
+/// A fault with one of the numbers 10 to 13.
+fn damage_head(rng: &mut Rng, file: &mut Vec<u8>, number: u64) {
+    match number {
+        10 if rng.chance(50) => file.truncate(rng.below(HEAD)),
+        10 if file.len() >= HEAD => file[rng.below(4)] ^= rng.between(1, 255) as u8,
+        11 => {
+            let edition = other_word(rng, 1);
+            set_word(file, 4, edition);
+        }
+        12 => {
+            let (place, low, beyond) = rng.pick(&[(8, 1, 9), (12, 2, 257), (16, 0, 1025)]);
+            let count = match rng.below(3) {
+                0 if low > 0 => rng.below(low),
+                1 => beyond,
+                _ => rng.between(beyond, 65_535),
+            };
+            set_word(file, place, count);
+        }
+        13 => match rng.below(5) {
+            0 => file.truncate(rng.between(HEAD, file.len().max(HEAD + 1) - 1)),
+            1 => file.extend((0..rng.between(1, 9)).map(|_| rng.byte())),
+            choice => {
+                let place = 4 * choice - 2;
+                let right = usize::from(u16::from_le_bytes([file[place], file[place + 1]]));
+                let offset = other_word(rng, right);
+                set_word(file, place, offset);
+            }
+        },
+        _ => {}
+    }
+}
+
+fn damage_array(rng: &mut Rng, draft: &mut Draft) {
+    let array = rng.below(draft.arrays.len());
+    let record = &mut draft.arrays[array];
+    match rng.below(4) {
+        0 => record[0] = rng.between(4, 255) as u8,
+        1 => record[1] = rng.pick(&[0, 17, 18, 32, 255]),
+        2 => record[2] = rng.between(usize::from(record[1]), 255) as u8,
+        _ => record[3] = rng.between(1, 255) as u8,
+    }
+}
+
+fn damage_action(rng: &mut Rng, draft: &mut Draft) {
+    let exit = draft.rows.len() - 1;
+    let vertex = rng.between(1, exit - 1);
+    let array = rng.below(draft.arrays.len());
+    match rng.below(5) {
+        0 => draft.rows[0][array] = rng.pick(&[READ, DEFINE, MODIFY, remap(0)]),
+        1 => draft.rows[exit][array] = rng.pick(&[READ, DEFINE, MODIFY, remap(0)]),
+        2 => draft.rows[vertex][array] = rng.pick(&[0x01, 0x0f, 0x11, 0x3f, 0x50, 0x80, 0xff]),
+        3 => {
+            let version = draft.arrays[array][1];
+            draft.rows[vertex][array] = remap(version);
+        }
+        _ => {
+            // Two arrays at least are needed to mix.
+            draft.arrays.push([0, 1, 0, 0]);
+            for row in &mut draft.rows {
+                row.push(0);
+            }
+            draft.rows[vertex].fill(0);
+            let pair = rng.pick(&[[READ, remap(0)], [remap(0), DEFINE]]);
+            draft.rows[vertex][array] = pair[0];
+            draft.rows[vertex][draft.arrays.len() - 1] = pair[1];
+        }
+    }
+}
+
+fn damage_edge(rng: &mut Rng, draft: &mut Draft) {
+    let vertices = draft.rows.len();
+    let edge = rng.between(1, draft.edges.len() - 1);
+    match rng.below(6) {
+        0 => draft.edges[edge].0 = rng.between(vertices, 65_535) as u16,
+        1 => draft.edges[edge].1 = rng.between(vertices, 65_535) as u16,
+        2 => draft.edges[edge].1 = 0,
+        3 => draft.edges[edge].0 = vertices as u16 - 1,
+        4 => draft.edges[edge] = draft.edges[edge - 1],
+        _ => draft.edges.swap(edge, edge - 1),
+    }
+}
+
+/// A define or modify of an in argument.
+fn change_in_argument(rng: &mut Rng, draft: &mut Draft) {
+    let array = rng.below(draft.arrays.len());
+    draft.arrays[array][0] = IN;
+    for _ in 0..rng.between(1, 3) {
+        let vertex = rng.between(1, draft.rows.len() - 2);
+        draft.rows[vertex].fill(0);
+        draft.rows[vertex][array] = rng.pick(&[DEFINE, MODIFY]);
+    }
+}
+
+/// A routine with an ambiguous reference.
+fn ambiguous(rng: &mut Rng) -> Vec<u8> {
+    loop {
+        let size = Size::any(rng);
+        let file = routines::program(rng, size).bytes();
+        let routine = Routine::parse(&file).expect("generated files are well formed");
+        if fixpoint::refusal(&routine).is_some_and(|refusal| refusal.number == 21) {
+            return file;
+        }
+    }
+}
+
+/// A file with two to four faults of any numbers: the lowest number wins.
+pub fn several_faults(rng: &mut Rng) -> Vec<u8> {
+    let mut numbers: Vec<u64> = (0..rng.between(2, 4))
+        .map(|_| rng.pick(&FILE_REFUSALS[..8]))
+        .collect();
+    // Faults of the head last: they can cut the file short.
+    numbers.sort_unstable_by(|one, other| other.cmp(one));
+    let mut draft = base(rng);
+    for number in &numbers {
+        damage_parts(rng, &mut draft, *number);
+    }
+    let mut file = draft.bytes();
+    for number in &numbers {
+        damage_head(rng, &mut file, *number);
+    }
+    file
+}
+
+/// A file with one byte changed, by position, then value.
+pub fn every_byte(file: &[u8]) -> impl Iterator<Item = Vec<u8>> {
+    (0..file.len()).flat_map(move |place| {
+        (1..=255).map(move |change| {
+            let mut damaged = file.to_vec();
+            damaged[place] ^= change;
+            damaged
+        })
+    })
+}
+
+/// A file cut at every place, and with up to eight further bytes.
+pub fn every_length(file: &[u8]) -> impl Iterator<Item = Vec<u8>> {
+    (0..=file.len() + 8)
+        .filter(|&length| length != file.len())
+        .map(|length| {
+            let mut changed = file.to_vec();
+            changed.resize(length, 0);
+            changed
+        })
+}

@@ -1,0 +1,131 @@
+//! Routines at each limit, and one beyond.
+
+use super::rng::Rng;
+use super::routines::{self, Size};
+use crate::builder::{DEFINE, Draft, INOUT, LOCAL, MODIFY, READ, remap};
+use crate::routine::{MAX_ARRAYS, MAX_EDGES, MAX_VERSIONS, MAX_VERTICES};
+
+/// Eight inout arrays, 256 vertices and 1,024 edges: each vertex has edges to the next
+/// three and to vertex 1, some to themselves.
+fn full(actions: impl Fn(usize, usize) -> u8) -> Draft {
+    let exit = MAX_VERTICES - 1;
+    let mut rows = vec![vec![0; MAX_ARRAYS]; MAX_VERTICES];
+    for (vertex, row) in rows.iter_mut().enumerate().take(exit).skip(1) {
+        for (array, action) in row.iter_mut().enumerate() {
+            *action = actions(vertex, array);
+        }
+    }
+    let mut edges: Vec<(u16, u16)> = (1..exit as u16).map(|from| (from, 1)).collect();
+    for from in 0..exit as u16 {
+        edges.extend((from + 1..=from + 3).map(|to| (from, to)));
+    }
+    edges.retain(|&(_, to)| usize::from(to) <= exit);
+    let missing = MAX_EDGES - edges.len();
+    edges.extend((2..).map(|vertex| (vertex, vertex)).take(missing));
+    edges.sort_unstable();
+    Draft {
+        arrays: vec![[INOUT, MAX_VERSIONS as u8, 0, 0]; MAX_ARRAYS],
+        rows,
+        edges,
+    }
+}
+
+/// Every inner vertex remaps all arrays: the largest plan.
+pub fn largest_plan() -> Draft {
+    full(|vertex, array| remap(((vertex + array) % MAX_VERSIONS) as u8))
+}
+
+/// Every inner vertex references all arrays: with the longest path the largest report.
+pub fn largest_report() -> Draft {
+    full(|vertex, array| [READ, DEFINE, MODIFY][(vertex + array) % 3])
+}
+
+/// The longest path through `largest_report`.
+pub fn longest_path() -> Vec<u16> {
+    let mut path = vec![0];
+    path.extend((0..4095).map(|index| 1 + index % 254));
+    path
+}
+
+/// A chain numbered against its direction: facts travel one vertex a sweep.
+pub fn backward_chain(rng: &mut Rng) -> Draft {
+    let mut draft = routines::graph(rng, Size::LARGEST, 0, false);
+    let last = MAX_VERTICES as u16 - 2;
+    draft.edges = (2..=last).map(|vertex| (vertex, vertex - 1)).collect();
+    draft.edges.push((0, last));
+    draft.edges.push((1, last + 1));
+    draft.edges.sort_unstable();
+    draft
+}
+
+/// 256 vertices, 1,024 edges, eight arrays of up to 16 versions.
+pub fn dense(rng: &mut Rng) -> Draft {
+    let mut draft = routines::graph(rng, Size::LARGEST, MAX_EDGES, true);
+    while draft.edges.len() < MAX_EDGES {
+        let from = rng.below(MAX_VERTICES - 1) as u16;
+        let to = rng.between(1, MAX_VERTICES - 1) as u16;
+        if let Err(place) = draft.edges.binary_search(&(from, to)) {
+            draft.edges.insert(place, (from, to));
+        }
+    }
+    draft
+}
+
+/// Routines with a count at its limit; each is well formed.
+pub fn at_limits(rng: &mut Rng) -> Vec<Draft> {
+    let mut drafts = vec![
+        Draft::one_array(LOCAL, 1, 0, &[], &[]),
+        Draft::one_array(INOUT, 16, 15, &[], &[(0, 1)]),
+        largest_plan(),
+        largest_report(),
+    ];
+    for _ in 0..2 {
+        let mut draft = backward_chain(rng);
+        drafts.push(draft.clone());
+        routines::make_acceptable(rng, &mut draft);
+        drafts.push(draft);
+        let mut draft = dense(rng);
+        drafts.push(draft.clone());
+        routines::make_acceptable(rng, &mut draft);
+        drafts.push(draft);
+        let mut draft = routines::program(rng, Size::LARGEST);
+        routines::make_acceptable(rng, &mut draft);
+        drafts.push(draft);
+    }
+    drafts
+}
+
+/// Routines with one count beyond its limit, or one too few.
+pub fn beyond_limits() -> Vec<Draft> {
+    let plain = Draft::chain(LOCAL, 2, 0, &[READ, remap(1), READ]);
+    let with = |change: &dyn Fn(&mut Draft)| {
+        let mut draft = plain.clone();
+        change(&mut draft);
+        draft
+    };
+    vec![
+        with(&|draft| {
+            draft.arrays.clear();
+            draft.rows.iter_mut().for_each(Vec::clear);
+        }),
+        with(&|draft| {
+            draft.arrays = vec![[LOCAL, 1, 0, 0]; MAX_ARRAYS + 1];
+            draft.rows = vec![vec![0; MAX_ARRAYS + 1]; 5];
+        }),
+        with(&|draft| {
+            draft.rows.clear();
+            draft.edges.clear();
+        }),
+        with(&|draft| {
+            draft.rows.truncate(1);
+            draft.edges.clear();
+        }),
+        with(&|draft| draft.rows.resize(MAX_VERTICES + 1, vec![0])),
+        with(&|draft| {
+            draft.rows = vec![vec![0]; MAX_VERTICES];
+            let all = (0..255).flat_map(|from| (1..=255).map(move |to| (from, to)));
+            draft.edges = all.take(MAX_EDGES + 1).collect();
+        }),
+        with(&|draft| draft.arrays[0][1] = MAX_VERSIONS as u8 + 1),
+    ]
+}

@@ -1,0 +1,273 @@
+//! Random routines: like programs, or any graph; as drawn, or made acceptable.
+
+use super::rng::Rng;
+use crate::builder::{DEFINE, Draft, IN, INOUT, MODIFY, READ, remap};
+use crate::labels::fixpoint;
+use crate::routine::{MAX_ARRAYS, MAX_EDGES, MAX_VERSIONS, MAX_VERTICES, Routine};
+
+/// How large a routine may become.
+#[derive(Clone, Copy, Debug)]
+pub struct Size {
+    pub vertices: usize,
+    pub arrays: usize,
+    pub versions: usize,
+}
+
+impl Size {
+    pub const LARGEST: Size = Size {
+        vertices: MAX_VERTICES,
+        arrays: MAX_ARRAYS,
+        versions: MAX_VERSIONS,
+    };
+
+    /// Mostly small, sometimes up to the limits.
+    pub fn any(rng: &mut Rng) -> Size {
+        let (vertices, arrays, versions) = match rng.below(20) {
+            0..=9 => (rng.between(3, 12), rng.between(1, 3), rng.between(1, 4)),
+            10..=15 => (rng.between(8, 40), rng.between(1, 4), rng.between(2, 6)),
+            16..=18 => (rng.between(30, 150), rng.between(1, 8), rng.between(2, 16)),
+            _ => return Size::LARGEST,
+        };
+        Size {
+            vertices,
+            arrays,
+            versions,
+        }
+    }
+}
+
+/// Array records with as many versions as allowed or fewer.
+pub fn arrays(rng: &mut Rng, size: Size) -> Vec<[u8; 4]> {
+    (0..size.arrays)
+        .map(|_| {
+            let versions = rng.between(1.max(size.versions / 2), size.versions);
+            let kind = rng.between(0, usize::from(INOUT)) as u8;
+            [kind, versions as u8, rng.below(versions) as u8, 0]
+        })
+        .collect()
+}
+
+/// A row of nothing, of references or of remappings.
+pub fn row(rng: &mut Rng, arrays: &[[u8; 4]]) -> Vec<u8> {
+    let mut row = vec![0; arrays.len()];
+    let remaps = match rng.below(20) {
+        0..=2 => return row,
+        3..=10 => true,
+        _ => false,
+    };
+    let always = rng.below(arrays.len());
+    for (array, &[kind, versions, ..]) in arrays.iter().enumerate() {
+        if array == always || rng.chance(40) {
+            row[array] = if remaps {
+                remap(rng.below(usize::from(versions)) as u8)
+            } else if kind == IN && !rng.chance(1) {
+                READ
+            } else {
+                rng.pick(&[READ, READ, DEFINE, DEFINE, MODIFY])
+            };
+        }
+    }
+    row
+}
+
+/// A program under way: its rows and edges, and who returns to the exit.
+struct Program<'a> {
+    rng: &'a mut Rng,
+    draft: Draft,
+    limit: usize,
+    returns: Vec<u16>,
+}
+
+impl Program<'_> {
+    fn is_full(&self) -> bool {
+        self.draft.rows.len() + 1 >= self.limit
+    }
+
+    /// A new vertex with edges from the open ends.
+    fn vertex(&mut self, open: &[u16]) -> u16 {
+        let vertex = self.draft.rows.len() as u16;
+        let row = row(self.rng, &self.draft.arrays);
+        self.draft.rows.push(row);
+        self.edges(open, vertex);
+        vertex
+    }
+
+    fn edges(&mut self, open: &[u16], to: u16) {
+        self.draft.edges.extend(open.iter().map(|&from| (from, to)));
+    }
+
+    /// Statements in a row; takes the open ends before them, gives those after them.
+    fn sequence(&mut self, mut open: Vec<u16>, depth: usize) -> Vec<u16> {
+        for _ in 0..self.rng.between(1, 5) {
+            if !self.is_full() {
+                open = self.statement(open, depth);
+            }
+        }
+        open
+    }
+
+    fn statement(&mut self, open: Vec<u16>, depth: usize) -> Vec<u16> {
+        let choice = if depth == 0 { 0 } else { self.rng.below(12) };
+        match choice {
+            0..=5 => vec![self.vertex(&open)],
+            6..=8 => self.branch(&open, depth - 1),
+            9 => {
+                let head = self.vertex(&open);
+                let ends = self.sequence(vec![head], depth - 1);
+                self.edges(&ends, head);
+                // An endless loop now and then: what follows is unreachable.
+                if self.rng.chance(5) {
+                    vec![]
+                } else {
+                    vec![head]
+                }
+            }
+            10 => {
+                let first = self.draft.rows.len() as u16;
+                let ends = self.sequence(open, depth - 1);
+                self.edges(&ends, first);
+                ends
+            }
+            _ if self.rng.chance(30) => {
+                // A return or a dead end: what follows is unreachable.
+                let last = self.vertex(&open);
+                if self.rng.chance(70) {
+                    self.returns.push(last);
+                }
+                vec![]
+            }
+            _ => vec![self.vertex(&open)],
+        }
+    }
+
+    fn branch(&mut self, open: &[u16], depth: usize) -> Vec<u16> {
+        let head = self.vertex(open);
+        let mut ends = Vec::new();
+        for _ in 0..self.rng.between(1, 3) {
+            if !self.is_full() {
+                ends.extend(self.sequence(vec![head], depth));
+            }
+        }
+        if ends.is_empty() || self.rng.chance(40) {
+            ends.push(head);
+        }
+        ends
+    }
+}
+
+/// A routine like a program: sequences, branches, nested loops, returns, dead ends.
+pub fn program(rng: &mut Rng, size: Size) -> Draft {
+    let arrays = arrays(rng, size);
+    let mut program = Program {
+        draft: Draft {
+            rows: vec![vec![0; arrays.len()]],
+            arrays,
+            edges: Vec::new(),
+        },
+        rng,
+        limit: size.vertices,
+        returns: Vec::new(),
+    };
+    let mut open = vec![0];
+    while !program.is_full() {
+        open = program.sequence(open, 4);
+        if program.rng.chance(30) {
+            break;
+        }
+    }
+    let exit = program.draft.rows.len() as u16;
+    let returns = std::mem::take(&mut program.returns);
+    program.edges(&open, exit);
+    program.edges(&returns, exit);
+    let mut draft = program.draft;
+    draft.rows.push(vec![0; draft.arrays.len()]);
+    draft.edges.sort_unstable();
+    draft.edges.dedup();
+    draft.edges.truncate(MAX_EDGES);
+    draft
+}
+
+/// Any graph with about so many edges; `spine` joins all vertices in order first.
+pub fn graph(rng: &mut Rng, size: Size, edges: usize, spine: bool) -> Draft {
+    let vertices = size.vertices;
+    let arrays = arrays(rng, size);
+    let mut rows: Vec<Vec<u8>> = (0..vertices).map(|_| row(rng, &arrays)).collect();
+    rows[0].fill(0);
+    rows[vertices - 1].fill(0);
+    let mut list: Vec<(u16, u16)> = Vec::new();
+    if spine {
+        list.extend((0..vertices as u16 - 1).map(|vertex| (vertex, vertex + 1)));
+    }
+    for _ in list.len()..edges {
+        let from = rng.below(vertices - 1);
+        let to = rng.between(1, vertices - 1);
+        list.push((from as u16, to as u16));
+    }
+    list.sort_unstable();
+    list.dedup();
+    list.truncate(MAX_EDGES);
+    Draft {
+        arrays,
+        rows,
+        edges: list,
+    }
+}
+
+/// Any graph of any size and density.
+pub fn any_graph(rng: &mut Rng, size: Size) -> Draft {
+    let edges = rng.between(0, (4 * size.vertices).min(MAX_EDGES));
+    let spine = rng.chance(60);
+    graph(rng, size, edges, spine)
+}
+
+/// Takes what 20 and 21 refuse out of a routine, one reference after the other.
+pub fn make_acceptable(rng: &mut Rng, draft: &mut Draft) {
+    loop {
+        let file = draft.bytes();
+        let routine = Routine::parse(&file).expect("generated files are well formed");
+        let Some(refusal) = fixpoint::refusal(&routine) else {
+            return;
+        };
+        let (vertex, array) = (refusal.first as usize, refusal.second as usize);
+        let row = &mut draft.rows[vertex];
+        if refusal.number == 20 {
+            row[array] = READ;
+        } else if rng.chance(50) {
+            row[array] = 0;
+        } else {
+            // Remapping here makes later references name one version.
+            row.fill(0);
+            let versions = usize::from(draft.arrays[array][1]);
+            row[array] = remap(rng.below(versions) as u8);
+        }
+    }
+}
+
+/// A routine of any shape that is accepted.
+pub fn accepted(rng: &mut Rng, size: Size) -> Draft {
+    let mut draft = if rng.chance(70) {
+        program(rng, size)
+    } else {
+        any_graph(rng, size)
+    };
+    make_acceptable(rng, &mut draft);
+    draft
+}
+
+/// Every routine of one array with two versions, initial 0, and four vertices.
+pub fn all_of_four_vertices() -> impl Iterator<Item = Draft> {
+    const ACTIONS: [u8; 6] = [0, READ, DEFINE, MODIFY, remap(0), remap(1)];
+    let all_edges: Vec<(u16, u16)> = (0..3)
+        .flat_map(|from| (1..4).map(move |to| (from, to)))
+        .collect();
+    let edge_sets = 1 << all_edges.len();
+    (0..4 * 6 * 6 * edge_sets).map(move |index: usize| {
+        let (chosen, rest) = (index % edge_sets, index / edge_sets);
+        let actions = [ACTIONS[rest % 6], ACTIONS[rest / 6 % 6]];
+        let edges: Vec<(u16, u16)> = (0..all_edges.len())
+            .filter(|edge| chosen >> edge & 1 == 1)
+            .map(|edge| all_edges[edge])
+            .collect();
+        Draft::one_array((rest / 36) as u8, 2, 0, &actions, &edges)
+    })
+}

@@ -1,0 +1,74 @@
+//! Labels ("Labels") and refusals 20 and 21.
+
+pub mod fixpoint;
+pub mod literal;
+pub mod search;
+
+use crate::outcome::Refusal;
+use crate::routine::{Event, Kind, Reference, Routine};
+
+/// **Use** of a label.
+#[derive(Clone, Copy, Debug, PartialEq, Eq)]
+pub enum Use {
+    N,
+    D,
+    R,
+    W,
+}
+
+impl Use {
+    /// The letter as it stands in the plan.
+    pub fn letter(self) -> u8 {
+        match self {
+            Use::N => b'N',
+            Use::D => b'D',
+            Use::R => b'R',
+            Use::W => b'W',
+        }
+    }
+
+    /// Use of an argument's label at the exit.
+    pub fn at_exit(kind: Kind) -> Use {
+        if kind == Kind::In { Use::R } else { Use::W }
+    }
+}
+
+/// One label of the plan.
+#[derive(Clone, Copy, Debug, PartialEq, Eq)]
+pub struct Label {
+    pub letter: Use,
+    /// The label's version, whether it leaves or not.
+    pub version: u8,
+    /// **Reaching** set.
+    pub reaching: u16,
+    /// **Kept set**.
+    pub kept: u16,
+}
+
+impl Label {
+    /// A label is kept if it is not N.
+    pub fn is_kept(&self) -> bool {
+        self.letter != Use::N
+    }
+
+    /// **Leaving** version, or none for N.
+    pub fn leaving(&self) -> Option<u8> {
+        self.is_kept().then_some(self.version)
+    }
+}
+
+/// The first define or modify of an in argument, by vertex, then array.
+pub fn refusal_20(routine: &Routine) -> Option<Refusal> {
+    for vertex in 0..routine.vertex_count() {
+        for array in 0..routine.array_count() {
+            let changes = matches!(
+                routine.event(vertex, array),
+                Event::Reference(Reference::Define | Reference::Modify)
+            );
+            if changes && routine.array(array).kind == Kind::In {
+                return Some(Refusal::at_two(20, vertex, array));
+            }
+        }
+    }
+    None
+}

@@ -1,0 +1,460 @@
+//! The label rules as data flow, for speed: all arrays at once, tables on the stack.
+//!
+//! Three sweeps over the edges: use (against the edges), last versions and reaching (along
+//! them, from the entry), kept sets (against them). A sweep takes up a vertex again only
+//! when something it depends on has changed. Programs are mostly numbered forwards, so
+//! a sweep along the edges takes vertices by rising number, one against them by falling.
+
+use super::{Label, Use};
+use crate::outcome::Refusal;
+use crate::routine::{Array, Kind, MAX_ARRAYS, MAX_EDGES, MAX_VERTICES, Routine};
+
+/// A version set for each array, 16 bits each.
+type Sets = u128;
+
+/// The set of one array.
+#[inline(always)]
+fn set_of(sets: Sets, array: usize) -> u16 {
+    (sets >> (16 * array)) as u16
+}
+
+/// A set for one array, the others empty.
+#[inline(always)]
+fn only(array: usize, set: u16) -> Sets {
+    Sets::from(set) << (16 * array)
+}
+
+/// One bit for each array.
+type Arrays = u8;
+
+#[inline(always)]
+fn members(mut arrays: Arrays) -> impl Iterator<Item = usize> {
+    std::iter::from_fn(move || {
+        let array = (arrays != 0).then(|| arrays.trailing_zeros() as usize)?;
+        arrays &= arrays - 1;
+        Some(array)
+    })
+}
+
+/// All versions of some arrays.
+#[inline(always)]
+fn all_of(arrays: Arrays) -> Sets {
+    const ALL_OF: [Sets; 256] = {
+        let mut table = [0; 256];
+        let mut bits = 0;
+        while bits < 8 * 256 {
+            let (arrays, array) = (bits / 8, bits % 8);
+            if arrays >> array & 1 == 1 {
+                table[arrays] |= 0xffff << (16 * array);
+            }
+            bits += 1;
+        }
+        table
+    };
+    ALL_OF[usize::from(arrays)]
+}
+
+/// A set of vertices.
+#[derive(Clone, Copy)]
+struct Vertices([u64; MAX_VERTICES / 64]);
+
+impl Vertices {
+    const EMPTY: Vertices = Vertices([0; MAX_VERTICES / 64]);
+
+    fn below(count: usize) -> Vertices {
+        let mut all = Vertices::EMPTY;
+        for (index, word) in all.0.iter_mut().enumerate() {
+            let here = count.saturating_sub(64 * index).min(64);
+            *word = if here == 64 { !0 } else { (1 << here) - 1 };
+        }
+        all
+    }
+
+    #[inline(always)]
+    fn insert(&mut self, vertex: usize) {
+        self.0[vertex / 64] |= 1 << (vertex % 64);
+    }
+
+    #[inline(always)]
+    fn contains(&self, vertex: usize) -> bool {
+        self.0[vertex / 64] >> (vertex % 64) & 1 == 1
+    }
+
+    #[inline(always)]
+    fn add_all(&mut self, other: &Vertices) {
+        for (word, more) in self.0.iter_mut().zip(other.0) {
+            *word |= more;
+        }
+    }
+
+    fn is_empty(&self) -> bool {
+        self.0 == [0; MAX_VERTICES / 64]
+    }
+
+    /// Takes out the members by rising number, with those put in meanwhile above.
+    #[inline(always)]
+    fn take_rising(&mut self, mut take: impl FnMut(&mut Vertices, usize)) {
+        for index in 0..self.0.len() {
+            let mut left = !0;
+            while self.0[index] & left != 0 {
+                let bit = (self.0[index] & left).trailing_zeros();
+                self.0[index] &= !(1 << bit);
+                left = !1u64 << bit;
+                take(self, 64 * index + bit as usize);
+            }
+        }
+    }
+
+    /// Takes out the members by falling number, with those put in meanwhile below.
+    #[inline(always)]
+    fn take_falling(&mut self, mut take: impl FnMut(&mut Vertices, usize)) {
+        for index in (0..self.0.len()).rev() {
+            let mut left = !0;
+            while self.0[index] & left != 0 {
+                let bit = 63 - (self.0[index] & left).leading_zeros();
+                self.0[index] &= !(1 << bit);
+                left = (1 << bit) - 1;
+                take(self, 64 * index + bit as usize);
+            }
+        }
+    }
+}
+
+/// The edges by start and by end.
+struct Graph {
+    vertices: usize,
+    first: [u16; MAX_VERTICES + 1],
+    to: [u8; MAX_EDGES],
+    before: [Vertices; MAX_VERTICES],
+}
+
+impl Graph {
+    fn new(routine: &Routine) -> Graph {
+        let mut graph = Graph {
+            vertices: routine.vertex_count(),
+            first: [0; MAX_VERTICES + 1],
+            to: [0; MAX_EDGES],
+            before: [Vertices::EMPTY; MAX_VERTICES],
+        };
+        for (index, (from, to)) in routine.edges().enumerate() {
+            graph.first[from + 1] = index as u16 + 1;
+            graph.to[index] = to as u8;
+            graph.before[to].insert(from);
+        }
+        for vertex in 0..graph.vertices {
+            graph.first[vertex + 1] = graph.first[vertex + 1].max(graph.first[vertex]);
+        }
+        graph
+    }
+
+    #[inline(always)]
+    fn successors(&self, vertex: usize) -> &[u8] {
+        &self.to[usize::from(self.first[vertex])..usize::from(self.first[vertex + 1])]
+    }
+}
+
+/// What a segment meets, for each array: a reference, a define or modify, and a read,
+/// modify or next label without a define before it. Eight bits each.
+type Meets = u32;
+
+fn meets(reference: Arrays, change: Arrays, old_value: Arrays) -> Meets {
+    Meets::from_le_bytes([reference, change, old_value, 0])
+}
+
+/// What one vertex does with the arrays.
+#[derive(Clone, Copy)]
+struct Row {
+    /// The version of each label, as a set of one; empty without a label.
+    version: Sets,
+    labels: Arrays,
+    references: Arrays,
+    /// Defines and modifies.
+    changes: Arrays,
+    /// Kept labels.
+    kept: Arrays,
+    /// D and W labels.
+    closed: Arrays,
+    /// What a segment meets here.
+    here: Meets,
+    /// What a segment no longer meets after this vertex.
+    stops: Meets,
+    /// What the segments from here meet.
+    ahead: Meets,
+}
+
+impl Row {
+    const EMPTY: Row = Row {
+        version: 0,
+        labels: 0,
+        references: 0,
+        changes: 0,
+        kept: 0,
+        closed: 0,
+        here: 0,
+        stops: 0,
+        ahead: 0,
+    };
+
+    /// The row of up to eight action bytes: reads and modifies have bit 4, defines and
+    /// modifies bit 5, remappings bit 6.
+    #[inline(always)]
+    fn of_actions(bytes: &[u8]) -> Row {
+        let mut eight = [0; MAX_ARRAYS];
+        eight[..bytes.len()].copy_from_slice(bytes);
+        let word = u64::from_le_bytes(eight);
+        // One bit of every byte, brought together by the product into its highest byte.
+        let gather = |bit: u32| {
+            let bits = word >> bit & 0x0101_0101_0101_0101;
+            (bits.wrapping_mul(0x0102_0408_1020_4080) >> 56) as Arrays
+        };
+        let (sees, changes, labels) = (gather(4), gather(5), gather(6));
+        let mut version = 0;
+        for array in members(labels) {
+            version |= only(array, 1 << (eight[array] & 15));
+        }
+        Row {
+            version,
+            labels,
+            references: sees | changes,
+            changes,
+            here: meets(sees | changes, changes, sees | labels),
+            stops: meets(labels, labels, labels | changes & !sees),
+            ..Row::EMPTY
+        }
+    }
+
+    /// The row of a vertex that labels some arrays with their initial versions.
+    fn of_labels(labels: Arrays, initial: Sets) -> Row {
+        Row {
+            version: initial & all_of(labels),
+            labels,
+            here: meets(0, 0, labels),
+            stops: meets(labels, labels, labels),
+            ..Row::EMPTY
+        }
+    }
+
+    /// **Use** of an array's label.
+    #[inline(always)]
+    fn letter(&self, array: usize) -> Use {
+        let [reference, change, old_value, _] =
+            self.ahead.to_le_bytes().map(|arrays| arrays >> array & 1);
+        match (reference, old_value, change) {
+            (0, ..) => Use::N,
+            (_, 0, _) => Use::D,
+            (.., 0) => Use::R,
+            _ => Use::W,
+        }
+    }
+}
+
+/// The labels of a routine. The tables can be used for one routine after the other.
+pub struct Solved {
+    rows: [Row; MAX_VERTICES],
+    /// Versions of the last label on paths from the entry, dropped ones included.
+    last: [Sets; MAX_VERTICES],
+    reaching: [Sets; MAX_VERTICES],
+    kept: [Sets; MAX_VERTICES],
+}
+
+impl Solved {
+    /// Tables with nothing in them.
+    pub const EMPTY: Solved = Solved {
+        rows: [Row::EMPTY; MAX_VERTICES],
+        last: [0; MAX_VERTICES],
+        reaching: [0; MAX_VERTICES],
+        kept: [0; MAX_VERTICES],
+    };
+
+    /// Reads the action bytes, the entry's labels and the exit's.
+    fn read_rows(&mut self, routine: &Routine) {
+        let bytes = routine.action_bytes().chunks_exact(routine.array_count());
+        for (row, bytes) in self.rows.iter_mut().zip(bytes) {
+            *row = Row::of_actions(bytes);
+        }
+        let initial = sets(routine, |array| 1 << array.initial);
+        let all = arrays(routine, |_| true);
+        let arguments = arrays(routine, |array| array.kind.is_argument());
+        self.rows[0] = Row::of_labels(all, initial);
+        self.rows[routine.exit()] = Row::of_labels(arguments, initial);
+    }
+
+    /// **Use**: what the segments meet, against the edges.
+    fn find_letters(&mut self, routine: &Routine, graph: &Graph) {
+        let rows = &mut self.rows[..graph.vertices];
+        let mut arriving = [0; MAX_VERTICES];
+        for (met, row) in arriving.iter_mut().zip(rows.iter()) {
+            *met = row.here;
+        }
+        let mut open = Vertices::below(graph.vertices);
+        while !open.is_empty() {
+            open.take_falling(|open, vertex| {
+                let mut ahead = 0;
+                for &next in graph.successors(vertex) {
+                    ahead |= arriving[usize::from(next)];
+                }
+                let row = &mut rows[vertex];
+                row.ahead = ahead;
+                let met = row.here | ahead & !row.stops;
+                if met != arriving[vertex] {
+                    arriving[vertex] = met;
+                    open.add_all(&graph.before[vertex]);
+                }
+            });
+        }
+        // At the exit R for in, W for out and inout.
+        let changed = arrays(routine, |array| array.kind != Kind::In);
+        rows[routine.exit()].ahead = meets(!0, changed, !0);
+        for row in rows {
+            let [reference, change, old_value, _] = row.ahead.to_le_bytes();
+            row.kept = row.labels & reference;
+            row.closed = row.kept & (change | !old_value);
+        }
+    }
+
+    /// Last versions and **reaching**: along the edges, from the entry.
+    fn find_arriving(&mut self, routine: &Routine, graph: &Graph) {
+        self.last[..graph.vertices].fill(0);
+        self.reaching[..graph.vertices].fill(0);
+        let brought = arrays(routine, |array| array.kind.brings_value());
+        self.reaching[0] = self.rows[0].version & all_of(brought);
+        let mut reached = Vertices::EMPTY;
+        let mut open = Vertices::EMPTY;
+        open.insert(0);
+        while !open.is_empty() {
+            open.take_rising(|open, vertex| {
+                let row = &self.rows[vertex];
+                let kept = all_of(row.kept);
+                let last = row.version | self.last[vertex] & !all_of(row.labels);
+                let reaching = row.version & kept | self.reaching[vertex] & !kept;
+                for &next in graph.successors(vertex) {
+                    let next = usize::from(next);
+                    let new = last & !self.last[next] | reaching & !self.reaching[next];
+                    if new != 0 || !reached.contains(next) {
+                        self.last[next] |= last;
+                        self.reaching[next] |= reaching;
+                        reached.insert(next);
+                        open.insert(next);
+                    }
+                }
+            });
+        }
+    }
+
+    /// **Kept set**: against the edges, through all labels but D and W.
+    fn find_kept(&mut self, graph: &Graph) {
+        for (kept, row) in self.kept.iter_mut().zip(&self.rows[..graph.vertices]) {
+            *kept = row.version & all_of(row.kept);
+        }
+        let mut open = Vertices::below(graph.vertices);
+        while !open.is_empty() {
+            open.take_falling(|open, vertex| {
+                let mut ahead = 0;
+                for &next in graph.successors(vertex) {
+                    ahead |= self.kept[usize::from(next)];
+                }
+                let all = self.kept[vertex] | ahead & !all_of(self.rows[vertex].closed);
+                if all != self.kept[vertex] {
+                    self.kept[vertex] = all;
+                    open.add_all(&graph.before[vertex]);
+                }
+            });
+        }
+    }
+
+    /// The arrays with a label at a vertex, rising, each with its label.
+    #[inline(always)]
+    pub fn labels_at(&self, vertex: usize) -> impl Iterator<Item = (usize, Label)> {
+        let row = &self.rows[vertex];
+        let reaching = self.reaching[vertex];
+        let kept = self.kept[vertex];
+        members(row.labels).map(move |array| {
+            let label = Label {
+                letter: row.letter(array),
+                version: set_of(row.version, array).trailing_zeros() as u8,
+                reaching: set_of(reaching, array),
+                kept: set_of(kept, array),
+            };
+            (array, label)
+        })
+    }
+
+    /// The first define or modify of an in argument, by vertex, then array.
+    fn refusal_20(&self, routine: &Routine) -> Option<Refusal> {
+        let ins = arrays(routine, |array| array.kind == Kind::In);
+        let mut rows = self.rows[..routine.vertex_count()].iter();
+        let vertex = rows.position(|row| row.changes & ins != 0)?;
+        let array = (self.rows[vertex].changes & ins).trailing_zeros();
+        Some(Refusal::at_two(20, vertex, array as usize))
+    }
+
+    /// The first ambiguous reference, by vertex, then array.
+    fn refusal_21(&self, routine: &Routine) -> Option<Refusal> {
+        for vertex in 0..routine.vertex_count() {
+            for array in members(self.rows[vertex].references) {
+                if set_of(self.last[vertex], array).count_ones() > 1 {
+                    return Some(Refusal::at_two(21, vertex, array));
+                }
+            }
+        }
+        None
+    }
+
+    /// Works out the labels of a routine, refused by 20 and 21 or not.
+    pub fn solve(&mut self, routine: &Routine) {
+        let graph = Graph::new(routine);
+        self.read_rows(routine);
+        self.find_letters(routine, &graph);
+        self.find_arriving(routine, &graph);
+        self.find_kept(&graph);
+    }
+
+    /// Works out the labels of a routine, or gives refusal 20 or 21.
+    pub fn accept(&mut self, routine: &Routine) -> Result<(), Refusal> {
+        self.solve(routine);
+        let refusal = self.refusal_20(routine);
+        match refusal.or_else(|| self.refusal_21(routine)) {
+            Some(refusal) => Err(refusal),
+            None => Ok(()),
+        }
+    }
+}
+
+/// The arrays that pass a test.
+fn arrays(routine: &Routine, test: impl Fn(Array) -> bool) -> Arrays {
+    let bits = routine.arrays().enumerate();
+    bits.fold(0, |bits, (index, array)| {
+        bits | Arrays::from(test(array)) << index
+    })
+}
+
+/// A set for each array.
+fn sets(routine: &Routine, set: impl Fn(Array) -> u16) -> Sets {
+    let sets = routine.arrays().enumerate();
+    sets.fold(0, |sets, (index, array)| sets | only(index, set(array)))
+}
+
+/// The labels of every array, by array, then vertex.
+pub fn labels(routine: &Routine) -> Vec<Vec<Option<Label>>> {
+    let mut solved = Solved::EMPTY;
+    solved.solve(routine);
+    let label = |vertex, array| {
+        let mut labels = solved.labels_at(vertex);
+        labels.find_map(|(other, label)| (other == array).then_some(label))
+    };
+    let vertices = 0..routine.vertex_count();
+    (0..routine.array_count())
+        .map(|array| {
+            vertices
+                .clone()
+                .map(|vertex| label(vertex, array))
+                .collect()
+        })
+        .collect()
+}
+
+/// Refusal 20 or 21, if there is one.
+pub fn refusal(routine: &Routine) -> Option<Refusal> {
+    let mut solved = Solved::EMPTY;
+    solved.accept(routine).err()
+}

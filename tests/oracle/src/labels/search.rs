@@ -1,0 +1,204 @@
+//! The label rules by searching explicit path states, for routines of any size.
+//!
+//! A state is a vertex and what the path that arrived there has met so far. Each rule is
+//! asked for each vertex by itself, from the words of "Labels".
+
+use super::{Label, Use, refusal_20};
+use crate::outcome::Refusal;
+use crate::routine::{Array, Event, MAX_VERSIONS, Reference, Routine};
+
+/// One array in its graph.
+struct View<'a> {
+    array: Array,
+    events: Vec<Event>,
+    successors: &'a [Vec<usize>],
+}
+
+/// What the segments of a label meet.
+#[derive(Default)]
+struct Met {
+    reference: bool,
+    read: bool,
+    change: bool,
+    /// A read, a modify or the next label, without a define before it.
+    old_value: bool,
+}
+
+/// All states that the paths from `start` come to, `start` included.
+fn states<const KINDS: usize>(
+    vertices: usize,
+    start: (usize, usize),
+    mut next: impl FnMut((usize, usize), &mut Vec<(usize, usize)>),
+) -> Vec<[bool; KINDS]> {
+    let mut seen = vec![[false; KINDS]; vertices];
+    let mut open = vec![start];
+    seen[start.0][start.1] = true;
+    let mut following = Vec::new();
+    while let Some(state) = open.pop() {
+        next(state, &mut following);
+        for (vertex, kind) in following.drain(..) {
+            if !seen[vertex][kind] {
+                seen[vertex][kind] = true;
+                open.push((vertex, kind));
+            }
+        }
+    }
+    seen
+}
+
+impl View<'_> {
+    /// Takes every segment of a label; the state is whether a define was met.
+    fn met(&self, label: usize) -> Met {
+        let mut met = Met::default();
+        for &first in &self.successors[label] {
+            states::<2>(self.events.len(), (first, 0), |(vertex, defined), next| {
+                let mut defined_after = defined;
+                match self.events[vertex] {
+                    Event::Nothing => {}
+                    Event::Label(_) => {
+                        met.old_value |= defined == 0;
+                        return;
+                    }
+                    Event::Reference(reference) => {
+                        met.reference = true;
+                        met.read |= reference == Reference::Read;
+                        met.change |= reference != Reference::Read;
+                        met.old_value |= reference != Reference::Define && defined == 0;
+                        if reference == Reference::Define {
+                            defined_after = 1;
+                        }
+                    }
+                }
+                next.extend(self.successors[vertex].iter().map(|&v| (v, defined_after)));
+            });
+        }
+        met
+    }
+
+    /// **Use** of the label at a vertex.
+    fn letter(&self, label: usize) -> Use {
+        if label + 1 == self.events.len() {
+            return Use::at_exit(self.array.kind);
+        }
+        let met = self.met(label);
+        if !met.reference {
+            Use::N
+        } else if !met.old_value {
+            Use::D
+        } else if met.read && !met.change {
+            Use::R
+        } else {
+            Use::W
+        }
+    }
+
+    /// For each vertex the versions that paths from the entry bring to it, where
+    /// `replaced` gives the version that a path carries on from a vertex, if it changes,
+    /// and `brought` the one that it carries into the entry.
+    fn arriving(&self, brought: Option<u8>, replaced: impl Fn(usize) -> Option<u8>) -> Vec<u16> {
+        const NONE: usize = MAX_VERSIONS;
+        let start = brought.map_or(NONE, usize::from);
+        let seen =
+            states::<{ NONE + 1 }>(self.events.len(), (0, start), |(vertex, carried), next| {
+                let leaves = replaced(vertex).map_or(carried, usize::from);
+                next.extend(self.successors[vertex].iter().map(|&v| (v, leaves)));
+            });
+        let mask = |kinds: &[bool; NONE + 1]| {
+            (0..NONE)
+                .filter(|&version| kinds[version])
+                .fold(0, |mask, version| mask | 1 << version)
+        };
+        seen.iter().map(mask).collect()
+    }
+
+    /// Versions of the last label on the paths to each vertex, dropped ones included.
+    fn last_versions(&self) -> Vec<u16> {
+        self.arriving(None, |vertex| match self.events[vertex] {
+            Event::Label(version) => Some(version),
+            _ => None,
+        })
+    }
+
+    fn labels(&self) -> Vec<Option<Label>> {
+        let vertices = self.events.len();
+        let letters: Vec<Option<(Use, u8)>> = (0..vertices)
+            .map(|vertex| match self.events[vertex] {
+                Event::Label(version) => Some((self.letter(vertex), version)),
+                _ => None,
+            })
+            .collect();
+        let leaving = |vertex: usize| match letters[vertex] {
+            Some((Use::D | Use::R | Use::W, version)) => Some(version),
+            _ => None,
+        };
+        let brought = self.array.kind.brings_value().then_some(self.array.initial);
+        let reaching = self.arriving(brought, leaving);
+        let kept = |label: usize| {
+            let seen = states::<1>(vertices, (label, 0), |(vertex, _), next| {
+                if !matches!(letters[vertex], Some((Use::D | Use::W, _))) {
+                    next.extend(self.successors[vertex].iter().map(|&v| (v, 0)));
+                }
+            });
+            (0..vertices)
+                .filter(|&vertex| seen[vertex][0])
+                .filter_map(leaving)
+                .fold(0, |mask, version| mask | 1 << version)
+        };
+        (0..vertices)
+            .map(|vertex| {
+                letters[vertex].map(|(letter, version)| Label {
+                    letter,
+                    version,
+                    reaching: reaching[vertex],
+                    kept: kept(vertex),
+                })
+            })
+            .collect()
+    }
+}
+
+fn successors(routine: &Routine) -> Vec<Vec<usize>> {
+    let mut successors = vec![Vec::new(); routine.vertex_count()];
+    for (from, to) in routine.edges() {
+        successors[from].push(to);
+    }
+    successors
+}
+
+fn views<'a>(routine: &Routine, successors: &'a [Vec<usize>]) -> Vec<View<'a>> {
+    (0..routine.array_count())
+        .map(|array| View {
+            array: routine.array(array),
+            events: (0..routine.vertex_count())
+                .map(|vertex| routine.event(vertex, array))
+                .collect(),
+            successors,
+        })
+        .collect()
+}
+
+/// The labels of every array, by array, then vertex.
+pub fn labels(routine: &Routine) -> Vec<Vec<Option<Label>>> {
+    views(routine, &successors(routine))
+        .iter()
+        .map(View::labels)
+        .collect()
+}
+
+/// Refusal 20 or 21, if there is one.
+pub fn refusal(routine: &Routine) -> Option<Refusal> {
+    let successors = successors(routine);
+    let views = views(routine, &successors);
+    let ambiguous = || {
+        let arriving: Vec<Vec<u16>> = views.iter().map(View::last_versions).collect();
+        let arrays = 0..routine.array_count();
+        (0..routine.vertex_count())
+            .flat_map(|vertex| arrays.clone().map(move |array| (vertex, array)))
+            .find(|&(vertex, array)| {
+                matches!(views[array].events[vertex], Event::Reference(_))
+                    && arriving[array][vertex].count_ones() > 1
+            })
+            .map(|(vertex, array)| Refusal::at_two(21, vertex, array))
+    };
+    refusal_20(routine).or_else(ambiguous)
+}

@@ -1,0 +1,17 @@
+//! An implementation of document 01 (docs/01-scope.md) in Rust, written from its words
+//! and from the readings in docs/DECISIONS.md, to hold the verified library against.
+//!
+//! `plan::plan` and `run::run` are the two calls. `labels` has the label rules three
+//! times: by listing paths, by searching explicit path states, and as fast data flow.
+
+pub mod builder;
+pub mod demand3;
+pub mod generate;
+pub mod labels;
+pub mod listing;
+pub mod machine;
+pub mod outcome;
+pub mod plan;
+pub mod record;
+pub mod routine;
+pub mod run;

@@ -1,0 +1,51 @@
+//! Plans and reports as the two programs print them ("Routine P and others").
+
+fn word(bytes: &[u8], at: usize) -> usize {
+    usize::from(u16::from_le_bytes([bytes[at], bytes[at + 1]]))
+}
+
+/// The planner program's lines for a plan.
+pub fn plan(plan: &[u8]) -> String {
+    let mut text = String::from("vertex array use leave reach keep\n");
+    let vertices = word(plan, 4);
+    let labels = &plan[8 + 4 * vertices..];
+    for vertex in 0..vertices {
+        let first = word(plan, 8 + 4 * vertex);
+        let count = word(plan, 10 + 4 * vertex);
+        for label in labels.chunks_exact(8).skip(first).take(count) {
+            let leaving = match label[2] {
+                255 => String::from("-"),
+                version => version.to_string(),
+            };
+            text += &format!(
+                "{vertex} {} {} {leaving} {:04x} {:04x}\n",
+                label[0],
+                char::from(label[1]),
+                word(label, 4),
+                word(label, 6)
+            );
+        }
+    }
+    text
+}
+
+/// The run program's lines for a report on so many arrays.
+pub fn report(report: &[u8], arrays: usize) -> String {
+    let (heads, records) = report.split_at(6 * arrays);
+    let mut text = String::new();
+    for head in heads.chunks_exact(6) {
+        text += &format!("{} {} {}\n", word(head, 0), word(head, 2), head[4]);
+    }
+    for record in records.chunks_exact(10) {
+        text += &format!(
+            "{} {} {} {} {} {}\n",
+            word(record, 0),
+            record[2],
+            record[3],
+            record[4],
+            word(record, 6),
+            word(record, 8)
+        );
+    }
+    text
+}

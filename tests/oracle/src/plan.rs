@@ -1,0 +1,62 @@
+//! The plan's bytes ("Plan and report") and refusal 1.
+
+use crate::labels::fixpoint::Solved;
+use crate::outcome::{Outcome, Refusal};
+use crate::routine::Routine;
+
+/// Writes the plan of a routine file over the front of `out`.
+pub fn plan(file: &[u8], out: &mut [u8]) -> Outcome {
+    Outcome::of(write(file, out))
+}
+
+fn write(file: &[u8], out: &mut [u8]) -> Result<usize, Refusal> {
+    let routine = Routine::parse(file)?;
+    let mut solved = Solved::EMPTY;
+    solved.accept(&routine)?;
+    let vertices = routine.vertex_count();
+    let labels = label_count(&routine);
+    let needed = 8 + 4 * vertices + 8 * labels;
+    if out.len() < needed {
+        return Err(Refusal::at(1, needed));
+    }
+    let (head, rest) = out[..needed].split_at_mut(8);
+    let (contents, records) = rest.split_at_mut(4 * vertices);
+    head[..4].copy_from_slice(b"HPFP");
+    put_word(&mut head[4..], vertices);
+    put_word(&mut head[6..], labels);
+    let mut first = 0;
+    let mut records = records.as_chunks_mut::<8>().0.iter_mut();
+    for (vertex, entry) in contents.as_chunks_mut::<4>().0.iter_mut().enumerate() {
+        let mut here = 0;
+        for ((array, label), record) in solved.labels_at(vertex).zip(&mut records) {
+            here += 1;
+            let [reaching, reaching_high] = label.reaching.to_le_bytes();
+            let [kept, kept_high] = label.kept.to_le_bytes();
+            *record = [
+                array as u8,
+                label.letter.letter(),
+                label.leaving().unwrap_or(255),
+                0,
+                reaching,
+                reaching_high,
+                kept,
+                kept_high,
+            ];
+        }
+        put_word(&mut entry[..2], first);
+        put_word(&mut entry[2..], here);
+        first += here;
+    }
+    Ok(needed)
+}
+
+/// Remap actions, entry labels and exit labels.
+fn label_count(routine: &Routine) -> usize {
+    let remaps = routine.action_bytes().iter().filter(|&&byte| byte >= 0x40);
+    let arguments = routine.arrays().filter(|array| array.kind.is_argument());
+    routine.array_count() + remaps.count() + arguments.count()
+}
+
+fn put_word(bytes: &mut [u8], value: usize) {
+    bytes[..2].copy_from_slice(&(value as u16).to_le_bytes());
+}

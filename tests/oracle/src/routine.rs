@@ -1,0 +1,280 @@
+//! The routine file ("Routine file") and refusals 10 to 16.
+
+use crate::outcome::Refusal;
+
+pub const MAX_ARRAYS: usize = 8;
+pub const MAX_VERSIONS: usize = 16;
+pub const MAX_VERTICES: usize = 256;
+pub const MAX_EDGES: usize = 1024;
+
+/// Mark, edition and table of contents: the bodies follow from here.
+pub const HEAD: usize = 18;
+
+/// Kind of an array; the last three are arguments.
+#[derive(Clone, Copy, Debug, PartialEq, Eq)]
+pub enum Kind {
+    Local,
+    In,
+    Out,
+    Inout,
+}
+
+impl Kind {
+    pub fn is_argument(self) -> bool {
+        self != Kind::Local
+    }
+
+    /// In and inout arguments bring a value into the routine.
+    pub fn brings_value(self) -> bool {
+        self == Kind::In || self == Kind::Inout
+    }
+}
+
+/// An array's record, without its zero byte.
+#[derive(Clone, Copy, Debug, PartialEq, Eq)]
+pub struct Array {
+    pub kind: Kind,
+    pub versions: u8,
+    pub initial: u8,
+}
+
+#[derive(Clone, Copy, Debug, PartialEq, Eq)]
+pub enum Reference {
+    Read,
+    Define,
+    Modify,
+}
+
+#[derive(Clone, Copy, Debug, PartialEq, Eq)]
+pub enum Action {
+    Nothing,
+    Reference(Reference),
+    Remap(u8),
+}
+
+impl Action {
+    /// The action that a byte stands for, or none for an unknown byte.
+    pub const fn from_byte(byte: u8) -> Option<Action> {
+        match byte {
+            0x00 => Some(Action::Nothing),
+            0x10 => Some(Action::Reference(Reference::Read)),
+            0x20 => Some(Action::Reference(Reference::Define)),
+            0x30 => Some(Action::Reference(Reference::Modify)),
+            0x40..=0x4f => Some(Action::Remap(byte - 0x40)),
+            _ => None,
+        }
+    }
+}
+
+const REFERENCE: u8 = 1;
+const REMAP: u8 = 2;
+const UNKNOWN: u8 = 4;
+
+/// For each byte the kind of its action, 0 for nothing.
+const ACTION_KINDS: [u8; 256] = {
+    let mut kinds = [UNKNOWN; 256];
+    let mut byte = 0;
+    while byte < 256 {
+        match Action::from_byte(byte as u8) {
+            Some(Action::Nothing) => kinds[byte] = 0,
+            Some(Action::Reference(_)) => kinds[byte] = REFERENCE,
+            Some(Action::Remap(_)) => kinds[byte] = REMAP,
+            None => {}
+        }
+        byte += 1;
+    }
+    kinds
+};
+
+/// What a vertex does with one array: entry and exit labels are counted as labels.
+#[derive(Clone, Copy, Debug, PartialEq, Eq)]
+pub enum Event {
+    Nothing,
+    Reference(Reference),
+    /// A label with its version.
+    Label(u8),
+}
+
+/// An accepted routine file, read in place.
+#[derive(Clone, Copy)]
+pub struct Routine<'a> {
+    arrays: &'a [[u8; 4]],
+    actions: &'a [u8],
+    vertices: usize,
+    edges: &'a [[u8; 4]],
+}
+
+fn word(bytes: &[u8], at: usize) -> usize {
+    usize::from(u16::from_le_bytes([bytes[at], bytes[at + 1]]))
+}
+
+impl<'a> Routine<'a> {
+    /// The routine in a file, or the first refusal of 10 to 16.
+    pub fn parse(file: &'a [u8]) -> Result<Routine<'a>, Refusal> {
+        if file.len() < HEAD {
+            return Err(Refusal::at(10, file.len()));
+        }
+        if file[..4] != *b"HPFR" {
+            return Err(Refusal::at(10, 0));
+        }
+        if word(file, 4) != 1 {
+            return Err(Refusal::at(11, 4));
+        }
+        for (place, limits) in [
+            (8, 1..=MAX_ARRAYS),
+            (12, 2..=MAX_VERTICES),
+            (16, 0..=MAX_EDGES),
+        ] {
+            if !limits.contains(&word(file, place)) {
+                return Err(Refusal::at(12, place));
+            }
+        }
+        let vertices = word(file, 12);
+        let first_row = HEAD + 4 * word(file, 8);
+        let first_edge = first_row + vertices * word(file, 8);
+        let end = first_edge + 4 * word(file, 16);
+        for (place, offset) in [(6, HEAD), (10, first_row), (14, first_edge)] {
+            if word(file, place) != offset {
+                return Err(Refusal::at(13, place));
+            }
+        }
+        if file.len() != end {
+            return Err(Refusal::at(13, 18));
+        }
+        let routine = Routine {
+            arrays: file[HEAD..first_row].as_chunks().0,
+            actions: &file[first_row..first_edge],
+            vertices,
+            edges: file[first_edge..].as_chunks().0,
+        };
+        if let Some(byte) = routine.bad_array_byte() {
+            return Err(Refusal::at(14, HEAD + byte));
+        }
+        if let Some(byte) = routine.bad_action_byte() {
+            return Err(Refusal::at(15, first_row + byte));
+        }
+        if let Some(edge) = routine.bad_edge() {
+            return Err(Refusal::at(16, first_edge + 4 * edge));
+        }
+        Ok(routine)
+    }
+
+    fn bad_array_byte(&self) -> Option<usize> {
+        for (index, &[kind, versions, initial, zero]) in self.arrays.iter().enumerate() {
+            let faults = [
+                kind > 3,
+                versions < 1 || usize::from(versions) > MAX_VERSIONS,
+                initial >= versions,
+                zero != 0,
+            ];
+            if let Some(byte) = faults.iter().position(|&fault| fault) {
+                return Some(4 * index + byte);
+            }
+        }
+        None
+    }
+
+    fn bad_action_byte(&self) -> Option<usize> {
+        let arrays = self.arrays.len();
+        for (vertex, row) in self.actions.chunks_exact(arrays).enumerate() {
+            let zero_row = vertex == 0 || vertex == self.exit();
+            let mut kinds = 0;
+            for (array, (&byte, record)) in row.iter().zip(self.arrays).enumerate() {
+                kinds |= ACTION_KINDS[usize::from(byte)];
+                let unknown_or_mixed = kinds > REMAP;
+                let version_too_large = byte >= 0x40 + record[1];
+                if unknown_or_mixed | version_too_large | (zero_row & (byte != 0)) {
+                    return Some(vertex * arrays + array);
+                }
+            }
+        }
+        None
+    }
+
+    fn bad_edge(&self) -> Option<usize> {
+        let mut before = None;
+        for index in 0..self.edge_count() {
+            let (from, to) = self.edge(index);
+            let fault = from >= self.vertices
+                || to >= self.vertices
+                || to == 0
+                || from == self.exit()
+                || before.is_some_and(|edge| (from, to) <= edge);
+            if fault {
+                return Some(index);
+            }
+            before = Some((from, to));
+        }
+        None
+    }
+
+    pub fn array_count(&self) -> usize {
+        self.arrays.len()
+    }
+
+    pub fn array(&self, index: usize) -> Array {
+        let [kind, versions, initial, _] = self.arrays[index];
+        let kind = match kind {
+            0 => Kind::Local,
+            1 => Kind::In,
+            2 => Kind::Out,
+            _ => Kind::Inout,
+        };
+        Array {
+            kind,
+            versions,
+            initial,
+        }
+    }
+
+    pub fn arrays(&self) -> impl Iterator<Item = Array> {
+        (0..self.array_count()).map(|index| self.array(index))
+    }
+
+    pub fn vertex_count(&self) -> usize {
+        self.vertices
+    }
+
+    /// The last vertex.
+    pub fn exit(&self) -> usize {
+        self.vertices - 1
+    }
+
+    /// All action bytes, by vertex, then array.
+    pub fn action_bytes(&self) -> &'a [u8] {
+        self.actions
+    }
+
+    /// The action bytes of one vertex.
+    pub fn row(&self, vertex: usize) -> &'a [u8] {
+        let arrays = self.arrays.len();
+        &self.actions[vertex * arrays..][..arrays]
+    }
+
+    /// Entry and exit labels ("Labels"), elsewhere the action byte.
+    pub fn event(&self, vertex: usize, array: usize) -> Event {
+        let record = self.array(array);
+        if vertex == 0 || vertex == self.exit() && record.kind.is_argument() {
+            return Event::Label(record.initial);
+        }
+        match Action::from_byte(self.row(vertex)[array]) {
+            Some(Action::Reference(reference)) => Event::Reference(reference),
+            Some(Action::Remap(version)) => Event::Label(version),
+            Some(Action::Nothing) | None => Event::Nothing,
+        }
+    }
+
+    pub fn edge_count(&self) -> usize {
+        self.edges.len()
+    }
+
+    /// From and to of one edge.
+    pub fn edge(&self, index: usize) -> (usize, usize) {
+        let bytes = &self.edges[index];
+        (word(bytes, 0), word(bytes, 2))
+    }
+
+    pub fn edges(&self) -> impl Iterator<Item = (usize, usize)> {
+        (0..self.edge_count()).map(|index| self.edge(index))
+    }
+}

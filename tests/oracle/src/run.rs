@@ -1,0 +1,212 @@
+//! The run rules ("Run", first part), the report's bytes and refusals 30 to 32 and 2.
+
+use crate::labels::fixpoint::Solved;
+use crate::labels::{Label, Use};
+use crate::outcome::{Outcome, Refusal};
+use crate::record::Record;
+use crate::routine::{
+    Action, Array, Kind, MAX_ARRAYS, MAX_VERSIONS, MAX_VERTICES, Reference, Routine,
+};
+
+pub const MAX_PATH: usize = 4096;
+
+/// The copies of one array.
+#[derive(Clone, Copy, Debug, PartialEq, Eq)]
+pub struct Copies {
+    pub current: Option<u8>,
+    pub live: u16,
+    pub stamps: [u16; MAX_VERSIONS],
+    /// Number of stamps copied.
+    pub copied: u16,
+}
+
+impl Copies {
+    const NONE: Copies = Copies {
+        current: None,
+        live: 0,
+        stamps: [0; MAX_VERSIONS],
+        copied: 0,
+    };
+
+    fn start(array: Array) -> Copies {
+        let mut copies = Copies::NONE;
+        if array.kind.brings_value() {
+            copies.current = Some(array.initial);
+            copies.live = 1 << array.initial;
+            copies.stamps[usize::from(array.initial)] = 65_535;
+        }
+        copies
+    }
+
+    /// At a label: moves to a kept one's version, then cleans.
+    fn label(&mut self, array: Array, label: &Label) {
+        if label.is_kept() && self.current != Some(label.version) {
+            self.make_current(label);
+        }
+        let current = self.current.map_or(0, |version| 1 << version);
+        let mut dead = self.live & !label.kept & !current;
+        self.live &= !dead;
+        if array.kind.is_argument() {
+            // The initial version belongs to the caller and keeps its stamp.
+            dead &= !(1 << array.initial);
+        }
+        while dead != 0 {
+            self.stamps[dead.trailing_zeros() as usize] = 0;
+            dead &= dead - 1;
+        }
+    }
+
+    /// At a kept label whose target is not current.
+    fn make_current(&mut self, label: &Label) {
+        let target = usize::from(label.version);
+        if self.live & 1 << target == 0 {
+            self.stamps[target] = 0;
+            if let Some(current) = self.current
+                && label.letter != Use::D
+            {
+                self.stamps[target] = self.stamps[usize::from(current)];
+                self.copied += 1;
+            }
+            self.live |= 1 << target;
+        }
+        self.current = Some(label.version);
+    }
+
+    /// A reference uses the current version. It follows a kept label, so there is one.
+    fn reference(&mut self, step: u16, array: usize, reference: Reference) -> Record {
+        let version = self.current.expect("a reference follows a kept label");
+        let stamp = &mut self.stamps[usize::from(version)];
+        let record = Record::new(step, array, version, reference, *stamp);
+        if reference != Reference::Read {
+            *stamp = step;
+        }
+        record
+    }
+
+    /// Local arrays at the exit.
+    fn lose_all(&mut self) {
+        *self = Copies {
+            copied: self.copied,
+            ..Copies::NONE
+        };
+    }
+
+    /// An array's six bytes in the report.
+    fn bytes(&self) -> [u8; 6] {
+        let [copied, copied_high] = self.copied.to_le_bytes();
+        let [live, live_high] = self.live.to_le_bytes();
+        let current = self.current.unwrap_or(255);
+        [copied, copied_high, live, live_high, current, 0]
+    }
+}
+
+/// The vertices of a path; an odd last byte is ignored.
+pub fn vertices(path: &[u8]) -> impl ExactSizeIterator<Item = usize> + Clone {
+    path.as_chunks::<2>()
+        .0
+        .iter()
+        .map(|&word| usize::from(u16::from_le_bytes(word)))
+}
+
+/// Refusals 30 to 32.
+pub fn check_path(routine: &Routine, path: &[u8]) -> Result<(), Refusal> {
+    let length = vertices(path).len();
+    if length == 0 || length > MAX_PATH {
+        return Err(Refusal::at(30, length));
+    }
+    if vertices(path).next() != Some(0) {
+        return Err(Refusal::at(31, 0));
+    }
+    let edges = Edges::new(routine);
+    let steps = vertices(path).zip(vertices(path).skip(1));
+    for (index, (from, to)) in steps.enumerate() {
+        if !edges.contain(from, to) {
+            return Err(Refusal::at(32, index + 1));
+        }
+    }
+    Ok(())
+}
+
+/// The edges as a square table of bits.
+struct Edges([[u64; MAX_VERTICES / 64]; MAX_VERTICES]);
+
+impl Edges {
+    fn new(routine: &Routine) -> Edges {
+        let mut table = [[0; MAX_VERTICES / 64]; MAX_VERTICES];
+        for (from, to) in routine.edges() {
+            table[from][to / 64] |= 1 << (to % 64);
+        }
+        Edges(table)
+    }
+
+    fn contain(&self, from: usize, to: usize) -> bool {
+        to < MAX_VERTICES && self.0[from][to / 64] >> (to % 64) & 1 == 1
+    }
+}
+
+/// Takes an accepted path by the run rules; gives each record and the last state.
+pub fn walk(
+    routine: &Routine,
+    solved: &Solved,
+    path: &[u8],
+    mut give: impl FnMut(Record),
+) -> [Copies; MAX_ARRAYS] {
+    let mut all = [Copies::NONE; MAX_ARRAYS];
+    for (copies, array) in all.iter_mut().zip(routine.arrays()) {
+        *copies = Copies::start(array);
+    }
+    for (index, vertex) in vertices(path).enumerate() {
+        let step = index as u16 + 1;
+        for (array, &byte) in routine.row(vertex).iter().enumerate() {
+            if let Some(Action::Reference(reference)) = Action::from_byte(byte) {
+                give(all[array].reference(step, array, reference));
+            }
+        }
+        for (array, label) in solved.labels_at(vertex) {
+            all[array].label(routine.array(array), &label);
+        }
+        if vertex == routine.exit() {
+            for (copies, array) in all.iter_mut().zip(routine.arrays()) {
+                if array.kind == Kind::Local {
+                    copies.lose_all();
+                }
+            }
+        }
+    }
+    all
+}
+
+/// Writes the report of a path through a routine file over the front of `out`.
+pub fn run(file: &[u8], path: &[u8], out: &mut [u8]) -> Outcome {
+    Outcome::of(write(file, path, out))
+}
+
+fn write(file: &[u8], path: &[u8], out: &mut [u8]) -> Result<usize, Refusal> {
+    let routine = Routine::parse(file)?;
+    let mut solved = Solved::EMPTY;
+    solved.accept(&routine)?;
+    check_path(&routine, path)?;
+    let arrays = routine.array_count();
+    let needed = 6 * arrays + 10 * reference_count(&routine, path);
+    if out.len() < needed {
+        return Err(Refusal::at(2, needed));
+    }
+    let (heads, records) = out[..needed].split_at_mut(6 * arrays);
+    let mut records = records.as_chunks_mut::<10>().0.iter_mut();
+    let states = walk(&routine, &solved, path, |record| {
+        if let Some(place) = records.next() {
+            *place = record.bytes();
+        }
+    });
+    for (head, copies) in heads.as_chunks_mut::<6>().0.iter_mut().zip(&states) {
+        *head = copies.bytes();
+    }
+    Ok(needed)
+}
+
+fn reference_count(routine: &Routine, path: &[u8]) -> usize {
+    let is_reference = |byte: &&u8| (0x10..0x40).contains(*byte);
+    vertices(path)
+        .map(|vertex| routine.row(vertex).iter().filter(is_reference).count())
+        .sum()
+}

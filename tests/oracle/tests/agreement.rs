@@ -1,0 +1,143 @@
+//! The three forms of the label rules agree.
+
+use oracle::builder::{self, Draft};
+use oracle::generate::limits;
+use oracle::generate::rng::Rng;
+use oracle::generate::routines::{self, Size};
+use oracle::labels::fixpoint::Solved;
+use oracle::labels::{fixpoint, literal, search};
+use oracle::routine::Routine;
+
+const SEED: u64 = 1;
+
+fn search_agrees(draft: &Draft) {
+    let file = draft.bytes();
+    let routine = Routine::parse(&file).unwrap();
+    assert_eq!(
+        fixpoint::refusal(&routine),
+        search::refusal(&routine),
+        "{draft:?}"
+    );
+    assert_eq!(
+        fixpoint::labels(&routine),
+        search::labels(&routine),
+        "{draft:?}"
+    );
+}
+
+fn literal_agrees(draft: &Draft) {
+    let file = draft.bytes();
+    let routine = Routine::parse(&file).unwrap();
+    assert_eq!(
+        fixpoint::refusal(&routine),
+        literal::refusal(&routine),
+        "{draft:?}"
+    );
+    assert_eq!(
+        fixpoint::labels(&routine),
+        literal::labels(&routine),
+        "{draft:?}"
+    );
+}
+
+#[test]
+fn named_routines() {
+    for draft in [
+        builder::p(),
+        builder::q(),
+        builder::s(),
+        builder::t(),
+        builder::t_without_read(),
+        builder::u(),
+    ] {
+        literal_agrees(&draft);
+        search_agrees(&draft);
+    }
+}
+
+#[test]
+fn all_routines_of_four_vertices() {
+    let mut count = 0;
+    for draft in routines::all_of_four_vertices() {
+        literal_agrees(&draft);
+        count += 1;
+    }
+    assert_eq!(count, 4 * 36 * 512);
+}
+
+#[test]
+fn small_graphs() {
+    for index in 0..20_000 {
+        let mut rng = Rng::for_input(SEED, index);
+        let size = Size {
+            vertices: rng.between(2, 6),
+            arrays: rng.between(1, 2),
+            versions: rng.between(1, 3),
+        };
+        let edges = rng.between(size.vertices - 1, 3 * size.vertices);
+        let spine = rng.chance(50);
+        let mut draft = routines::graph(&mut rng, size, edges, spine);
+        if rng.chance(50) {
+            routines::make_acceptable(&mut rng, &mut draft);
+        }
+        literal_agrees(&draft);
+        search_agrees(&draft);
+    }
+}
+
+#[test]
+fn small_programs() {
+    for index in 0..20_000 {
+        let mut rng = Rng::for_input(SEED + 1, index);
+        let size = Size {
+            vertices: rng.between(3, 9),
+            arrays: rng.between(1, 2),
+            versions: rng.between(1, 3),
+        };
+        let mut draft = routines::program(&mut rng, size);
+        if rng.chance(50) {
+            routines::make_acceptable(&mut rng, &mut draft);
+        }
+        literal_agrees(&draft);
+    }
+}
+
+#[test]
+fn routines_of_any_size() {
+    for index in 0..1000 {
+        let mut rng = Rng::for_input(SEED + 2, index);
+        let size = Size::any(&mut rng);
+        let draft = match rng.below(3) {
+            0 => routines::program(&mut rng, size),
+            1 => routines::any_graph(&mut rng, size),
+            _ => routines::accepted(&mut rng, size),
+        };
+        search_agrees(&draft);
+    }
+}
+
+/// Tables that were used before give the same plan.
+#[test]
+fn tables_used_again() {
+    let mut solved = Solved::EMPTY;
+    for index in 0..1000 {
+        let mut rng = Rng::for_input(SEED + 3, index);
+        let size = Size::any(&mut rng);
+        let file = routines::accepted(&mut rng, size).bytes();
+        let routine = Routine::parse(&file).unwrap();
+        solved.solve(&routine);
+        for (array, labels) in search::labels(&routine).into_iter().enumerate() {
+            for (vertex, expected) in labels.into_iter().enumerate() {
+                let label = solved.labels_at(vertex).find(|label| label.0 == array);
+                assert_eq!(label.map(|label| label.1), expected);
+            }
+        }
+    }
+}
+
+#[test]
+fn routines_at_the_limits() {
+    for draft in limits::at_limits(&mut Rng::new(SEED)) {
+        search_agrees(&draft);
+    }
+}

@@ -1,0 +1,211 @@
+//! The cases of document 01 by number, and routine U.
+
+use oracle::builder::{self, Draft, LOCAL, path_bytes};
+use oracle::listing;
+use oracle::machine;
+use oracle::outcome::Outcome;
+use oracle::plan::plan;
+use oracle::routine::Routine;
+use oracle::run::{run, vertices};
+
+const ROOM: usize = 400_000;
+
+fn outcome(number: u64, first: u64, second: u64) -> Outcome {
+    Outcome {
+        number,
+        first,
+        second,
+    }
+}
+
+/// The plan of an accepted routine.
+fn planned(draft: &Draft) -> Vec<u8> {
+    let mut out = vec![0xa5; ROOM];
+    let answer = plan(&draft.bytes(), &mut out);
+    assert_eq!(answer.number, 0, "{answer:?}");
+    out.truncate(answer.first as usize);
+    out
+}
+
+/// The report of an accepted path.
+fn ran(draft: &Draft, path: &[u16]) -> Vec<u8> {
+    let mut out = vec![0xa5; ROOM];
+    let answer = run(&draft.bytes(), &path_bytes(path), &mut out);
+    assert_eq!(answer.number, 0, "{answer:?}");
+    out.truncate(answer.first as usize);
+    out
+}
+
+/// The machine's count for the only array.
+fn machine_count(draft: &Draft, path: &[u16]) -> usize {
+    let file = draft.bytes();
+    let routine = Routine::parse(&file).unwrap();
+    let arrays: Vec<_> = routine.arrays().collect();
+    let path: Vec<usize> = vertices(&path_bytes(path)).collect();
+    machine::run(&arrays, routine.action_bytes(), &path).0[0].count
+}
+
+/// What every run of a draft along a path answers.
+fn run_answer(draft: &Draft, path: &[u16]) -> Outcome {
+    run(&draft.bytes(), &path_bytes(path), &mut vec![0; ROOM])
+}
+
+#[test]
+fn case_1_labels_of_p() {
+    let file = builder::p().bytes();
+    assert_eq!(file.len(), 62);
+    let plan = planned(&builder::p());
+    assert_eq!(
+        listing::plan(&plan),
+        "vertex array use leave reach keep\n\
+         0 0 D 0 0000 0001\n\
+         2 0 R 1 0001 0003\n\
+         4 0 N - 0002 0003\n\
+         5 0 R 0 0002 0003\n"
+    );
+    #[rustfmt::skip]
+    let bytes = [
+        b'H', b'P', b'F', b'P', 8, 0, 4, 0,
+        0, 0, 1, 0, 1, 0, 0, 0, 1, 0, 1, 0, 2, 0, 0, 0,
+        2, 0, 1, 0, 3, 0, 1, 0, 4, 0, 0, 0, 4, 0, 0, 0,
+        0, b'D', 0, 0, 0x00, 0, 0x01, 0,
+        0, b'R', 1, 0, 0x01, 0, 0x03, 0,
+        0, b'N', 255, 0, 0x02, 0, 0x03, 0,
+        0, b'R', 0, 0, 0x02, 0, 0x03, 0,
+    ];
+    assert_eq!(plan, bytes);
+}
+
+#[test]
+fn case_2_a_run_of_p() {
+    let path = [0, 1, 2, 3, 4, 5, 6, 2, 3];
+    assert_eq!(
+        listing::report(&ran(&builder::p(), &path), 1),
+        "1 3 1\n2 0 0 2 0 2\n4 0 1 1 2 0\n7 0 0 1 2 0\n9 0 1 1 2 0\n"
+    );
+    assert_eq!(machine_count(&builder::p(), &path), 4);
+}
+
+#[test]
+fn case_3_labels_of_q() {
+    assert_eq!(
+        listing::plan(&planned(&builder::q())),
+        "vertex array use leave reach keep\n\
+         0 0 N - 0001 0002\n\
+         1 0 W 1 0001 0002\n\
+         3 0 R 0 0002 0001\n\
+         5 0 W 0 0001 0001\n"
+    );
+}
+
+#[test]
+fn case_4_q_without_the_define() {
+    let path = [0, 1, 3, 4];
+    assert_eq!(
+        listing::report(&ran(&builder::q(), &path), 1),
+        "2 1 0\n4 0 0 1 65535 0\n"
+    );
+    assert_eq!(machine_count(&builder::q(), &path), 2);
+}
+
+#[test]
+fn case_5_q_with_the_define() {
+    let path = [0, 1, 2, 3, 4];
+    assert_eq!(
+        listing::report(&ran(&builder::q(), &path), 1),
+        "2 1 0\n3 0 1 2 0 3\n5 0 0 1 3 0\n"
+    );
+    assert_eq!(machine_count(&builder::q(), &path), 2);
+}
+
+#[test]
+fn case_6_a_run_of_s() {
+    let path = [0, 1, 2, 3, 4];
+    let report = ran(&builder::s(), &path);
+    assert_eq!(
+        listing::report(&report, 1),
+        "1 4 2\n2 0 0 2 0 2\n5 0 2 1 2 0\n"
+    );
+    #[rustfmt::skip]
+    let bytes = [
+        1, 0, 4, 0, 2, 0,
+        2, 0, 0, 0, 2, 0, 0, 0, 2, 0,
+        5, 0, 0, 2, 1, 0, 2, 0, 0, 0,
+    ];
+    assert_eq!(report, bytes);
+    assert_eq!(machine_count(&builder::s(), &path), 2);
+    assert_eq!(
+        listing::plan(&planned(&builder::s())),
+        "vertex array use leave reach keep\n\
+         0 0 D 0 0000 0001\n\
+         2 0 N - 0001 0004\n\
+         3 0 R 2 0001 0004\n"
+    );
+}
+
+#[test]
+fn case_7_t_is_ambiguous() {
+    let file = builder::t().bytes();
+    assert_eq!(plan(&file, &mut [0; 100]), outcome(21, 2, 0));
+    assert_eq!(run_answer(&builder::t(), &[0, 2]), outcome(21, 2, 0));
+}
+
+#[test]
+fn case_8_t_with_nothing_at_2() {
+    assert_eq!(
+        listing::plan(&planned(&builder::t_without_read())),
+        "vertex array use leave reach keep\n0 0 N - 0000 0000\n1 0 N - 0000 0000\n"
+    );
+}
+
+#[test]
+fn case_9_versions() {
+    let draft = |versions| Draft::chain(LOCAL, versions, 0, &[builder::READ]);
+    planned(&draft(16));
+    assert_eq!(plan(&draft(17).bytes(), &mut [0; 100]), outcome(14, 19, 0));
+}
+
+#[test]
+fn case_9_vertices() {
+    let draft = |vertices: usize| Draft::chain(LOCAL, 1, 0, &vec![0; vertices - 2]);
+    planned(&draft(256));
+    assert_eq!(
+        plan(&draft(257).bytes(), &mut [0; ROOM]),
+        outcome(12, 12, 0)
+    );
+}
+
+#[test]
+fn case_9_paths() {
+    let round = Draft::one_array(LOCAL, 1, 0, &[builder::READ], &[(0, 1), (1, 1)]);
+    let path = |length: usize| {
+        let mut path = vec![1; length];
+        path[0] = 0;
+        path
+    };
+    assert_eq!(ran(&round, &path(4096)).len(), 6 + 10 * 4095);
+    assert_eq!(run_answer(&round, &path(4097)), outcome(30, 4097, 0));
+    assert_eq!(run_answer(&round, &[]), outcome(30, 0, 0));
+    assert_eq!(run_answer(&builder::p(), &[0, 2]), outcome(32, 1, 0));
+}
+
+#[test]
+fn case_9_empty_file() {
+    assert_eq!(plan(&[], &mut [0; 100]), outcome(10, 0, 0));
+    assert_eq!(run(&[], &[], &mut [0; 100]), outcome(10, 0, 0));
+}
+
+#[test]
+fn routine_u() {
+    assert_eq!(
+        listing::plan(&planned(&builder::u())),
+        "vertex array use leave reach keep\n\
+         0 0 D 0 0000 0001\n\
+         2 0 D 1 0001 0002\n\
+         5 0 R 0 0002 0001\n"
+    );
+    assert_eq!(
+        listing::report(&ran(&builder::u(), &[0, 1, 2, 3, 4, 5, 6]), 1),
+        "1 1 0\n2 0 0 2 0 2\n4 0 1 2 0 4\n5 0 1 1 4 0\n7 0 0 1 4 0\n"
+    );
+}
