@@ -1,8 +1,8 @@
 // Routine files, made in a buffer of zeros (document 01, "Routine file").
 ghost use Prim.Native.Nat.{_≤_, _<_};
 
-// More than the longest routine file, which has 6,194 bytes.
-pub const SIZE: usize = 8192;
+// More than the longest routine file, which has 6,194 bytes, and than a path of 4,097 vertices.
+pub const SIZE: usize = 8200;
 
 pub type Buffer = [u8; SIZE];
 
@@ -19,7 +19,7 @@ pub fn put(file: &mut Buffer, at: usize, byte: u8) {
 
 // A 16-bit number, low byte first.
 fn put_word(file: &mut Buffer, at: usize, n: usize)
-    requires { ⌜ at < 8192 ⌝ }
+    requires { ⌜ at ≤ 8192 ⌝ }
 {
     put(file, at, (n % 256) as u8);
     put(file, at + 1, (n / 256 % 256) as u8);
@@ -79,6 +79,25 @@ pub fn put_p(file: &mut Buffer) {
     put_edge(file, 50, 5, 6);
     put_edge(file, 54, 6, 2);
     put_edge(file, 58, 6, 7);
+}
+
+// Routine U: one local array of 2 versions, 8 vertices in a row, 58 bytes.
+pub fn put_u(file: &mut Buffer) {
+    put_head(file, 1, 8, 7);
+    put(file, 19, 2);
+    put(file, 23, 0x20);
+    put(file, 24, 0x41);
+    put(file, 25, 0x20);
+    put(file, 26, 0x10);
+    put(file, 27, 0x40);
+    put(file, 28, 0x10);
+    put_edge(file, 30, 0, 1);
+    put_edge(file, 34, 1, 2);
+    put_edge(file, 38, 2, 3);
+    put_edge(file, 42, 3, 4);
+    put_edge(file, 46, 4, 5);
+    put_edge(file, 50, 5, 6);
+    put_edge(file, 54, 6, 7);
 }
 
 // Routine T: one local array of 2 versions, 4 vertices, 4 edges.
@@ -157,4 +176,34 @@ pub fn put_full(file: &mut Buffer) -> usize
     put_every(file, 18, 4, 8, 3);
     put_every(file, 58, 1, 2032, 0x40);
     length
+}
+
+// A path's vertex.
+pub fn put_vertex(path: &mut Buffer, index: usize, vertex: usize)
+    requires { ⌜ index ≤ 4096 ⌝ }
+{
+    put_word(path, 2 * index, vertex);
+}
+
+// A path through P, round its loop as often as the vertices need: 0 1, then 2 3 4 5 6 again and again.
+pub fn put_loop(path: &mut Buffer, vertices: usize)
+    requires { ⌜ vertices ≤ 4097 ⌝ }
+{
+    put_vertex(path, 1, 1);
+    let mut i = 2;
+    while i < vertices {
+        put_vertex(path, i, 2 + (i - 2) % 5);
+        i += 1;
+    }
+}
+
+// A path of rising vertices.
+pub fn put_rising(path: &mut Buffer, vertices: usize)
+    requires { ⌜ vertices ≤ 4097 ⌝ }
+{
+    let mut i = 0;
+    while i < vertices {
+        put_vertex(path, i, i);
+        i += 1;
+    }
 }

@@ -2,8 +2,10 @@
 mod build;
 mod plans;
 mod reads;
+mod runs;
 
 fn main() {
     reads::all();
     plans::all();
+    runs::all();
 }

@@ -1,0 +1,55 @@
+-- `put_loop` is safe and ends: the path fits the buffer.
+-- Assumes nothing.
+use Prim.Native.Nat.{_≤_, _+_, _-_}
+use borrow.Author.Needs.{needs}
+use Rattle.cases.proofs.build.put_loop.Statement.{statement}
+use Rattle.cases.proofs.build.put_loop.Tie as tie
+
+abbrev Inv-loop : tie.InvT-loop
+Inv-loop path₀ vertices i₀ path i = (2 ≤ i) × (i ≤ 2 + vertices)
+
+abbrev μ-loop : tie.MeasureT-loop
+μ-loop path₀ vertices i₀ path i = vertices - i
+
+put-vertex-requires : tie.Need-put-vertex-requires Inv-loop μ-loop
+put-vertex-requires c κs = search needs
+
+loop-holds : tie.Need-loop-holds Inv-loop μ-loop
+loop-holds c = search needs
+
+sub-put-vertex : tie.Need-sub-put-vertex Inv-loop μ-loop
+sub-put-vertex c = search needs
+
+add-put-vertex : tie.Need-add-put-vertex Inv-loop μ-loop
+add-put-vertex c = search needs
+
+put-vertex-requires-2 : tie.Need-put-vertex-requires-2 Inv-loop μ-loop
+put-vertex-requires-2 c κs = search needs
+
+add-i : tie.Need-add-i Inv-loop μ-loop
+add-i c = search needs
+
+loop-less : tie.Need-loop-less Inv-loop μ-loop
+loop-less c = search needs
+
+loop-again : tie.Need-loop-again Inv-loop μ-loop
+loop-again c = search needs
+
+returns : tie.Need-returns Inv-loop μ-loop
+returns c = search needs
+
+pub put-loop-spec : {M : Type 1} → statement M
+put-loop-spec =
+    tie.close
+    (tie.spec
+    Inv-loop
+    μ-loop
+    put-vertex-requires
+    loop-holds
+    sub-put-vertex
+    add-put-vertex
+    put-vertex-requires-2
+    add-i
+    loop-less
+    loop-again
+    returns)
