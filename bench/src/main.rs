@@ -1,0 +1,101 @@
+//! Times of the verified library and of the oracle on the same inputs, in one process: medians
+//! of repeated batches, taken in turn.
+
+#[path = "../../tests/compare/src/bindings.rs"]
+mod bindings;
+
+use std::hint::black_box;
+use std::time::{Duration, Instant};
+
+use compare::library::{Input, Library, ORACLE};
+use oracle::builder::{self, Draft};
+use oracle::generate::limits;
+use oracle::generate::rng::Rng;
+use oracle::generate::routines::{self, Size};
+
+const SEED: u64 = 1;
+const BATCHES: usize = 31;
+const BATCH: Duration = Duration::from_millis(20);
+
+/// An accepted routine, from the first draft that can be made acceptable.
+fn acceptable(draw: impl Fn(&mut Rng) -> Draft) -> Vec<u8> {
+    let mut rng = Rng::new(SEED);
+    let mut draft = draw(&mut rng);
+    routines::make_acceptable(&mut rng, &mut draft);
+    draft.bytes()
+}
+
+fn lines() -> Vec<(&'static str, Input)> {
+    vec![
+        ("plan P", Input::plan(builder::p().bytes())),
+        (
+            "plan, structured, 256 vertices",
+            Input::plan(acceptable(|rng| routines::program(rng, Size::LARGEST))),
+        ),
+        (
+            "plan, 256 vertices, 1,024 edges",
+            Input::plan(acceptable(limits::dense)),
+        ),
+        (
+            "plan, backward chain",
+            Input::plan(acceptable(limits::backward_chain)),
+        ),
+        ("plan, largest", Input::plan(limits::largest_plan().bytes())),
+        (
+            "run, case 2",
+            Input::run(
+                builder::p().bytes(),
+                builder::path_bytes(&[0, 1, 2, 3, 4, 5, 6, 2, 3]),
+            ),
+        ),
+        (
+            "run, 4,096 vertices, 8 arrays",
+            Input::run(
+                limits::largest_report().bytes(),
+                builder::path_bytes(&limits::longest_path()),
+            ),
+        ),
+    ]
+}
+
+/// The time of one call, from `calls` of them.
+fn batch(library: &Library, input: &Input, out: &mut [u8], calls: u32) -> Duration {
+    let start = Instant::now();
+    for _ in 0..calls {
+        black_box(black_box(input).call(library, black_box(out)));
+    }
+    start.elapsed() / calls
+}
+
+/// How many calls fill a batch.
+fn calls(library: &Library, input: &Input, out: &mut [u8]) -> u32 {
+    let one = batch(library, input, out, 3).max(Duration::from_nanos(1));
+    (BATCH.as_nanos() / one.as_nanos()).clamp(1, 1_000_000) as u32
+}
+
+fn median(mut times: Vec<Duration>) -> Duration {
+    times.sort_unstable();
+    times[times.len() / 2]
+}
+
+fn micros(time: Duration) -> f64 {
+    time.as_nanos() as f64 / 1000.0
+}
+
+fn main() {
+    println!("seed {SEED}, medians of {BATCHES} batches, microseconds a call");
+    println!("{:34} {:>12} {:>12} {:>7}", "", "library", "Rust", "ratio");
+    let mut out = vec![0; 327_648];
+    for (name, input) in lines() {
+        let both = [bindings::VERIFIED, ORACLE];
+        let counts = both.map(|library| calls(&library, &input, &mut out));
+        let mut times = [Vec::new(), Vec::new()];
+        for _ in 0..BATCHES {
+            for side in 0..2 {
+                times[side].push(batch(&both[side], &input, &mut out, counts[side]));
+            }
+        }
+        let [ours, rust] = times.map(median).map(micros);
+        println!("{name:34} {ours:12.2} {rust:12.2} {:7.2}", ours / rust);
+    }
+}
