@@ -1,6 +1,7 @@
 // What the library answers, a line for each case: the case's name and numbers.
 mod build;
 mod plans;
+mod print;
 mod reads;
 mod runs;
 

@@ -2,6 +2,7 @@
 // refused routine or buffer the number and the two places.
 use crate::build;
 use crate::build::Buffer;
+use crate::print;
 ghost use Prim.Native.Nat.{_≤_};
 
 // The length of the longest plan.
@@ -12,7 +13,7 @@ fn buffer() -> [u8; ROOM] {
 }
 
 fn write_answer(file: &[u8], out: &mut [u8]) {
-    listing::outcome(plan::plan(file, out));
+    print::outcome(plan::plan(file, out));
 }
 
 // The answer for the first `length` bytes, with a buffer of `room` bytes.
@@ -21,8 +22,8 @@ fn case(name: &[u8], file: Buffer, length: usize, room: usize)
     requires { ⌜ room ≤ 17416 ⌝ }
 {
     let mut out = buffer();
-    listing::text(name);
-    listing::text(b" ");
+    print::text(name);
+    print::text(b" ");
     write_answer(&file[..length], &mut out[..room]);
 }
 

@@ -2,6 +2,7 @@
 // vertices and edges; for a refused one the number and the two places.
 use crate::build;
 use crate::build::Buffer;
+use crate::print;
 use routine::reader;
 use routine::reader::Answer;
 use routine::refusal::Reply;
@@ -9,14 +10,8 @@ ghost use Prim.Native.Nat.{_≤_};
 
 fn write_answer(file: &[u8]) {
     match reader::read(file) {
-        Answer::Routine(h) => {
-            listing::number(0);
-            listing::next(h.arrays as u64);
-            listing::next(h.vertices as u64);
-            listing::next(h.edges as u64);
-            listing::text(b"\n");
-        }
-        Answer::Refused(r) => listing::outcome(Reply::Denied(r)),
+        Answer::Routine(h) => print::counts(h),
+        Answer::Refused(r) => print::outcome(Reply::Denied(r)),
     }
 }
 
@@ -24,8 +19,8 @@ fn write_answer(file: &[u8]) {
 fn case(name: &[u8], file: Buffer, length: usize)
     requires { ⌜ length ≤ 8192 ⌝ }
 {
-    listing::text(name);
-    listing::text(b" ");
+    print::text(name);
+    print::text(b" ");
     write_answer(&file[..length]);
 }
 

@@ -2,6 +2,7 @@
 // buffer the number and the two places.
 use crate::build;
 use crate::build::Buffer;
+use crate::print;
 ghost use Prim.Native.Nat.{_≤_};
 
 // Enough for each report here.
@@ -12,7 +13,7 @@ fn buffer() -> [u8; ROOM] {
 }
 
 fn write_answer(file: &[u8], path: &[u8], out: &mut [u8]) {
-    listing::outcome(run::run(file, path, out));
+    print::outcome(run::run(file, path, out));
 }
 
 // The answer for the first bytes of a routine and of a path, with a buffer of `room` bytes.
@@ -22,8 +23,8 @@ fn case(name: &[u8], file: Buffer, length: usize, path: Buffer, bytes: usize, ro
     requires { ⌜ room ≤ 17000 ⌝ }
 {
     let mut out = buffer();
-    listing::text(name);
-    listing::text(b" ");
+    print::text(name);
+    print::text(b" ");
     write_answer(&file[..length], &path[..bytes], &mut out[..room]);
 }
 
@@ -70,15 +71,14 @@ fn write_stamp(file: &[u8], path: &[u8], out: &mut [u8], at: usize)
     requires { ⌜ at ≤ 17000 ⌝ }
 {
     write_answer(file, path, out);
-    listing::text(b"u_last_read");
-    listing::next(listing::word(out, at));
-    listing::text(b"\n");
+    print::text(b"u_last_read ");
+    print::number(listing::word(out, at));
 }
 
 // Routine U on this path: the answer, and the stamp that the last read saw.
 fn u_on(file: Buffer, path: Buffer) {
     let mut out = buffer();
-    listing::text(b"u ");
+    print::text(b"u ");
     write_stamp(&file[..58], &path[..14], &mut out[..46], 42);
 }
 

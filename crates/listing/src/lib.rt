@@ -1,27 +1,38 @@
-// What the programs print with: numbers, masks and refusals on standard output; and bytes of a buffer, 0 beyond its end.
-use libc::STDOUT_FILENO;
+// What the programs print: each line as text, at the front of a buffer that is lent.
+mod text;
+
 use routine::refusal;
 use routine::refusal::Reply;
+use text::CHARACTER;
+use text::MASK;
+pub use text::NUMBER;
+use text::VERSION;
+pub use text::line;
+ghost use mathlib.Core.Path.{_≡_};
 ghost use Prim.Native.Nat.{_≤_};
+ghost use lib.ListN.{length, getD};
+ghost use Rattle.io.specs.Counts.{Counts};
+ghost use Rattle.listing.specs.Lines.{labelLine, entryLine, recordLine, outcomeLine};
+ghost use Rattle.words.specs.Tables.{wrote};
+ghost use Rattle.words.specs.Words.{word};
 
-// The byte at `at`.
+// Room for the longest line.
+pub const ROOM: usize = 128;
+
+// The byte at `at`, 0 beyond the end.
 pub fn byte(s: &[u8], at: usize) -> u64
+    ensures { λ r. ⌜ r ≡ getD (now (s .entry)) at 0 ⌝ }
     ensures { λ r. ⌜ r ≤ 255 ⌝ }
 {
     if at < s.len() {
-        return wide(s[at]);
+        return s[at] as u64;
     }
     0
 }
 
-fn wide(b: u8) -> u64
-    ensures { λ r. ⌜ r ≤ 255 ⌝ }
-{
-    b as u64
-}
-
 // The 16-bit number whose first byte stands at `at`.
 pub fn word(s: &[u8], at: usize) -> u64
+    ensures { λ r. ⌜ r ≡ word (now (s .entry)) at ⌝ }
     ensures { λ r. ⌜ r ≤ 65535 ⌝ }
 {
     if at < s.len() {
@@ -30,33 +41,68 @@ pub fn word(s: &[u8], at: usize) -> u64
     0
 }
 
-// A text as it stands.
-pub fn text(s: &[u8]) {
-    io::write_all(STDOUT_FILENO, s);
+// The label of a vertex whose eight bytes stand at `at`.
+pub fn label(out: &mut [u8], plan: &[u8], vertex: u64, at: usize) -> usize
+    requires { ⌜ 128 ≤ length (now out) ⌝ }
+    requires { ⌜ at ≤ 2000000 ⌝ }
+    ensures { λ r. ⌜ Counts r (now (out .exit)) ⌝ }
+    ensures { λ r. ⌜ r ≡ length (labelLine (now (plan .entry)) vertex at) ⌝ }
+    ensures { λ _. ⌜ now (out .exit) ≡ wrote (now (out .entry)) (labelLine (now (plan .entry)) vertex at) ⌝ }
+{
+    let forms = [NUMBER, NUMBER, CHARACTER, VERSION, MASK, MASK];
+    let fields = [
+        vertex,
+        byte(plan, at),
+        byte(plan, at + 1),
+        byte(plan, at + 2),
+        word(plan, at + 4),
+        word(plan, at + 6),
+    ];
+    line(out, &forms, &fields)
 }
 
-// A number in decimal.
-pub fn number(n: u64) {
-    io::print_decimal(STDOUT_FILENO, n);
+// An array's entry, six bytes at `at`.
+pub fn entry(out: &mut [u8], report: &[u8], at: usize) -> usize
+    requires { ⌜ 128 ≤ length (now out) ⌝ }
+    requires { ⌜ at ≤ 2000000 ⌝ }
+    ensures { λ r. ⌜ Counts r (now (out .exit)) ⌝ }
+    ensures { λ r. ⌜ r ≡ length (entryLine (now (report .entry)) at) ⌝ }
+    ensures { λ _. ⌜ now (out .exit) ≡ wrote (now (out .entry)) (entryLine (now (report .entry)) at) ⌝ }
+{
+    let forms = [NUMBER; 3];
+    let fields = [word(report, at), word(report, at + 2), byte(report, at + 4)];
+    line(out, &forms, &fields)
 }
 
-// A space and a number in decimal.
-pub fn next(n: u64) {
-    text(b" ");
-    number(n);
+// A record, ten bytes at `at`.
+pub fn record(out: &mut [u8], report: &[u8], at: usize) -> usize
+    requires { ⌜ 128 ≤ length (now out) ⌝ }
+    requires { ⌜ at ≤ 2000000 ⌝ }
+    ensures { λ r. ⌜ Counts r (now (out .exit)) ⌝ }
+    ensures { λ r. ⌜ r ≡ length (recordLine (now (report .entry)) at) ⌝ }
+    ensures { λ _. ⌜ now (out .exit) ≡ wrote (now (out .entry)) (recordLine (now (report .entry)) at) ⌝ }
+{
+    let forms = [NUMBER; 6];
+    let fields = [
+        word(report, at),
+        byte(report, at + 2),
+        byte(report, at + 3),
+        byte(report, at + 4),
+        word(report, at + 6),
+        word(report, at + 8),
+    ];
+    line(out, &forms, &fields)
 }
 
-// A space and a mask as four hexadecimal digits.
-pub fn next_mask(m: u64) {
-    text(b" ");
-    io::print_hex(STDOUT_FILENO, m, 4);
-}
-
-// The number and places of a call's answer, as one line.
-pub fn outcome(reply: Reply) {
+// The number and places of a call's answer.
+pub fn outcome(out: &mut [u8], reply: Reply) -> usize
+    requires { ⌜ 128 ≤ length (now out) ⌝ }
+    ensures { λ r. ⌜ Counts r (now (out .exit)) ⌝ }
+    ensures { λ r. ⌜ r ≡ length (outcomeLine reply) ⌝ }
+    ensures { λ _. ⌜ now (out .exit) ≡ wrote (now (out .entry)) (outcomeLine reply) ⌝ }
+{
     let o = refusal::reply_outcome(reply);
-    number(o.number);
-    next(o.first);
-    next(o.second);
-    text(b"\n");
+    let forms = [NUMBER; 3];
+    let fields = [o.number, o.first, o.second];
+    line(out, &forms, &fields)
 }

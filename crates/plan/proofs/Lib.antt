@@ -1,4 +1,3 @@
 pub mod Cells
-pub mod Filling
 pub mod Sizes
 pub mod Ways

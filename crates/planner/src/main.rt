@@ -1,6 +1,7 @@
 // The planner program (document 01, "Routine P and others"): reads a routine from standard input and prints the labels of its plan, or the
 // refusal.
 use libc::STDIN_FILENO;
+use libc::STDOUT_FILENO;
 use routine::refusal::Reply;
 ghost use Prim.Native.Nat.{_≤_};
 
@@ -10,34 +11,13 @@ const FILE: usize = 6195;
 // The longest plan: 256 vertices of 8 labels.
 const PLAN: usize = 17416;
 
-// A letter, after a space.
-fn print_letter(letter: u64)
-    requires { ⌜ letter ≤ 255 ⌝ }
-{
-    listing::text(b" ");
-    listing::text(&[letter as u8]);
-}
-
-// A leaving version; 255 is none.
-fn print_leaving(version: u64) {
-    if version == 255 {
-        listing::text(b" -");
-    } else {
-        listing::next(version);
-    }
-}
-
 // The label of a vertex whose eight bytes stand at `at`, as a line.
 fn print_label(plan: &[u8], vertex: u64, at: usize)
     requires { ⌜ at ≤ 2000000 ⌝ }
 {
-    listing::number(vertex);
-    listing::next(listing::byte(plan, at));
-    print_letter(listing::byte(plan, at + 1));
-    print_leaving(listing::byte(plan, at + 2));
-    listing::next_mask(listing::word(plan, at + 4));
-    listing::next_mask(listing::word(plan, at + 6));
-    listing::text(b"\n");
+    let mut line = [0u8; listing::ROOM];
+    let n = listing::label(&mut line, plan, vertex, at);
+    io::write_all(STDOUT_FILENO, &line[..n]);
 }
 
 // The labels of a vertex, `count` of them from `at` on.
@@ -66,13 +46,19 @@ fn print_labels(plan: &[u8]) {
     }
 }
 
+fn print_refusal(reply: Reply) {
+    let mut line = [0u8; listing::ROOM];
+    let n = listing::outcome(&mut line, reply);
+    io::write_all(STDOUT_FILENO, &line[..n]);
+}
+
 fn print_plan(file: &[u8], out: &mut [u8]) {
     let reply = plan::plan(file, out);
     if let Reply::Denied(_) = reply {
-        listing::outcome(reply);
+        print_refusal(reply);
         return;
     }
-    listing::text(b"vertex array use leave reach keep\n");
+    io::write_all(STDOUT_FILENO, b"vertex array use leave reach keep\n");
     print_labels(out);
 }
 

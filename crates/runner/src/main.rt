@@ -1,5 +1,6 @@
 // The run program (document 01, "Routine P and others"): reads the files `routine` and `path` and prints the report of the run, or the
 // refusal; a path beyond 512 vertices prints `long` and no more.
+use libc::STDOUT_FILENO;
 use routine::refusal::Reply;
 ghost use Prim.Native.Nat.{_≤_};
 ghost use Rattle.io.specs.Counts.{Counts};
@@ -30,23 +31,24 @@ fn read_file(name: &[u8], buf: &mut [u8]) -> usize
 fn print_entry(report: &[u8], at: usize)
     requires { ⌜ at ≤ 2000000 ⌝ }
 {
-    listing::number(listing::word(report, at));
-    listing::next(listing::word(report, at + 2));
-    listing::next(listing::byte(report, at + 4));
-    listing::text(b"\n");
+    let mut line = [0u8; listing::ROOM];
+    let n = listing::entry(&mut line, report, at);
+    io::write_all(STDOUT_FILENO, &line[..n]);
 }
 
 // A record as a line: step, array, version, kind, stamp seen, new stamp.
 fn print_record(report: &[u8], at: usize)
     requires { ⌜ at ≤ 2000000 ⌝ }
 {
-    listing::number(listing::word(report, at));
-    listing::next(listing::byte(report, at + 2));
-    listing::next(listing::byte(report, at + 3));
-    listing::next(listing::byte(report, at + 4));
-    listing::next(listing::word(report, at + 6));
-    listing::next(listing::word(report, at + 8));
-    listing::text(b"\n");
+    let mut line = [0u8; listing::ROOM];
+    let n = listing::record(&mut line, report, at);
+    io::write_all(STDOUT_FILENO, &line[..n]);
+}
+
+fn print_refusal(reply: Reply) {
+    let mut line = [0u8; listing::ROOM];
+    let n = listing::outcome(&mut line, reply);
+    io::write_all(STDOUT_FILENO, &line[..n]);
 }
 
 fn print_entries(report: &[u8], arrays: u64)
@@ -82,14 +84,14 @@ fn print_run(file: &[u8], path: &[u8], report: &mut [u8]) {
     let reply = run::run(file, path, report);
     match reply {
         Reply::Written(length) => print_report(file, report, length),
-        Reply::Denied(_) => listing::outcome(reply),
+        Reply::Denied(_) => print_refusal(reply),
     }
 }
 
 fn run_files(file: &mut [u8], path: &mut [u8], report: &mut [u8]) {
     let n = read_file(b"path", path);
     if n >= PATH {
-        listing::text(b"long\n");
+        io::write_all(STDOUT_FILENO, b"long\n");
         return;
     }
     let k = read_file(b"routine", file);

@@ -3,7 +3,7 @@
 use mathlib.Core.Path.{_≡_, refl, sym, ap, _∙_}
 use mathlib.Core.List.{List, [], _∷_, _++_, append-assoc, append-nil}
 use mathlib.Core.Logic.{⊎-elim}
-use Prim.Native.Nat.{ℕ, zero, suc, _+_, _*_, _≤_, _<_}
+use Prim.Native.Nat.{ℕ, zero, suc, _+_, _*_, _≤_, _<_, zero-le}
 use native.Mathlib.Nat.{zero-mul, eq-or-lt-of-le, le-of-suc-le-suc, le-of-eq, mul-le-mul-right}
 use native.Mathlib.Numerals.{add-one}
 use native.Mathlib.Omega.{arith}
@@ -62,6 +62,12 @@ rows-fit row (suc n) i h =
 pub rows-more : (row : ℕ → List ℕ) (i : ℕ) → rows row i ++ row i ≡ rows row (i + 1)
 unfolding rows
 rows-more row i = ap (λ (j : ℕ). rows row j) (sym (add-one i))
+
+-- no row is longer than w
+pub rows-most : (row : ℕ → List ℕ) (w : ℕ) → ((i : ℕ) → length (row i) ≤ w) → (n : ℕ) → length (rows row n) ≤ w * n
+unfolding rows
+rows-most row w each zero = zero-le
+rows-most row w each (suc n) = omega (arith, length-append (rows row n) (row n), each n, rows-most row w each n)
 
 -- ---- rows of one width
 

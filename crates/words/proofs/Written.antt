@@ -1,17 +1,25 @@
 -- Laws of writing from the front of a buffer.
 -- Assumes nothing.
 use mathlib.Core.Path.{_≡_, sym, ap, ap₂, _∙_}
-use mathlib.Core.List.{List, _++_, append-assoc, append-nil}
-use Prim.Native.Nat.{ℕ, _+_, _-_, _≤_}
+use mathlib.Core.List.{List, [], _∷_, _++_, append-assoc, append-nil}
+use Prim.Native.Nat.{ℕ, suc, _+_, _-_, _≤_, _<_}
 use native.Mathlib.Omega.{arith}
-use lib.ListN.{length, take, drop, length-append, length-take, length-drop, drop-of-length-le}
-use lib.Seq.{take-at, drop-at, drop-drop, take-all, length-take-le}
+use lib.ListN.{length, getD, set, take, drop, length-append, length-take, length-drop, drop-of-length-le}
+use lib.Seq.{set-at, drop-cons, take-at, drop-at, drop-drop, take-all, length-take-le}
 use Rattle.words.specs.Tables.{wrote}
 
 pub wrote-length : (old done : List ℕ) → length done ≤ length old → length (wrote old done) ≡ length old
 wrote-length old done h =
     length-append done (drop (length done) old)
     ∙ (let e : length done + length (drop (length done) old) ≡ length old = omega (arith, length-drop (length done) old) in e)
+
+-- one more byte behind what has been written
+pub write-one : (old done : List ℕ) (b at : ℕ) → at ≡ length done → at < length old → set (wrote old done) at b ≡ wrote old (done ++ (b ∷ []))
+write-one old done b at here room =
+    ap (λ (l : List ℕ). set (done ++ l) at b) (drop-cons old (length done) 0 (omega arith))
+    ∙ set-at done (getD old (length done) 0) (drop (suc (length done)) old) b at (sym here)
+    ∙ sym (append-assoc done (b ∷ []) (drop (suc (length done)) old))
+    ∙ ap (λ (n : ℕ). (done ++ (b ∷ [])) ++ drop n old) (let e : suc (length done) ≡ length (done ++ (b ∷ [])) = omega (arith, length-append done (b ∷ [])) in e)
 
 -- what a callee sees of `&mut xs[at..]`
 abbrev pub partFrom : List ℕ → ℕ → List ℕ

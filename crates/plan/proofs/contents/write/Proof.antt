@@ -6,7 +6,7 @@ use native.Mathlib.Omega.{arith}
 use borrow.Author.Needs.{needs}
 use Rattle.plan.specs.Plan.{labelsBefore, contentsEntry, contents}
 use Rattle.routine.specs.Layout.{vertices}
-use Rattle.plan.proofs.Filling.{Filled, begin, same, end, lies, lent, next}
+use Rattle.words.proofs.Filling.{Filled, begin, same, end, lies, lent, next}
 use Rattle.plan.proofs.Sizes.{before-more, before-few, entry-at}
 use Rattle.plan.proofs.contents.write.Statement.{statement}
 use Rattle.plan.proofs.contents.write.Tie as tie

@@ -9,7 +9,7 @@ use lib.ListN.{length, take, drop}
 use Rattle.plan.specs.Plan.{labelCount, contents, labels, planHead, planBytes, planLength}
 use Rattle.routine.specs.Layout.{vertices}
 use Rattle.words.specs.Tables.{wrote}
-use Rattle.plan.proofs.Filling.{Front, starts, lends, more}
+use Rattle.words.proofs.Filling.{Front, starts, lends, more}
 use Rattle.plan.proofs.Sizes.{labels-length, labels-at, plan-length}
 use Rattle.plan.proofs.writer.write.Statement.{statement}
 use Rattle.plan.proofs.writer.write.Tie as tie

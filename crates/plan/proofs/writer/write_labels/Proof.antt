@@ -8,7 +8,7 @@ use lib.ListN.{length}
 use Rattle.plan.specs.Plan.{labelRow, labels}
 use Rattle.routine.specs.Layout.{vertices}
 use Rattle.words.specs.Tables.{rows}
-use Rattle.plan.proofs.Filling.{Filled, begin, same, end, fits, lies, lent, next, onward}
+use Rattle.words.proofs.Filling.{Filled, begin, same, end, fits, lies, lent, next, onward}
 use Rattle.plan.proofs.writer.write_labels.Statement.{statement}
 use Rattle.plan.proofs.writer.write_labels.Tie as tie
 

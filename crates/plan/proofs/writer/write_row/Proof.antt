@@ -8,7 +8,7 @@ use lib.ListN.{length}
 use Rattle.plan.specs.Plan.{labelEntry, labelRow}
 use Rattle.routine.specs.Layout.{arrays}
 use Rattle.words.specs.Tables.{rows}
-use Rattle.plan.proofs.Filling.{Filled, begin, same, end, fits, lies, lent, next, onward, all}
+use Rattle.words.proofs.Filling.{Filled, begin, same, end, fits, lies, lent, next, onward, all}
 use Rattle.plan.proofs.writer.write_row.Statement.{statement}
 use Rattle.plan.proofs.writer.write_row.Tie as tie
 

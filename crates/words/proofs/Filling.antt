@@ -77,3 +77,7 @@ module _ {row : ℕ → List ℕ} {n : ℕ} {old : List ℕ} {i : ℕ} {out : Li
 
     pub all : n ≤ i → at ≡ length (rows row n)
     all h = here ∙ ap (λ (j : ℕ). length (rows row j)) (le-antisymm (f .within) h)
+
+  -- all rows stand inside the buffer
+  pub lies-all : {at : ℕ} → at ≡ length (rows row n) → at ≤ length out
+  lies-all e = omega (arith, same, f .room)

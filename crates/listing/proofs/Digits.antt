@@ -1,0 +1,86 @@
+-- The digits that `io::decimal` and `io::hex` make are the texts that the contracts name.
+-- Assumes nothing.
+use mathlib.Core.Path.{_≡_, refl, sym, ap, _∙_}
+use mathlib.Core.Bool.{Bool, true, false, cond}
+use mathlib.Core.List.{List, [], _∷_, _++_}
+use Prim.Native.Nat.{ℕ, zero, suc, _+_, _*_, _-_, _/_, _%_, _^_, _≤_, _<_, min, max}
+use native.Mathlib.Nat.{le-refl, le-antisymm, pow-zero, pow-suc, mul-le-mul-left}
+use native.Mathlib.Omega.{arith}
+use borrow.Author.Tests.{lt-ltb, le-ltb, leb-true, leb-false}
+use lib.Dec.{leb}
+use lib.ListN.{length, take, drop, length-append}
+use lib.Seq.{take-all}
+use lib.Pow.{pow-add}
+use Rattle.io.specs.Digits.{glyph, digits, Fewest}
+use Rattle.words.specs.Tables.{wrote}
+use Rattle.listing.specs.Text.{decimalIn, decimal, mask}
+
+pow-pos : (b k : ℕ) → 0 < b → 1 ≤ b ^ k
+pow-pos b zero h = omega (arith, pow-zero b)
+pow-pos b (suc k) h = omega (arith, pow-suc b k, mul-le-mul-left (b ^ k) h, pow-pos b k h)
+
+pow-pred : (b k : ℕ) → b ^ (suc k - 1) ≡ b ^ k
+pow-pred b k = ap (λ (j : ℕ). b ^ j) (let e : suc k - 1 ≡ k = omega arith in e)
+
+-- ---- decimal: the fewest digits are those without zeros in front
+
+pub decimal-is : (f k n : ℕ) → Fewest 10 1 n k → k ≤ f → digits 10 k n ≡ decimalIn f n
+decimal-is f zero n few h = absurd (omega (arith, few .0))
+decimal-is zero (suc k) n few h = absurd (omega arith)
+decimal-is (suc f) (suc zero) n few h =
+    ap (λ (b : Bool). cond b [] (decimalIn f (n / 10)) ++ (glyph (n % 10) ∷ [])) (sym (lt-ltb n 10 (omega (arith, few .1))))
+decimal-is (suc f) (suc (suc j)) n few h =
+    let big : 10 ^ suc j ≤ n = omega (arith, few .2 (omega arith), pow-pred 10 (suc j)) in
+    let front : digits 10 (suc j) (n / 10) ≡ decimalIn f (n / 10) = decimal-is
+    f
+    (suc j)
+    (n / 10)
+    (omega arith, omega (arith, few .1, pow-suc 10 (suc j)), λ (more : 1 < suc j). omega (arith, big, pow-suc 10 j, pow-pred 10 j))
+    (omega arith) in
+    ap (λ (l : List ℕ). l ++ (glyph (n % 10) ∷ [])) front
+    ∙ ap (λ (b : Bool). cond b [] (decimalIn f (n / 10)) ++ (glyph (n % 10) ∷ [])) (sym (le-ltb n 10 (omega (arith, big, pow-suc 10 j, pow-pos 10 j (omega arith)))))
+
+pow-mono : (b i j : ℕ) → 0 < b → i ≤ j → b ^ i ≤ b ^ j
+pow-mono b i j pos h = grows (j - i) (omega arith)
+  where
+    grows : (d : ℕ) → j ≡ i + d → b ^ i ≤ b ^ j
+    grows d e = omega (arith, ap (λ (k : ℕ). b ^ k) e, pow-add b i d, mul-le-mul-left (b ^ i) (pow-pos b d pos))
+
+-- no more than d digits, if d hold n and no more were asked for
+pub fewest-le : (b least d n k : ℕ) → 0 < b → least ≤ d → Fewest b least n k → n < b ^ d → k ≤ d
+fewest-le b least d n k pos l few h = by (leb k d) refl
+  where
+    by : (t : Bool) → leb k d ≡ t → k ≤ d
+    by true e = leb-true k d e
+    by false e = absurd (omega (arith, leb-false k d e, few .2 (omega (arith, leb-false k d e)), pow-mono b d (k - 1) pos (omega (arith, leb-false k d e))))
+
+pub digits-length : (b k n : ℕ) → length (digits b k n) ≡ k
+digits-length b zero n = refl
+digits-length b (suc k) n =
+    length-append (digits b k (n / b)) (glyph (n % b) ∷ [])
+    ∙ (let e : length (digits b k (n / b)) + 1 ≡ suc k = omega (arith, digits-length b k (n / b)) in e)
+
+-- ---- what `bytes::copy` leaves of a text
+
+pub copied : {src text : List ℕ} (old : List ℕ) → src ≡ text → take (length src) src ++ drop (length src) old ≡ wrote old text
+copied {src} {text} old e = ap (λ (l : List ℕ). l ++ drop (length src) old) (take-all (length src) src (le-refl (length src))) ∙ ap (wrote old) e
+
+-- ---- the two forms, as the callers use them
+
+pub decimal-text : {n k : ℕ} → Fewest 10 1 n k → n < 2 ^ 64 → digits 10 k n ≡ decimal n
+unfolding decimal
+decimal-text {n} {k} few h = decimal-is 20 k n few (fewest-le 10 1 20 n k (omega arith) (omega arith) few (omega arith))
+
+pub mask-four : (n k : ℕ) → Fewest 16 4 (n % 65536) k → k ≡ 4
+mask-four n k few = le-antisymm (fewest-le 16 4 4 (n % 65536) k (omega arith) (omega arith) few (omega arith)) (few .0)
+
+pub mask-text : (n k : ℕ) → Fewest 16 4 (n % 65536) k → digits 16 k (n % 65536) ≡ mask n
+unfolding mask
+mask-text n k few = ap (λ (j : ℕ). digits 16 j (n % 65536)) (mask-four n k few)
+
+pub decimal-length : {n k : ℕ} → Fewest 10 1 n k → n < 2 ^ 64 → k ≤ 20
+decimal-length {n} {k} few h = fewest-le 10 1 20 n k (omega arith) (omega arith) few (omega arith)
+
+pub mask-length : (n : ℕ) → length (mask n) ≡ 4
+unfolding mask
+mask-length n = digits-length 16 4 (n % 65536)

@@ -1,0 +1,58 @@
+-- Numbers as text, in ASCII, and columns of a line.
+-- Assumes nothing.
+use mathlib.Core.Bool.{cond}
+use mathlib.Core.List.{List, [], _∷_, _++_}
+use Prim.Native.Nat.{ℕ, zero, suc, _+_, _*_, _/_, _%_}
+use lib.Dec.{eqb, ltb}
+use lib.ListN.{length, getD}
+use Rattle.io.specs.Digits.{glyph, digits}
+use Rattle.words.specs.Tables.{rows}
+
+-- ---- numbers
+
+-- a number in decimal, without zeros in front, if k digits hold it
+abbrev pub decimalIn : ℕ → ℕ → List ℕ
+decimalIn zero n = []
+decimalIn (suc k) n = cond (ltb n 10) [] (decimalIn k (n / 10)) ++ (glyph (n % 10) ∷ [])
+
+-- 20 digits hold every 64-bit number
+unfoldable pub decimal : ℕ → List ℕ
+decimal n = decimalIn 20 n
+
+-- a mask as four hexadecimal digits
+unfoldable pub mask : ℕ → List ℕ
+mask n = digits 16 4 (n % 65536)
+
+-- a version; 255 is none, and shown as `-`
+unfoldable pub version : ℕ → List ℕ
+version n = cond (eqb n 255) (45 ∷ []) (decimal n)
+
+-- ---- columns
+
+-- their forms
+abbrev pub NUMBER : ℕ
+NUMBER = 0
+
+abbrev pub CHARACTER : ℕ
+CHARACTER = 1
+
+abbrev pub VERSION : ℕ
+VERSION = 2
+
+abbrev pub MASK : ℕ
+MASK = 3
+
+-- a field as its column's form asks; any other form is a number
+unfoldable pub column : ℕ → ℕ → List ℕ
+column form n = cond (eqb form CHARACTER) (n % 256 ∷ []) (cond (eqb form VERSION) (version n) (cond (eqb form MASK) (mask n) (decimal n)))
+
+-- ---- lines: a space after each column, a line feed after the last
+
+abbrev pub separator : ℕ → ℕ → ℕ
+separator i n = cond (eqb (i + 1) n) 10 32
+
+abbrev pub cell : List ℕ → List ℕ → ℕ → List ℕ
+cell forms fields i = column (getD forms i 0) (getD fields i 0) ++ (separator i (length fields) ∷ [])
+
+abbrev pub line : List ℕ → List ℕ → List ℕ
+line forms fields = rows (cell forms fields) (length fields)
