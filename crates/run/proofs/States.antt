@@ -1,24 +1,26 @@
 -- Laws of the run rules, as the functions over a state use them.
 -- Assumes nothing.
 use mathlib.Core.Path.{_≡_, refl, sym, ap, ap₂, _∙_}
-use mathlib.Core.Bool.{Bool, true, false, not, cond, true≢false}
+use mathlib.Core.Bool.{Bool, true, false, not, _&&_, cond, true≢false, and-true, and-false}
 use mathlib.Core.List.{List}
-use mathlib.Core.Logic.{inl, inr}
-use Prim.Native.Nat.{ℕ, zero, suc, _+_, _<_, _^_}
-use native.Mathlib.Numerals.{add-one}
+use mathlib.Core.Logic.{inl, inr, ⊎-elim}
+use Prim.Native.Nat.{ℕ, zero, suc, _+_, _/_, _%_, _^_, _≤_, _<_}
+use native.Mathlib.Nat.{eq-or-lt-of-le, pow-suc}
 use native.Mathlib.Omega.{arith}
 use lib.Bits.{bitOr, and-zero-r}
+use borrow.Author.Tests.{eqb-true, eqb-false, eq-eqb, ne-eqb}
+use lib.Count.{trailingZeros, under, trailing-le}
 use lib.Dec.{eqb}
-use lib.ListN.{getD, set}
-use lib.Seq.{set-getD}
+use lib.ListN.{set}
+use lib.Seq.{set-comm}
 use Rattle.labels.specs.declared.Use.{Use}
 use Rattle.routine.proofs.Laws.{and-parts}
-use Rattle.sets.proofs.Laws.{has-zero}
+use Rattle.sets.proofs.Laws.{bit-zero, bit-has, has-suc, has-minus, has-single, has-zero, has-out}
 use Rattle.sets.specs.Sets.{has, minus}
 use Rattle.run.specs.declared.state.State.{State}
 use Rattle.run.specs.Fits.{Current}
 use Rattle.run.specs.Run.{nothing, hasCurrent, stampOf, moves, isD, copies, targetStamp, moved, currentSet, dying, cleared, cleaned}
-use Rattle.run.proofs.Rules.Cases.{at-cond}
+use Rattle.run.proofs.Rules.Cases.{at-cond, by-test}
 
 -- a current copy is a version
 pub current-below : (s : State) → Current s → hasCurrent s ≡ true → s .current < 16
@@ -46,20 +48,80 @@ module _ (u : Use) (t : ℕ) (s : State) where
   unfolding moved
   moved-current current below = at-cond Current (moves u t s) (λ _. inl below) (λ _. current)
 
--- one stamp more
-pub cleared-more : (dead : ℕ) (stamps : List ℕ) (n : ℕ)
-    → cleared dead stamps (n + 1) ≡ set (cleared dead stamps n) n (cond (has dead n) 0 (getD (cleared dead stamps n) n 0))
-unfolding cleared
-cleared-more dead stamps n = ap (cleared dead stamps) (add-one n) ∙ one (has dead n)
+-- the lowest member of a set that is not empty
+pub lowest-has : (w m : ℕ) → 0 < m → m < 2 ^ w → has m (trailingZeros w m) ≡ true
+unfolding trailingZeros
+lowest-has zero m some fits = absurd (omega arith)
+lowest-has (suc w) m some fits = go (m % 2) refl (λ half. lowest-has w (m / 2) half (omega (arith, pow-suc 2 w)))
   where
-    l : List ℕ
-    l = cleared dead stamps n
+    go : (d : ℕ) → m % 2 ≡ d → (0 < m / 2 → has (m / 2) (trailingZeros w (m / 2)) ≡ true) → has m (under d (trailingZeros w (m / 2))) ≡ true
+    go zero e half = has-suc m (trailingZeros w (m / 2)) ∙ half (omega arith)
+    go (suc d) e half = bit-has m 0 (omega (arith, bit-zero m))
 
-    one : (b : Bool) → cond b (set l n 0) l ≡ set l n (cond b 0 (getD l n 0))
-    one true = refl
-    one false = sym (set-getD l n 0)
+pub lowest-below : (w m : ℕ) → 0 < m → m < 2 ^ w → trailingZeros w m < w
+lowest-below w m some fits =
+    ⊎-elim (λ (e : trailingZeros w m ≡ w). absurd (true≢false (sym (lowest-has w m some fits) ∙ has-out w m (trailingZeros w m) fits (omega arith)))) (λ h. h)
+    (eq-or-lt-of-le (trailing-le w m))
 
-cleared-none : (stamps : List ℕ) (n : ℕ) → cleared 0 stamps n ≡ stamps
+-- ---- a member t of `dead` is cleared first, and the rest later
+
+set-twice : (l : List ℕ) (i j : ℕ) → set (set l i 0) j 0 ≡ set (set l j 0) i 0
+set-twice l i j = by-test (eqb i j) (λ e. rw (eqb-true i j e)) (λ e. set-comm l i j 0 0 (eqb-false i j e))
+
+-- the next version, cleared if b
+abbrev next : ℕ → Bool → List ℕ → List ℕ
+next n b l = cond b (set l n 0) l
+
+set-next : (l : List ℕ) (t n : ℕ) (b : Bool) → set (next n b l) t 0 ≡ next n b (set l t 0)
+set-next l t n true = set-twice l n t
+set-next l t n false = refl
+
+module _ (dead t : ℕ) where
+  abbrev rest : ℕ
+  rest = minus dead (2 ^ t)
+
+  rest-has : (k : ℕ) → has rest k ≡ (has dead k && not (eqb t k))
+  rest-has k = simp (has-minus, has-single)
+
+  rest-other : (k : ℕ) → eqb t k ≡ false → has rest k ≡ has dead k
+  rest-other k e = rest-has k ∙ rw (e, and-true)
+
+  rest-same : (k : ℕ) → eqb t k ≡ true → has rest k ≡ false
+  rest-same k e = rest-has k ∙ rw (e, and-false)
+
+  -- fewer are left
+  pub falls : has dead t ≡ true → rest < dead
+  unfolding minus
+  falls m =
+      let most : rest ≤ dead = omega arith in
+      ⊎-elim (λ (e : rest ≡ dead). absurd (true≢false (sym m ∙ ap (λ (n : ℕ). has n t) (sym e) ∙ rest-same t (eq-eqb t t refl)))) (λ h. h) (eq-or-lt-of-le most)
+
+  module _ (stamps : List ℕ) where
+    set-first : (n : ℕ) → cleared rest (set stamps t 0) n ≡ set (cleared rest stamps n) t 0
+    unfolding cleared
+    set-first zero = refl
+    set-first (suc n) = ap (next n (has rest n)) (set-first n) ∙ sym (set-next (cleared rest stamps n) t n (has rest n))
+
+    below : (n : ℕ) → n ≤ t → cleared rest stamps n ≡ cleared dead stamps n
+    unfolding cleared
+    below zero h = refl
+    below (suc n) h = ap₂ (next n) (rest-other n (ne-eqb t n (λ e. omega arith))) (below n (omega arith))
+
+    above : has dead t ≡ true → (n : ℕ) → t < n → set (cleared rest stamps n) t 0 ≡ cleared dead stamps n
+    unfolding cleared
+    above m zero h = absurd (omega arith)
+    above m (suc n) h =
+        by-test (eqb t n)
+        (λ e.
+        let same = eqb-true t n e in
+        let dies : has dead n ≡ true = ap (has dead) (sym same) ∙ m in
+        rw (rest-same n e, dies) (ap₂ (λ (l : List ℕ) (k : ℕ). set l k 0) (below n (omega arith)) same))
+        (λ e. set-next (cleared rest stamps n) t n (has rest n) ∙ ap₂ (next n) (rest-other n e) (above m n (omega (arith, eqb-false t n e))))
+
+    pub cleared-first : has dead t ≡ true → t < 16 → cleared rest (set stamps t 0) 16 ≡ cleared dead stamps 16
+    cleared-first m h = set-first 16 ∙ above m 16 h
+
+pub cleared-none : (stamps : List ℕ) (n : ℕ) → cleared 0 stamps n ≡ stamps
 unfolding cleared
 cleared-none stamps zero = refl
 cleared-none stamps (suc n) = rw has-zero (cleared-none stamps n)

@@ -5,7 +5,7 @@ use routine::action::Access;
 use routine::action::Action;
 use routine::array::ArrayRecord;
 ghost use mathlib.Core.Path.{_≡_};
-ghost use mathlib.Core.Bool.{cond};
+ghost use mathlib.Core.Bool.{true, cond};
 ghost use Prim.Native.Nat.{_+_, _<_};
 ghost use lib.ListN.{set};
 ghost use Rattle.labels.specs.Letters.{useOfByte};
@@ -209,28 +209,26 @@ fn given(s: State, at: usize, step: u16) -> State
     t
 }
 
-// The stamp of version k once the versions in `dead` lose theirs.
-fn stamp_left(dead: u16, k: u8, stamp: u16) -> u16
-    requires { ⌜ k < 16 ⌝ }
-    ensures { λ r. ⌜ r ≡ cond (has dead k) 0 stamp ⌝ }
+// The lowest version of a set.
+fn lowest_in(set: u16) -> u8
+    requires { ⌜ 0 < set ⌝ }
+    ensures { λ r. ⌜ r < 16 ⌝ }
+    ensures { λ r. ⌜ has set r ≡ true ⌝ }
 {
-    let dies = sets::member(dead, k);
-    if dies {
-        return 0;
-    }
-    stamp
+    u16::trailing_zeros(set) as u8
 }
 
-// The stamps of the versions in `dead` become 0.
+// The stamps of the versions in `dead` become 0, the lowest first; no other is touched.
 fn clear(stamps: [u16; 16], dead: u16) -> [u16; 16]
     ensures { λ r. ⌜ r ≡ cleared dead stamps 16 ⌝ }
 {
     let mut left = stamps;
-    let mut k: u8 = 0;
-    while k < 16 {
-        let at = k as usize;
-        left[at] = stamp_left(dead, k, left[at]);
-        k += 1;
+    let mut rest = dead;
+    while rest != 0 {
+        let lowest = lowest_in(rest);
+        let at = lowest as usize;
+        left[at] = 0;
+        rest = sets::difference(rest, sets::single(lowest));
     }
     left
 }

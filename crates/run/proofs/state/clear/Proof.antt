@@ -1,63 +1,64 @@
--- `state::clear` meets its contract. The loop's invariant: the stamps below k are cleared. The measure is what is left of the sixteen.
+-- `state::clear` meets its contract. The loop's invariant: what is left to clear decides. The measure is the set of what is left.
 -- Assumes nothing.
 use mathlib.Core.Path.{_≡_, refl, sym, ap, _∙_}
-use mathlib.Core.Bool.{cond}
-use mathlib.Core.List.{List}
-use Prim.Native.Nat.{ℕ, _-_, _≤_}
+use Prim.Native.Nat.{ℕ}
 use native.Mathlib.Omega.{arith}
-use lib.ListN.{getD, set}
-use Rattle.sets.specs.Sets.{has}
+use borrow.Author.Needs.{needs}
+use lib.ListN.{set}
+use Rattle.sets.specs.Sets.{minus}
 use Rattle.run.specs.Run.{cleared}
-use Rattle.run.proofs.States.{cleared-more}
+use Rattle.run.proofs.States.{cleared-none, cleared-first, falls}
 use Rattle.run.proofs.state.clear.Statement.{statement}
 use Rattle.run.proofs.state.clear.Tie as tie
 
 abbrev Inv-loop : tie.InvT-loop
-Inv-loop dead left₀ k₀ left k = (k ≤ 16) × (left ≡ cleared dead left₀ k)
+Inv-loop dead left₀ rest₀ left rest = cleared rest left 16 ≡ cleared dead left₀ 16
 
 abbrev μ-loop : tie.MeasureT-loop
-μ-loop dead left₀ k₀ left k = 16 - k
+μ-loop dead left₀ rest₀ left rest = rest
 
 loop-holds : tie.Need-loop-holds Inv-loop μ-loop
-unfolding cleared
-loop-holds c = (omega arith, refl)
+loop-holds c = refl
+
+lowest-in-requires : tie.Need-lowest-in-requires Inv-loop μ-loop
+lowest-in-requires c κs = search needs
 
 cast-at : tie.Need-cast-at Inv-loop μ-loop
-cast-at c = omega arith
-
-mul-stamp-left : tie.Need-mul-stamp-left Inv-loop μ-loop
-mul-stamp-left c = omega arith
-
-array-read-stamp-left : tie.Need-array-read-stamp-left Inv-loop μ-loop
-array-read-stamp-left c = omega arith
-
-stamp-left-requires : tie.Need-stamp-left-requires Inv-loop μ-loop
-stamp-left-requires c κs = omega arith
+cast-at c = search needs
 
 mul-left : tie.Need-mul-left Inv-loop μ-loop
-mul-left c = omega arith
+mul-left c = search needs
 
 array-write-left : tie.Need-array-write-left Inv-loop μ-loop
-array-write-left c = omega arith
+array-write-left c = search needs
 
-add-k : tie.Need-add-k Inv-loop μ-loop
-add-k c = omega arith
+single-requires : tie.Need-single-requires Inv-loop μ-loop
+single-requires c κs = search needs
+
+difference-requires : tie.Need-difference-requires Inv-loop μ-loop
+difference-requires c κs = search needs
 
 loop-less : tie.Need-loop-less Inv-loop μ-loop
-loop-less c = omega arith
+loop-less c =
+    let l = c .before .before .before .before .loop in
+    let low = c .before .before .lowest-in in
+    let left = c .difference .ensures ∙ ap (minus (l .rest)) (c .before .single .ensures) in
+    rw left (falls (l .rest) (low .result) (low .ensures .1))
 
 loop-again : tie.Need-loop-again Inv-loop μ-loop
 loop-again c =
-    let a = c .before .before .before .args in
-    let l = c .before .before .loop in (
-      omega arith,
-      ap (set (l .left) (l .k)) (c .stamp-left .ensures)
-          ∙ ap (λ (x : List ℕ). set x (l .k) (cond (has (a .dead) (l .k)) 0 (getD x (l .k) 0))) (l .inv .1)
-          ∙ sym (cleared-more (a .dead) (a .stamps) (l .k)),
-    )
+    let l = c .before .before .before .before .loop in
+    let low = c .before .before .lowest-in in
+    let left = c .difference .ensures ∙ ap (minus (l .rest)) (c .before .single .ensures) in
+    ap (λ (n : ℕ). cleared n (set (l .left) (low .result) 0) 16) left
+    ∙ cleared-first (l .rest) (low .result) (l .left) (low .ensures .1) (low .ensures .0)
+    ∙ l .inv
 
 returns : tie.Need-returns Inv-loop μ-loop
-returns c = c .before .loop .inv .1 ∙ ap (cleared (c .before .before .args .dead) (c .before .before .args .stamps)) (omega arith)
+returns c =
+    let l = c .before .loop in
+    let none : l .rest ≡ 0 = omega arith in
+    sym (cleared-none (l .left) 16) ∙ ap (λ (n : ℕ). cleared n (l .left) 16) (sym none) ∙ l .inv
 
 pub clear-spec : {M : Type 1} → statement M
 clear-spec =
@@ -66,13 +67,12 @@ clear-spec =
     Inv-loop
     μ-loop
     loop-holds
+    lowest-in-requires
     cast-at
-    mul-stamp-left
-    array-read-stamp-left
-    stamp-left-requires
     mul-left
     array-write-left
-    add-k
+    single-requires
+    difference-requires
     loop-less
     loop-again
     returns)
