@@ -14,11 +14,12 @@ use Rattle.routine.specs.declared.action.Action.the-variants.{Nothing, Referenc
 use Rattle.words.specs.Tables.{rows}
 use Rattle.words.proofs.Tables.{rows-length}
 use Rattle.run.specs.declared.record.Record.{Record}
-use Rattle.run.specs.declared.state.State.{State}
+use Rattle.state.specs.declared.State.{State}
 use Rattle.run.specs.Paths.{steps, vertexAt}
 use Rattle.run.specs.Records.{recordsAt, byArray, byStep}
 use Rattle.run.specs.Report.{entryBytes, stateOf, entriesOf, entries, recordBytes, recordsBytes, reportBytes, referencesAmong, referencesAt, referencesOn, reportLength}
-use Rattle.run.specs.Run.{stampOf, stateAfter, runRecords}
+use Rattle.state.specs.States.{stampOf}
+use Rattle.run.specs.Run.{stateAfter, runRecords}
 
 -- ---- entries
 

@@ -18,7 +18,7 @@ use Rattle.routine.specs.declared.edge.Edge.{Edge}
 use Rattle.routine.proofs.Laws.{and-parts}
 use Rattle.routine.proofs.WellFormed.{edges-rise}
 use Rattle.run.specs.Paths.{edgeAmong, isEdge, FirstNotBefore}
-use Rattle.run.proofs.Rules.Cases.{by-test, or-cases}
+use Rattle.state.proofs.Cases.{by-test, or-cases}
 
 -- ---- the order
 

@@ -3,16 +3,14 @@
 use mathlib.Core.Path.{_≡_, refl, sym, ap, ap₂, subst, _∙_}
 use mathlib.Core.Bool.{Bool, true, false, cond}
 use mathlib.Core.List.{List, [], _++_, append-assoc, append-nil}
-use mathlib.Core.Logic.{_⊎_, ⊎-elim}
 use Prim.Native.Nat.{ℕ, suc, _+_, _-_, _*_, _≤_, _<_}
-use native.Mathlib.Nat.{eq-or-lt-of-le, le-of-suc-le-suc}
 use native.Mathlib.Numerals.{add-one}
 use native.Mathlib.Omega.{arith}
-use borrow.Author.Tests.{lt-ltb, le-ltb, ltb-true, ltb-false, eqb-true, eqb-false, eq-eqb, ne-eqb}
+use borrow.Author.Tests.{lt-ltb, le-ltb, ltb-true, ltb-false, eqb-true, eqb-false}
 use lib.Dec.{T, eqb, ltb}
-use lib.ListN.{length, getD, set, take, drop, length-append, length-set}
+use lib.ListN.{length, set, take, drop, length-append, length-set}
 use lib.Seq.{getD-set-same, getD-set-other}
-use Rattle.labels.specs.Events.{exit, event, version, versionOf}
+use Rattle.labels.specs.Events.{exit, event, versionOf}
 use Rattle.labels.specs.Kept.{keptOf}
 use Rattle.labels.specs.Letters.{letterByte, useOfByte}
 use Rattle.labels.specs.Uses.{useOf}
@@ -23,20 +21,22 @@ use Rattle.routine.specs.Arrays.{arrayOf}
 use Rattle.routine.specs.Layout.{arrays}
 use Rattle.routine.specs.Reader.{WellFormed}
 use Rattle.routine.specs.declared.action.Action.{Action}
-use Rattle.routine.specs.declared.action.Action.the-variants.{Remap}
 use Rattle.routine.specs.declared.array.ArrayRecord.{ArrayRecord}
 use Rattle.routine.specs.declared.refusal.Verdict.the-variants.{Passed}
-use Rattle.run.specs.declared.state.State.{State}
-use Rattle.run.specs.Fits.{Current, Fits}
+use Rattle.state.specs.declared.State.{State}
+use Rattle.state.specs.Fits.{Fits}
+use Rattle.state.specs.States.{Current}
 use Rattle.run.specs.Paths.{steps, vertexAt, pathCheck}
 use Rattle.run.specs.Report.{stateOf, recordsBytes}
-use Rattle.run.specs.Run.{started, visited, left, stateAfter, runRecords}
-use Rattle.run.specs.Walks.{Visits}
+use Rattle.state.specs.Exit.{left}
+use Rattle.state.specs.Start.{started}
+use Rattle.state.specs.Vertex.{visited, Visits}
+use Rattle.run.specs.Run.{stateAfter, runRecords}
 use Rattle.run.proofs.Bytes.{recordBytesAt, records-bytes}
 use Rattle.run.proofs.Rules.Demand.{state-fits, reference-below}
 use Rattle.words.specs.Tables.{rows, wrote}
 use Rattle.words.proofs.Tables.{rows-fit, rows-more}
-use Rattle.words.proofs.Written.{partFrom, write-more, wrote-length}
+use Rattle.words.proofs.Written.{partFrom, write-more}
 
 -- ---- the states
 

@@ -12,7 +12,8 @@ use Rattle.routine.specs.Actions.{isReference}
 use Rattle.routine.specs.Layout.{arrays}
 use Rattle.run.specs.Machine.{machineAfter, machineRecords}
 use Rattle.run.specs.Paths.{steps, vertexAt}
-use Rattle.run.specs.Run.{stateAfter, stampOf, runRecords, stampsCopied}
+use Rattle.state.specs.States.{stampOf}
+use Rattle.run.specs.Run.{stateAfter, runRecords, stampsCopied}
 
 -- the first n vertices of the path
 unfoldable pub before : List ℕ → ℕ → List ℕ

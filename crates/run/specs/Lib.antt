@@ -1,6 +1,5 @@
 pub mod Calls
 pub mod Demand
-pub mod Fits
 pub mod Machine
 pub mod Paths
 pub mod Records

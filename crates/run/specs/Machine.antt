@@ -13,7 +13,8 @@ use Rattle.routine.specs.declared.action.Action.the-variants.{Nothing, Referenc
 use Rattle.routine.specs.declared.array.ArrayRecord.{ArrayRecord}
 use Rattle.run.specs.declared.record.Record.{Record}
 use Rattle.run.specs.Paths.{steps, vertexAt}
-use Rattle.run.specs.Records.{recordsAt, stampAfter, byStep}
+use Rattle.state.specs.Stamps.{stampAfter}
+use Rattle.run.specs.Records.{recordsAt, byStep}
 
 -- for each array a held version, a stamp and a count
 pub record Machine : Type 0 where

@@ -31,12 +31,6 @@ abbrev pub recordOf : Access → ℕ → ℕ → ℕ → ℕ → Record
 recordOf x step array version stamp =
     record { step = step; array = array; version = version; kind = kindOf x; seen = seenBy x stamp; new = newBy x step }
 
--- the stamp after a reference
-abbrev pub stampAfter : Access → ℕ → ℕ → ℕ
-stampAfter Read step stamp = stamp
-stampAfter Define step stamp = step
-stampAfter Modify step stamp = step
-
 -- an event's records: one if it is a reference
 abbrev pub recordsAt : Action → ℕ → ℕ → ℕ → ℕ → List Record
 recordsAt Nothing step array version stamp = []

@@ -8,7 +8,7 @@ use lib.ListN.{getD}
 use Rattle.routine.specs.Actions.{isReference}
 use Rattle.routine.specs.Layout.{arrays}
 use Rattle.run.specs.declared.record.Record.{Record}
-use Rattle.run.specs.declared.state.State.{State}
+use Rattle.state.specs.declared.State.{State}
 use Rattle.run.specs.Paths.{steps, vertexAt}
 use Rattle.run.specs.Run.{stateAfter, runRecords}
 use Rattle.words.specs.Tables.{rows}

@@ -2,7 +2,6 @@
 pub mod path;
 pub mod record;
 pub mod report;
-pub mod state;
 pub mod walk;
 
 use labels::checks;

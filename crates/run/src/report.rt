@@ -1,11 +1,11 @@
 // The report: its length, and the entries of the arrays (document 01, "Plan and report").
 use crate::path;
 use crate::record::Record;
-use crate::state::State;
 use labels::event;
 use routine::array;
 use routine::array::ArrayRecord;
 use routine::header::Header;
+use state::State;
 ghost use mathlib.Core.Path.{_≡_};
 ghost use mathlib.Core.Bool.{cond};
 ghost use Prim.Native.Nat.{_*_, _<_, _≤_};

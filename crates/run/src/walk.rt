@@ -3,20 +3,18 @@ use crate::path;
 use crate::record;
 use crate::record::Record;
 use crate::report;
-use crate::state;
-use crate::state::State;
 use labels::event;
 use routine::action::Access;
 use routine::action::Action;
 use routine::array;
 use routine::array::ArrayRecord;
 use routine::header::Header;
+use state::State;
 ghost use mathlib.Core.Path.{_≡_};
 ghost use mathlib.Core.Bool.{cond};
 ghost use Prim.Native.Nat.{ℕ, _+_, _≤_, _<_};
 ghost use lib.Dec.{eqb};
 ghost use lib.ListN.{length};
-ghost use Rattle.labels.specs.Letters.{useOfByte};
 ghost use Rattle.labels.specs.Routines.{ReadAs};
 ghost use Rattle.routine.specs.Arrays.{arrayOf};
 ghost use Rattle.routine.specs.Layout.{arrays};
@@ -24,8 +22,11 @@ ghost use Rattle.routine.specs.declared.refusal.Verdict.the-variants.{Passed};
 ghost use Rattle.run.specs.Paths.{steps, pathCheck};
 ghost use Rattle.run.specs.Records.{recordOf, recordsAt};
 ghost use Rattle.run.specs.Report.{stateOf, recordBytes, recordsBytes, reportBytes};
-ghost use Rattle.run.specs.Run.{started, stampOf, visited, left, stateAfter, runRecords};
-ghost use Rattle.run.specs.Walks.{Tabled, Visits};
+ghost use Rattle.state.specs.Start.{started};
+ghost use Rattle.state.specs.States.{stampOf};
+ghost use Rattle.run.specs.Run.{stateAfter, runRecords};
+ghost use Rattle.state.specs.Vertex.{Visits};
+ghost use Rattle.run.specs.Walks.{Tabled};
 ghost use Rattle.words.specs.Tables.{wrote};
 
 // The states before the first step.
@@ -109,33 +110,6 @@ fn put(x: Action, step: usize, a: usize, s: State, out: &mut [u8]) -> usize
     }
 }
 
-// One array at one vertex, by its event, letter and kept set.
-fn visit(s: State, r: ArrayRecord, x: Action, letter: u8, keep: u16, step: u16) -> State
-    requires { ⌜ r .initial < 16 ⌝ }
-    requires { ⌜ Visits x s ⌝ }
-    ensures { λ n. ⌜ n ≡ visited r x (useOfByte letter) keep step s ⌝ }
-{
-    match x {
-        Action::Nothing => s,
-        Action::Reference(access) => s.referenced(access, step),
-        Action::Remap(t) => state::stepped(s, letter, t, keep, state::callers_of(r)),
-        Action::Unknown => s,
-    }
-}
-
-// At the exit local arrays lose all copies.
-fn leave(s: State, r: ArrayRecord, at_exit: bool) -> State
-    ensures { λ n. ⌜ n ≡ left r «at_exit» s ⌝ }
-{
-    if !at_exit {
-        return s;
-    }
-    if r.kind != 0 {
-        return s;
-    }
-    state::empty(s.copies)
-}
-
 // 1 if the last array has been served, else 0.
 fn carry(next: usize, m: usize) -> usize
     ensures { λ r. ⌜ r ≡ cond (eqb next m) 1 0 ⌝ }
@@ -186,8 +160,8 @@ fn follow(
         let step = i + 1;
         at += put(x, step, a, s, &mut out[at..]);
         let place = a * h.vertices + v;
-        let t = visit(s, r, x, letters[place], kept[place], step as u16);
-        states[a] = leave(t, r, v == h.vertices - 1);
+        let t = state::visit(s, r, x, letters[place], kept[place], step as u16);
+        states[a] = state::leave(t, r, v == h.vertices - 1);
         let next = a + 1;
         i += carry(next, m);
         a = wrap(next, m);

@@ -20,13 +20,18 @@ use Rattle.routine.specs.declared.array.ArrayRecord.{ArrayRecord}
 use Rattle.routine.proofs.Laws.{and-parts}
 use Rattle.sets.specs.Sets.{has}
 use Rattle.sets.proofs.Laws.{has-single, has-zero}
-use Rattle.run.specs.declared.state.State.{State}
-use Rattle.run.specs.Fits.{Fits}
+use Rattle.state.specs.declared.State.{State}
+use Rattle.state.specs.Fits.{Fits}
 use Rattle.run.specs.Machine.{Machine, machineStart, machineStep}
 use Rattle.run.specs.Records.{recordsAt}
-use Rattle.run.specs.Run.{nothing, hasCurrent, stampOf, started, isD, labelled, referenced, visited, left}
-use Rattle.run.proofs.Rules.Cases.{at-cond}
-use Rattle.run.proofs.Rules.Fits.{started-fits, step-fits}
+use Rattle.state.specs.Exit.{left}
+use Rattle.state.specs.Moves.{isD}
+use Rattle.state.specs.References.{referenced}
+use Rattle.state.specs.Start.{started}
+use Rattle.state.specs.States.{nothing, hasCurrent, stampOf}
+use Rattle.state.specs.Vertex.{labelled, visited}
+use Rattle.state.proofs.Cases.{at-cond}
+use Rattle.state.proofs.Fits.{started-fits, step-fits}
 use Rattle.run.proofs.Rules.Labels.{Ready, Labelled, labelled-does}
 use Rattle.run.proofs.Rules.Invariant.{Plan, Sound, Holds, Before, label-holds, ready, used, below, visit, alike}
 

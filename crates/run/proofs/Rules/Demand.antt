@@ -20,15 +20,18 @@ use Rattle.routine.specs.declared.action.Action.{Action}
 use Rattle.routine.specs.declared.action.Action.the-variants.{Nothing, Reference, Remap, Unknown}
 use Rattle.routine.specs.declared.array.ArrayRecord.{ArrayRecord}
 use Rattle.run.specs.declared.record.Record.{Record}
-use Rattle.run.specs.declared.state.State.{State}
+use Rattle.state.specs.declared.State.{State}
 use Rattle.run.specs.Demand.{before, IsHome, Demand3}
-use Rattle.run.specs.Fits.{Fits}
+use Rattle.state.specs.Fits.{Fits}
 use Rattle.run.specs.Machine.{Machine, machineStep, machineAfter, machineRecords}
 use Rattle.run.specs.Paths.{steps, vertexAt, pathCheck}
 use Rattle.run.specs.Records.{byArray, byStep}
-use Rattle.run.specs.Run.{moves, copies, labelled, referenced, visited, stateAfter, runRecords, copiedBy, copiedAt, stampsCopied}
+use Rattle.state.specs.Moves.{moves, copies}
+use Rattle.state.specs.References.{referenced}
+use Rattle.state.specs.Vertex.{labelled, visited}
+use Rattle.run.specs.Run.{stateAfter, runRecords, copiedBy, copiedAt, stampsCopied}
 use Rattle.run.proofs.Rules.Along.{Follows, left-copies, fits, begins, used-at, below-at, alike-at, few-at, home-at}
-use Rattle.run.proofs.Rules.Cases.{at-cond}
+use Rattle.state.proofs.Cases.{at-cond}
 use Rattle.run.proofs.Rules.Invariant.{Sound}
 use Rattle.run.proofs.Rules.Paths.{Walk, walk}
 use Rattle.run.proofs.Rules.Planned.{planOf, sound}

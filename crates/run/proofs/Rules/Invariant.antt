@@ -23,11 +23,15 @@ use Rattle.routine.specs.declared.action.Action.{Action}
 use Rattle.routine.specs.declared.action.Action.the-variants.{Nothing, Reference, Remap, Unknown}
 use Rattle.routine.specs.declared.array.ArrayRecord.{ArrayRecord}
 use Rattle.sets.specs.Sets.{has}
-use Rattle.run.specs.declared.state.State.{State}
+use Rattle.state.specs.declared.State.{State}
 use Rattle.run.specs.Machine.{Machine, machineStep}
 use Rattle.run.specs.Records.{recordsAt}
-use Rattle.run.specs.Run.{nothing, hasCurrent, stampOf, labelled, referenced, visited, isD}
-use Rattle.run.proofs.Rules.Labels.{Agree, Sits, Cheap, Ready, labelled-does}
+use Rattle.state.specs.Moves.{isD}
+use Rattle.state.specs.References.{referenced}
+use Rattle.state.specs.States.{nothing, hasCurrent, stampOf}
+use Rattle.state.specs.Vertex.{labelled, visited}
+use Rattle.state.proofs.Labels.{Agree, Sits}
+use Rattle.run.proofs.Rules.Labels.{Cheap, Ready, labelled-does}
 
 -- one array: the routine's edges, what each vertex does with the array, the letter and kept set of each label, the array's record, the exit
 pub record Plan : Type 0 where

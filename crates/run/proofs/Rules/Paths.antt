@@ -11,12 +11,12 @@ use Rattle.flow.specs.Paths.{Edge}
 use Rattle.labels.specs.Events.{edgeBytes, entry}
 use Rattle.labels.proofs.Rules.Proper.{edge-count, edge-from, edge-to}
 use Rattle.routine.specs.Edges.{edgeOf}
-use Rattle.routine.specs.Layout.{vertices, edges, within}
+use Rattle.routine.specs.Layout.{edges, within}
 use Rattle.routine.specs.Reader.{WellFormed}
 use Rattle.routine.specs.declared.refusal.Verdict.the-variants.{Passed}
 use Rattle.routine.proofs.Laws.{holds-true, allowed, and-parts, within-limits, scan-passed}
 use Rattle.run.specs.Paths.{steps, vertexAt, edgeAmong, isEdge, arrivalCheck, check32, pathCheck}
-use Rattle.run.proofs.Rules.Cases.{or-cases}
+use Rattle.state.proofs.Cases.{or-cases}
 
 module _ {file : List ℕ} (w : WellFormed file) where
   edge-there : (u v n : ℕ) → n ≤ edges file → edgeAmong file u v n ≡ true → Edge (edgeBytes file) u v

@@ -1,6 +1,6 @@
 -- `run_with` meets its contract: the checks, then the buffer's length, then the tables, the walk and the report; demand 3 holds of it.
 -- Assumes nothing.
-use mathlib.Core.Path.{_≡_, refl, sym, ap, _∙_}
+use mathlib.Core.Path.{refl, sym, ap, _∙_}
 use mathlib.Core.List.{_++_}
 use Prim.Native.Nat.{ℕ}
 use native.Mathlib.Omega.{arith}

@@ -17,16 +17,17 @@ use Rattle.labels.proofs.Cells.{inside, entry, letter-inside, letter-entry}
 use Rattle.routine.specs.Layout.{arrays, vertices}
 use Rattle.routine.specs.declared.action.Action.{Action}
 use Rattle.routine.specs.declared.array.ArrayRecord.{ArrayRecord}
-use Rattle.run.specs.declared.state.State.{State}
+use Rattle.state.specs.declared.State.{State}
 use Rattle.run.specs.Paths.{steps, vertexAt}
 use Rattle.run.specs.Records.{recordsAt}
 use Rattle.run.specs.Report.{stateOf, recordsBytes}
-use Rattle.run.specs.Run.{stampOf, stateAfter, runRecords}
-use Rattle.run.specs.Walks.{Visits}
+use Rattle.state.specs.States.{stampOf}
+use Rattle.run.specs.Run.{stateAfter, runRecords}
+use Rattle.state.specs.Vertex.{Visits}
 use Rattle.run.proofs.Bytes.{recordBytesAt}
 use Rattle.run.proofs.References.{within-vertices}
 use Rattle.run.proofs.Rules.Paths.{Walk, walk}
-use Rattle.run.proofs.Walking.{Walking, begins, next-state, doneAt, done-none, done-all, room, turned, visits, visited-is, falls, at-most-one, all-written, last-states}
+use Rattle.run.proofs.Walking.{Walking, begins, next-state, doneAt, done-none, room, turned, visits, visited-is, falls, at-most-one, all-written, last-states}
 use Rattle.words.specs.Tables.{wrote}
 use Rattle.words.proofs.Written.{partFrom, wrote-length, part-length}
 use Rattle.run.proofs.walk.follow.Statement.{statement}

@@ -12,7 +12,7 @@ use Rattle.routine.specs.declared.action.Action.{Action}
 use Rattle.routine.specs.declared.action.Action.the-variants.{Reference}
 use Rattle.run.specs.Records.{recordOf, recordsAt}
 use Rattle.run.specs.Report.{recordBytes, recordsBytes}
-use Rattle.run.specs.Run.{stampOf}
+use Rattle.state.specs.States.{stampOf}
 use Rattle.words.specs.Tables.{wrote}
 use borrow.Author.Needs.{needs}
 use Rattle.run.proofs.walk.put.Statement.{statement}

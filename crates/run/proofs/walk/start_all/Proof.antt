@@ -9,7 +9,7 @@ use Rattle.labels.proofs.Bounds.{initial-below}
 use Rattle.routine.specs.Arrays.{arrayOf}
 use Rattle.routine.specs.declared.array.ArrayRecord.{ArrayRecord}
 use Rattle.run.specs.Report.{stateOf}
-use Rattle.run.specs.Run.{started}
+use Rattle.state.specs.Start.{started}
 use Rattle.run.proofs.Walking.{filled-more}
 use Rattle.run.proofs.walk.start_all.Statement.{statement}
 use Rattle.run.proofs.walk.start_all.Tie as tie

@@ -1,0 +1,131 @@
+-- A state fits its types at the start, and one vertex keeps that.
+-- Assumes nothing.
+use mathlib.Core.Path.{_≡_, refl, _∙_}
+use mathlib.Core.Bool.{Bool, not, _&&_}
+use mathlib.Core.List.{List, [], _∷_}
+use mathlib.Core.Logic.{inl, inr}
+use Prim.Native.Nat.{ℕ, zero, suc, _+_, _≤_, _<_, _^_}
+use native.Mathlib.Omega.{arith}
+use lib.Bits.{or-lt}
+use lib.Dec.{lit<, lit≤}
+use lib.ListN.{getD, set, replicate, length-set}
+use lib.Pow.{pow-lt}
+use Rattle.labels.specs.Events.{isArgument, isInOrInout}
+use Rattle.labels.specs.declared.Use.{Use}
+use Rattle.routine.specs.declared.action.Access.{Access}
+use Rattle.routine.specs.declared.action.Access.the-variants.{Read, Define, Modify}
+use Rattle.routine.specs.declared.action.Action.{Action}
+use Rattle.routine.specs.declared.action.Action.the-variants.{Nothing, Reference, Remap, Unknown}
+use Rattle.routine.specs.declared.array.ArrayRecord.{ArrayRecord}
+use Rattle.sets.specs.Sets.{has, minus}
+use Rattle.state.specs.declared.State.{State}
+use Rattle.state.specs.Fits.{Stamps, Fits}
+use Rattle.state.specs.Stamps.{stampAfter}
+use Rattle.state.specs.Cleaning.{dying, callers, cleared, cleaned}
+use Rattle.state.specs.Exit.{left}
+use Rattle.state.specs.Moves.{moves, copies, targetStamp, moved}
+use Rattle.state.specs.References.{referenced}
+use Rattle.state.specs.Start.{started}
+use Rattle.state.specs.States.{stampOf, emptied}
+use Rattle.state.specs.Vertex.{labelled, visited}
+use Rattle.state.proofs.Cases.{at-cond}
+
+-- ---- lists of stamps
+
+set-small : (l : List ℕ) (i x : ℕ) → ((k : ℕ) → getD l k 0 ≤ 65535) → x ≤ 65535 → (k : ℕ) → getD (set l i x) k 0 ≤ 65535
+set-small [] i x h g k = h k
+set-small (y ∷ l) zero x h g zero = g
+set-small (y ∷ l) zero x h g (suc k) = h (suc k)
+set-small (y ∷ l) (suc i) x h g zero = h 0
+set-small (y ∷ l) (suc i) x h g (suc k) = set-small l i x (λ j. h (suc j)) g k
+
+set-stamps : (l : List ℕ) (i x : ℕ) → Stamps l → x ≤ 65535 → Stamps (set l i x)
+set-stamps l i x h g = record { sixteen = length-set l i x ∙ h .sixteen; small = set-small l i x (h .small) g }
+
+zeros-small : (n k : ℕ) → getD (replicate n 0) k 0 ≤ 65535
+zeros-small zero k = lit≤ tt
+zeros-small (suc n) zero = lit≤ tt
+zeros-small (suc n) (suc k) = zeros-small n k
+
+zeros : Stamps (replicate 16 0)
+zeros = record { sixteen = refl; small = zeros-small 16 }
+
+cleared-stamps : (dead : ℕ) (l : List ℕ) (n : ℕ) → Stamps l → Stamps (cleared dead l n)
+unfolding cleared
+cleared-stamps dead l zero h = h
+cleared-stamps dead l (suc n) h =
+    let g = cleared-stamps dead l n h in
+    at-cond Stamps (has dead n) (λ _. set-stamps (cleared dead l n) n 0 g (lit≤ tt)) (λ _. g)
+
+-- ---- states
+
+emptied-fits : (copies n : ℕ) → copies ≤ n → Fits (emptied copies) n
+emptied-fits copies n h = record { current = inr refl; live = lit< tt; stamps = zeros; copies = h }
+
+pub started-fits : (r : ArrayRecord) → r .initial < 16 → Fits (started r) 0
+started-fits r h =
+    at-cond (λ (s : State). Fits s 0) (isInOrInout (r .kind))
+    (λ _. record { current = inl h; live = pow-lt h; stamps = set-stamps (replicate 16 0) (r .initial) 65535 zeros (lit≤ tt); copies = lit≤ tt })
+    (λ _. emptied-fits 0 0 (lit≤ tt))
+
+longer : {s : State} {n : ℕ} → Fits s n → Fits s (suc n)
+longer f = record { current = f .current; live = f .live; stamps = f .stamps; copies = omega arith }
+
+left-fits : (r : ArrayRecord) (b : Bool) {s : State} {n : ℕ} → Fits s n → Fits (left r b s) n
+left-fits r b {s} {n} f = at-cond (λ (s' : State). Fits s' n) (b && not (isArgument (r .kind))) (λ _. emptied-fits (s .copies) n (f .copies)) (λ _. f)
+
+cleaned-fits : (own keep : ℕ) {s : State} {n : ℕ} → Fits s n → Fits (cleaned own keep s) n
+unfolding cleaned
+cleaned-fits own keep {s} f =
+    record {
+      current = f .current;
+      live = omega arith;
+      stamps = cleared-stamps (minus (dying keep s) own) (s .stamps) 16 (f .stamps);
+      copies = f .copies;
+    }
+
+module _ (u : Use) (t : ℕ) (below : t < 16) {s : State} {n : ℕ} (f : Fits s n) where
+  target-small : targetStamp u t s ≤ 65535
+  unfolding copies
+  target-small =
+      at-cond (λ (x : ℕ). x ≤ 65535) (copies u t s)
+      (λ _. f .stamps .small (s .current))
+      (λ _. at-cond (λ (x : ℕ). x ≤ 65535) (has (s .live) t) (λ _. f .stamps .small t) (λ _. lit≤ tt))
+
+  moved-fits : Fits (moved u t s) (suc n)
+  unfolding moved
+  moved-fits =
+      at-cond (λ (s' : State). Fits s' (suc n)) (moves u t s)
+      (λ _. record {
+        current = inl below;
+        live = or-lt 16 (s .live) (2 ^ t) (f .live) (pow-lt below);
+        stamps = set-stamps (s .stamps) t (targetStamp u t s) (f .stamps) target-small;
+        copies = at-cond (λ (x : ℕ). s .copies + x ≤ suc n) (copies u t s) (λ _. omega arith) (λ _. omega arith);
+      })
+      (λ _. longer f)
+
+after-small : (x : Access) (step stamp : ℕ) → step ≤ 65535 → stamp ≤ 65535 → stampAfter x step stamp ≤ 65535
+after-small Read step stamp h g = g
+after-small Define step stamp h g = h
+after-small Modify step stamp h g = h
+
+module _ (r : ArrayRecord) (u : Use) (keep : ℕ) {s : State} {n : ℕ} (short : n < 65535) (f : Fits s n) where
+  visited-fits : (x : Action) → ((k : ℕ) → x ≡ Remap k → k < 16) → Fits (visited r x u keep (n + 1) s) (suc n)
+  unfolding referenced labelled
+  visited-fits Nothing below = longer f
+  visited-fits (Reference x) below =
+      let stamp = stampOf s (s .current) in
+      let small = after-small x (n + 1) stamp (omega arith) (f .stamps .small (s .current)) in
+      record {
+        current = f .current;
+        live = f .live;
+        stamps = set-stamps (s .stamps) (s .current) (stampAfter x (n + 1) stamp) (f .stamps) small;
+        copies = longer f .copies;
+      }
+  visited-fits (Remap t) below = cleaned-fits (callers r) keep (moved-fits u t (below t refl) f)
+  visited-fits Unknown below = longer f
+
+  -- one vertex
+  pub step-fits : (b : Bool) (x : Action) → ((k : ℕ) → x ≡ Remap k → k < 16) → Fits (left r b (visited r x u keep (n + 1) s)) (suc n)
+  unfolding referenced labelled
+  step-fits b x below = left-fits r b (visited-fits x below)

@@ -1,0 +1,5 @@
+pub mod Cases
+pub mod Fits
+pub mod Labels
+pub mod Lent
+pub mod States

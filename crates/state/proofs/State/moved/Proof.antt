@@ -1,0 +1,56 @@
+-- `State::moved` meets its contract, with one law for its two exits.
+-- Assumes nothing.
+use mathlib.Core.Path.{refl, sym, _∙_}
+use mathlib.Core.Bool.{true, false}
+use borrow.Author.Needs.{needs}
+use borrow.Author.Tests.{not-true, not-false}
+use Rattle.state.proofs.States.{moved-is}
+use Rattle.state.proofs.State.moved.Statement.{statement}
+use Rattle.state.proofs.State.moved.Tie as tie
+
+takes-up-requires : tie.Need-takes-up-requires
+takes-up-requires c κs = search needs
+
+returns : tie.Need-returns
+returns c =
+    let s = c .before .before in
+    moved-is (s .args .u) (s .args .t) (s .args .self) false _ _ _ _ (sym (not-true _ (c .if1 .taken)) ∙ c .before .takes-up .ensures) refl refl refl refl
+
+copies-stamp-requires : tie.Need-copies-stamp-requires
+copies-stamp-requires c κs = search needs
+
+target-stamp-requires : tie.Need-target-stamp-requires
+target-stamp-requires c κs = search needs
+
+single-requires : tie.Need-single-requires
+single-requires c κs = search needs
+
+mul-s : tie.Need-mul-s
+mul-s c = search needs
+
+element-write-s : tie.Need-element-write-s
+element-write-s c = search needs
+
+counted-requires : tie.Need-counted-requires
+counted-requires c κs = search needs
+
+returns-2 : tie.Need-returns-2
+returns-2 c =
+    let b = c .before .before .before .before in
+    let s = b .before .before in
+    moved-is (s .args .u) (s .args .t) (s .args .self) true _ _ _ _ (sym (not-false _ (b .if1 .left)) ∙ b .before .takes-up .ensures)
+    (c .before .before .before .copies-stamp .ensures) (c .before .single .ensures) (c .before .before .target-stamp .ensures) (c .counted .ensures)
+
+pub moved-spec : {M : Type 1} → statement M
+moved-spec =
+    tie.close
+    (tie.spec
+    takes-up-requires
+    returns
+    copies-stamp-requires
+    target-stamp-requires
+    single-requires
+    mul-s
+    element-write-s
+    counted-requires
+    returns-2)

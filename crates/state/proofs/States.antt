@@ -1,0 +1,153 @@
+-- Laws of the run rules, as the functions over a state use them.
+-- Assumes nothing.
+use mathlib.Core.Path.{_≡_, refl, sym, ap, ap₂, _∙_}
+use mathlib.Core.Bool.{Bool, true, false, not, _&&_, cond, true≢false, and-true, and-false}
+use mathlib.Core.List.{List}
+use mathlib.Core.Logic.{inl, inr, ⊎-elim}
+use Prim.Native.Nat.{ℕ, zero, suc, _+_, _/_, _%_, _^_, _≤_, _<_}
+use native.Mathlib.Nat.{eq-or-lt-of-le, pow-suc}
+use native.Mathlib.Omega.{arith}
+use lib.Bits.{bitOr, and-zero-r}
+use borrow.Author.Tests.{eqb-true, eqb-false, eq-eqb, ne-eqb}
+use lib.Count.{trailingZeros, under, trailing-le}
+use lib.Dec.{eqb}
+use lib.ListN.{set}
+use lib.Seq.{set-comm}
+use Rattle.labels.specs.declared.Use.{Use}
+use Rattle.routine.proofs.Laws.{and-parts}
+use Rattle.sets.proofs.Laws.{bit-zero, bit-has, has-suc, has-minus, has-single, has-zero, has-out}
+use Rattle.sets.specs.Sets.{has, minus}
+use Rattle.state.specs.declared.State.{State}
+use Rattle.state.specs.States.{Current, nothing, hasCurrent, stampOf}
+use Rattle.state.specs.Cleaning.{currentSet, dying, cleared, cleaned}
+use Rattle.state.specs.Moves.{moves, isD, copies, targetStamp, moved}
+use Rattle.state.proofs.Cases.{at-cond, by-test}
+
+-- a current copy is a version
+pub current-below : (s : State) → Current s → hasCurrent s ≡ true → s .current < 16
+current-below s (inl h) e = h
+current-below s (inr n) e = absurd (true≢false (sym e ∙ ap (λ (k : ℕ). not (eqb k nothing)) n))
+
+module _ (u : Use) (t : ℕ) (s : State) where
+  pub copied-below : Current s → copies u t s ≡ true → s .current < 16
+  unfolding copies
+  copied-below current h =
+      current-below s current (and-parts (not (isD u)) _ (and-parts (not (has (s .live) t)) _ (and-parts (moves u t s) _ h .1) .1) .1)
+
+  pub target-is : (copied live : Bool) → copied ≡ copies u t s → live ≡ has (s .live) t
+      → cond copied (stampOf s (s .current)) (cond live (stampOf s t) 0) ≡ targetStamp u t s
+  unfolding copies
+  target-is copied live e f = simp (e, f)
+
+  pub moved-is : (takes copied : Bool) (one stamp count : ℕ) → takes ≡ moves u t s → copied ≡ copies u t s → one ≡ 2 ^ t → stamp ≡ targetStamp u t s
+      → count ≡ s .copies + cond copied 1 0
+      → cond takes (record { current = t; live = bitOr (s .live) one; stamps = set (s .stamps) t stamp; copies = count }) s ≡ moved u t s
+  unfolding moved
+  moved-is takes copied one stamp count e f g h k = simp (e, k, f, g, h)
+
+  pub moved-current : Current s → t < 16 → Current (moved u t s)
+  unfolding moved
+  moved-current current below = at-cond Current (moves u t s) (λ _. inl below) (λ _. current)
+
+-- the lowest member of a set that is not empty
+pub lowest-has : (w m : ℕ) → 0 < m → m < 2 ^ w → has m (trailingZeros w m) ≡ true
+unfolding trailingZeros
+lowest-has zero m some fits = absurd (omega arith)
+lowest-has (suc w) m some fits = go (m % 2) refl (λ half. lowest-has w (m / 2) half (omega (arith, pow-suc 2 w)))
+  where
+    go : (d : ℕ) → m % 2 ≡ d → (0 < m / 2 → has (m / 2) (trailingZeros w (m / 2)) ≡ true) → has m (under d (trailingZeros w (m / 2))) ≡ true
+    go zero e half = has-suc m (trailingZeros w (m / 2)) ∙ half (omega arith)
+    go (suc d) e half = bit-has m 0 (omega (arith, bit-zero m))
+
+pub lowest-below : (w m : ℕ) → 0 < m → m < 2 ^ w → trailingZeros w m < w
+lowest-below w m some fits =
+    ⊎-elim (λ (e : trailingZeros w m ≡ w). absurd (true≢false (sym (lowest-has w m some fits) ∙ has-out w m (trailingZeros w m) fits (omega arith)))) (λ h. h)
+    (eq-or-lt-of-le (trailing-le w m))
+
+-- ---- a member t of `dead` is cleared first, and the rest later
+
+set-twice : (l : List ℕ) (i j : ℕ) → set (set l i 0) j 0 ≡ set (set l j 0) i 0
+set-twice l i j = by-test (eqb i j) (λ e. rw (eqb-true i j e)) (λ e. set-comm l i j 0 0 (eqb-false i j e))
+
+-- the next version, cleared if b
+abbrev next : ℕ → Bool → List ℕ → List ℕ
+next n b l = cond b (set l n 0) l
+
+set-next : (l : List ℕ) (t n : ℕ) (b : Bool) → set (next n b l) t 0 ≡ next n b (set l t 0)
+set-next l t n true = set-twice l n t
+set-next l t n false = refl
+
+module _ (dead t : ℕ) where
+  abbrev rest : ℕ
+  rest = minus dead (2 ^ t)
+
+  rest-has : (k : ℕ) → has rest k ≡ (has dead k && not (eqb t k))
+  rest-has k = simp (has-minus, has-single)
+
+  rest-other : (k : ℕ) → eqb t k ≡ false → has rest k ≡ has dead k
+  rest-other k e = rest-has k ∙ rw (e, and-true)
+
+  rest-same : (k : ℕ) → eqb t k ≡ true → has rest k ≡ false
+  rest-same k e = rest-has k ∙ rw (e, and-false)
+
+  -- fewer are left
+  pub falls : has dead t ≡ true → rest < dead
+  unfolding minus
+  falls m =
+      let most : rest ≤ dead = omega arith in
+      ⊎-elim (λ (e : rest ≡ dead). absurd (true≢false (sym m ∙ ap (λ (n : ℕ). has n t) (sym e) ∙ rest-same t (eq-eqb t t refl)))) (λ h. h) (eq-or-lt-of-le most)
+
+  module _ (stamps : List ℕ) where
+    set-first : (n : ℕ) → cleared rest (set stamps t 0) n ≡ set (cleared rest stamps n) t 0
+    unfolding cleared
+    set-first zero = refl
+    set-first (suc n) = ap (next n (has rest n)) (set-first n) ∙ sym (set-next (cleared rest stamps n) t n (has rest n))
+
+    below : (n : ℕ) → n ≤ t → cleared rest stamps n ≡ cleared dead stamps n
+    unfolding cleared
+    below zero h = refl
+    below (suc n) h = ap₂ (next n) (rest-other n (ne-eqb t n (λ e. omega arith))) (below n (omega arith))
+
+    above : has dead t ≡ true → (n : ℕ) → t < n → set (cleared rest stamps n) t 0 ≡ cleared dead stamps n
+    unfolding cleared
+    above m zero h = absurd (omega arith)
+    above m (suc n) h =
+        by-test (eqb t n)
+        (λ e.
+        let same = eqb-true t n e in
+        let dies : has dead n ≡ true = ap (has dead) (sym same) ∙ m in
+        rw (rest-same n e, dies) (ap₂ (λ (l : List ℕ) (k : ℕ). set l k 0) (below n (omega arith)) same))
+        (λ e. set-next (cleared rest stamps n) t n (has rest n) ∙ ap₂ (next n) (rest-other n e) (above m n (omega (arith, eqb-false t n e))))
+
+    pub cleared-first : has dead t ≡ true → t < 16 → cleared rest (set stamps t 0) 16 ≡ cleared dead stamps 16
+    cleared-first m h = set-first 16 ∙ above m 16 h
+
+pub cleared-none : (stamps : List ℕ) (n : ℕ) → cleared 0 stamps n ≡ stamps
+unfolding cleared
+cleared-none stamps zero = refl
+cleared-none stamps (suc n) = rw has-zero (cleared-none stamps n)
+
+minus-none : (a : ℕ) → minus a 0 ≡ a
+unfolding minus
+minus-none a = omega (arith, and-zero-r a)
+
+none-minus : (b : ℕ) → minus 0 b ≡ 0
+unfolding minus
+none-minus b = omega arith
+
+module _ (own keep : ℕ) (s : State) (current dead : ℕ) (e : current ≡ currentSet s) (f : dead ≡ minus (s .live) (bitOr keep current)) where
+  dies : dead ≡ dying keep s
+  dies = f ∙ ap (λ (m : ℕ). minus (s .live) (bitOr keep m)) e
+
+  pub cleaned-is : (live lost : ℕ) (stamps : List ℕ) → live ≡ minus (s .live) dead → lost ≡ minus dead own → stamps ≡ cleared lost (s .stamps) 16
+      → record { current = s .current; live = live; stamps = stamps; copies = s .copies } ≡ cleaned own keep s
+  unfolding cleaned
+  cleaned-is live lost stamps g h k =
+      ap₂ (λ (l : ℕ) (x : List ℕ). record { current = s .current; live = l; stamps = x; copies = s .copies }) (g ∙ ap (minus (s .live)) dies)
+      (k ∙ ap (λ (d : ℕ). cleared d (s .stamps) 16) (h ∙ ap (λ (d : ℕ). minus d own) dies))
+
+  -- where nothing dies the state stays
+  pub none-dies : dead ≡ 0 → s ≡ cleaned own keep s
+  none-dies z =
+      cleaned-is (s .live) 0 (s .stamps)
+      (sym (ap (minus (s .live)) z ∙ minus-none (s .live))) (sym (ap (λ (d : ℕ). minus d own) z ∙ none-minus own)) (sym (cleared-none (s .stamps) 16))

@@ -1,0 +1,78 @@
+-- `clear` meets its contract. The loop's invariant: what is left to clear decides. The measure is the set of what is left.
+-- Assumes nothing.
+use mathlib.Core.Path.{_≡_, refl, sym, ap, _∙_}
+use Prim.Native.Nat.{ℕ}
+use native.Mathlib.Omega.{arith}
+use borrow.Author.Needs.{needs}
+use lib.ListN.{set}
+use Rattle.sets.specs.Sets.{minus}
+use Rattle.state.specs.Cleaning.{cleared}
+use Rattle.state.proofs.States.{cleared-none, cleared-first, falls}
+use Rattle.state.proofs.clear.Statement.{statement}
+use Rattle.state.proofs.clear.Tie as tie
+
+abbrev Inv-loop : tie.InvT-loop
+Inv-loop dead left₀ rest₀ left rest = cleared rest left 16 ≡ cleared dead left₀ 16
+
+abbrev μ-loop : tie.MeasureT-loop
+μ-loop dead left₀ rest₀ left rest = rest
+
+loop-holds : tie.Need-loop-holds Inv-loop μ-loop
+loop-holds c = refl
+
+lowest-in-requires : tie.Need-lowest-in-requires Inv-loop μ-loop
+lowest-in-requires c κs = search needs
+
+cast-at : tie.Need-cast-at Inv-loop μ-loop
+cast-at c = search needs
+
+mul-left : tie.Need-mul-left Inv-loop μ-loop
+mul-left c = search needs
+
+array-write-left : tie.Need-array-write-left Inv-loop μ-loop
+array-write-left c = search needs
+
+single-requires : tie.Need-single-requires Inv-loop μ-loop
+single-requires c κs = search needs
+
+difference-requires : tie.Need-difference-requires Inv-loop μ-loop
+difference-requires c κs = search needs
+
+loop-less : tie.Need-loop-less Inv-loop μ-loop
+loop-less c =
+    let l = c .before .before .before .before .loop in
+    let low = c .before .before .lowest-in in
+    let left = c .difference .ensures ∙ ap (minus (l .rest)) (c .before .single .ensures) in
+    rw left (falls (l .rest) (low .result) (low .ensures .1))
+
+loop-again : tie.Need-loop-again Inv-loop μ-loop
+loop-again c =
+    let l = c .before .before .before .before .loop in
+    let low = c .before .before .lowest-in in
+    let left = c .difference .ensures ∙ ap (minus (l .rest)) (c .before .single .ensures) in
+    ap (λ (n : ℕ). cleared n (set (l .left) (low .result) 0) 16) left
+    ∙ cleared-first (l .rest) (low .result) (l .left) (low .ensures .1) (low .ensures .0)
+    ∙ l .inv
+
+returns : tie.Need-returns Inv-loop μ-loop
+returns c =
+    let l = c .before .loop in
+    let none : l .rest ≡ 0 = omega arith in
+    sym (cleared-none (l .left) 16) ∙ ap (λ (n : ℕ). cleared n (l .left) 16) (sym none) ∙ l .inv
+
+pub clear-spec : {M : Type 1} → statement M
+clear-spec =
+    tie.close
+    (tie.spec
+    Inv-loop
+    μ-loop
+    loop-holds
+    lowest-in-requires
+    cast-at
+    mul-left
+    array-write-left
+    single-requires
+    difference-requires
+    loop-less
+    loop-again
+    returns)

@@ -1,0 +1,9 @@
+pub mod Cleaning
+pub mod Exit
+pub mod Fits
+pub mod Moves
+pub mod References
+pub mod Stamps
+pub mod Start
+pub mod States
+pub mod Vertex

@@ -1,0 +1,46 @@
+-- Document 01, "Run": the move at a label of version t and letter u.
+-- Assumes nothing.
+use mathlib.Core.Bool.{Bool, true, false, not, _&&_, cond}
+use Prim.Native.Nat.{ℕ, _+_, _^_}
+use lib.Bits.{bitOr}
+use lib.Dec.{eqb}
+use lib.ListN.{set}
+use Rattle.labels.specs.Uses.{isN}
+use Rattle.labels.specs.declared.Use.{Use}
+use Rattle.labels.specs.declared.Use.the-variants.{N, D, R, W}
+use Rattle.sets.specs.Sets.{has}
+use Rattle.state.specs.declared.State.{State}
+use Rattle.state.specs.States.{hasCurrent, stampOf}
+
+-- the target is to be taken up: the label is kept, and the target is not current, or nothing is
+abbrev pub moves : Use → ℕ → State → Bool
+moves u t s = not (isN u) && not (eqb (s .current) t)
+
+abbrev pub isD : Use → Bool
+isD N = false
+isD D = true
+isD R = false
+isD W = false
+
+-- a stamp is copied: the target is not live, the use is not D, and a copy is current
+unfoldable pub copies : Use → ℕ → State → Bool
+unfolding has
+copies u t s = moves u t s && (not (has (s .live) t) && (not (isD u) && hasCurrent s))
+
+-- the target's stamp: copied; or its own if it is live; or 0
+abbrev pub targetStamp : Use → ℕ → State → ℕ
+unfolding copies
+targetStamp u t s = cond (copies u t s) (stampOf s (s .current)) (cond (has (s .live) t) (stampOf s t) 0)
+
+-- the target becomes live and current
+unfoldable pub moved : Use → ℕ → State → State
+unfolding copies has
+moved u t s =
+    cond (moves u t s)
+    (record {
+      current = t;
+      live = bitOr (s .live) (2 ^ t);
+      stamps = set (s .stamps) t (targetStamp u t s);
+      copies = s .copies + cond (copies u t s) 1 0;
+    })
+    s

@@ -1,0 +1,11 @@
+-- Document 01, "Run": a define or modify gives its step number as the new stamp. Run and machine read it alike.
+-- Assumes nothing.
+use Prim.Native.Nat.{ℕ}
+use Rattle.routine.specs.declared.action.Access.{Access}
+use Rattle.routine.specs.declared.action.Access.the-variants.{Read, Define, Modify}
+
+-- the stamp after a reference
+abbrev pub stampAfter : Access → ℕ → ℕ → ℕ
+stampAfter Read step stamp = stamp
+stampAfter Define step stamp = step
+stampAfter Modify step stamp = step

@@ -1,0 +1,28 @@
+-- Document 01, "Run": one array's state: its current copy, the set of live versions, a stamp for each version, the copies counted.
+-- Assumes nothing.
+use mathlib.Core.Path.{_≡_}
+use mathlib.Core.Bool.{Bool, not}
+use mathlib.Core.Logic.{_⊎_}
+use Prim.Native.Nat.{ℕ, _<_}
+use lib.Dec.{eqb}
+use lib.ListN.{getD, replicate}
+use Rattle.state.specs.declared.State.{State}
+
+-- no current copy
+abbrev pub nothing : ℕ
+nothing = 255
+
+abbrev pub hasCurrent : State → Bool
+hasCurrent s = not (eqb (s .current) nothing)
+
+-- the stamp of a version
+abbrev pub stampOf : State → ℕ → ℕ
+stampOf s k = getD (s .stamps) k 0
+
+-- no copies: none current, none live
+abbrev pub emptied : ℕ → State
+emptied copies = record { current = nothing; live = 0; stamps = replicate 16 0; copies = copies }
+
+-- a version or none is current
+abbrev pub Current : State → Type 0
+Current s = (s .current < 16) ⊎ (s .current ≡ nothing)

@@ -1,0 +1,35 @@
+-- Document 01, "Run": one vertex, by what it does with the array.
+-- Assumes nothing.
+use mathlib.Core.Path.{_≡_}
+use Prim.Native.Nat.{ℕ, _<_}
+use lib.Dec.{T}
+use Rattle.labels.specs.declared.Use.{Use}
+use Rattle.routine.specs.Actions.{isReference}
+use Rattle.routine.specs.declared.action.Action.{Action}
+use Rattle.routine.specs.declared.action.Action.the-variants.{Nothing, Reference, Remap, Unknown}
+use Rattle.routine.specs.declared.array.ArrayRecord.{ArrayRecord}
+use Rattle.state.specs.declared.State.{State}
+use Rattle.state.specs.Cleaning.{callers, cleaned}
+use Rattle.state.specs.Moves.{moved}
+use Rattle.state.specs.References.{referenced}
+use Rattle.state.specs.States.{Current}
+
+-- a label: the move, then the cleaning
+unfoldable pub labelled : ArrayRecord → Use → ℕ → ℕ → State → State
+unfolding moved cleaned
+labelled r u t keep s = cleaned (callers r) keep (moved u t s)
+
+-- an event, the label's letter and kept set, and the step number
+abbrev pub visited : ArrayRecord → Action → Use → ℕ → ℕ → State → State
+unfolding labelled referenced
+visited r Nothing u keep step s = s
+visited r (Reference x) u keep step s = referenced x step s
+visited r (Remap t) u keep step s = labelled r u t keep s
+visited r Unknown u keep step s = s
+
+-- an array's state before an event: fields and versions within their limits, a current version at a reference
+pub record Visits (x : Action) (s : State) : Type 0 where
+  pub current : Current s
+  pub few-copies : s .copies < 65535
+  pub at-reference : T (isReference x) → s .current < 16
+  pub at-remap : (t : ℕ) → x ≡ Remap t → t < 16

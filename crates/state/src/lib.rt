@@ -1,0 +1,298 @@
+// One array's run state, and the run rules over it, by value (document 01, "Run").
+use labels::Use;
+use labels::event;
+use routine::action::Access;
+use routine::action::Action;
+use routine::array::ArrayRecord;
+ghost use mathlib.Core.Path.{_≡_};
+ghost use mathlib.Core.Bool.{true, cond};
+ghost use Prim.Native.Nat.{_+_, _<_};
+ghost use lib.ListN.{set};
+ghost use Rattle.labels.specs.Letters.{useOfByte};
+ghost use Rattle.state.specs.Cleaning.{currentSet, callers, cleared, cleaned};
+ghost use Rattle.state.specs.Exit.{left};
+ghost use Rattle.state.specs.Moves.{moves, isD, copies, targetStamp, moved};
+ghost use Rattle.state.specs.References.{referenced};
+ghost use Rattle.state.specs.Start.{started};
+ghost use Rattle.state.specs.States.{hasCurrent, emptied, Current};
+ghost use Rattle.state.specs.Vertex.{visited, Visits};
+ghost use Rattle.sets.specs.Sets.{has};
+
+// The current version, or 255 for none; the set of live versions; a stamp for each version; the copies counted.
+pub struct State {
+    pub current: u8,
+    pub live: u16,
+    pub stamps: [u16; 16],
+    pub copies: u16,
+}
+
+// No current copy.
+const NONE: u8 = 255;
+
+// No copies: none current, none live.
+pub fn empty(copies: u16) -> State
+    ensures { λ r. ⌜ r ≡ emptied copies ⌝ }
+{
+    State {
+        current: NONE,
+        live: 0,
+        stamps: [0; 16],
+        copies,
+    }
+}
+
+// Before the first step.
+pub fn start(r: ArrayRecord) -> State
+    requires { ⌜ r .initial < 16 ⌝ }
+    ensures { λ s. ⌜ s ≡ started r ⌝ }
+{
+    let own = event::is_in_or_inout(r);
+    if !own {
+        return empty(0);
+    }
+    let initial = r.initial;
+    let at = initial as usize;
+    let mut s = empty(0);
+    s.current = initial;
+    s.live = sets::single(initial);
+    s.stamps[at] = 65535;
+    s
+}
+
+// An argument's initial version as a set: it belongs to the caller.
+pub fn callers_of(r: ArrayRecord) -> u16
+    requires { ⌜ r .initial < 16 ⌝ }
+    ensures { λ s. ⌜ s ≡ callers r ⌝ }
+{
+    if r.kind == 0 {
+        return 0;
+    }
+    sets::single(r.initial)
+}
+
+// D: the value is overwritten, so it is not copied.
+fn is_d(u: Use) -> bool
+    ensures { λ r. ⌜ r ≡ isD u ⌝ }
+{
+    match u {
+        Use::N => false,
+        Use::D => true,
+        Use::R => false,
+        Use::W => false,
+    }
+}
+
+// One copy more, if a stamp is copied.
+fn counted(copies: u16, copied: bool) -> u16
+    requires { ⌜ copies < 65535 ⌝ }
+    ensures { λ r. ⌜ r ≡ copies + cond copied 1 0 ⌝ }
+{
+    if copied {
+        return copies + 1;
+    }
+    copies
+}
+
+impl State {
+    // Whether a copy is current.
+    fn has_current(self) -> bool
+        ensures { λ r. ⌜ r ≡ hasCurrent self ⌝ }
+    {
+        self.current != NONE
+    }
+
+    // Whether a label of letter u and version t takes its target up.
+    fn takes_up(self, u: Use, t: u8) -> bool
+        ensures { λ r. ⌜ r ≡ moves u t self ⌝ }
+    {
+        event::is_kept(Action::Remap(t), u) & (self.current != t)
+    }
+
+    // Whether it copies a stamp.
+    fn copies_stamp(self, u: Use, t: u8) -> bool
+        requires { ⌜ t < 16 ⌝ }
+        ensures { λ r. ⌜ r ≡ copies u t self ⌝ }
+    {
+        self.takes_up(u, t) & (!sets::member(self.live, t) & (!is_d(u) & self.has_current()))
+    }
+
+    // The target's stamp.
+    fn target_stamp(self, u: Use, t: u8) -> u16
+        requires { ⌜ t < 16 ⌝ }
+        requires { ⌜ Current self ⌝ }
+        ensures { λ r. ⌜ r ≡ targetStamp u t self ⌝ }
+    {
+        let copied = self.copies_stamp(u, t);
+        let current = self.current as usize;
+        let target = t as usize;
+        if copied {
+            return self.stamps[current];
+        }
+        let live = sets::member(self.live, t);
+        if live {
+            return self.stamps[target];
+        }
+        0
+    }
+
+    // The move at a label of letter u and version t.
+    fn moved(self, u: Use, t: u8) -> State
+        requires { ⌜ t < 16 ⌝ }
+        requires { ⌜ Current self ⌝ }
+        requires { ⌜ self .copies < 65535 ⌝ }
+        ensures { λ r. ⌜ r ≡ moved u t self ⌝ }
+    {
+        let takes = self.takes_up(u, t);
+        if !takes {
+            return self;
+        }
+        let copied = self.copies_stamp(u, t);
+        let stamp = self.target_stamp(u, t);
+        let at = t as usize;
+        let mut s = self;
+        s.current = t;
+        s.live = s.live | sets::single(t);
+        s.stamps[at] = stamp;
+        s.copies = counted(s.copies, copied);
+        s
+    }
+
+    // The current copy as a set.
+    fn current_set(self) -> u16
+        requires { ⌜ Current self ⌝ }
+        ensures { λ r. ⌜ r ≡ currentSet self ⌝ }
+    {
+        let current = self.has_current();
+        if current {
+            return sets::single(self.current);
+        }
+        0
+    }
+
+    // The cleaning at a label with this kept set.
+    fn cleaned(self, callers: u16, keep: u16) -> State
+        requires { ⌜ Current self ⌝ }
+        ensures { λ s. ⌜ s ≡ cleaned callers keep self ⌝ }
+    {
+        let current = self.current_set();
+        let dead = sets::difference(self.live, keep | current);
+        if dead == 0 {
+            return self;
+        }
+        let old = self.stamps;
+        let stamps = clear(old, sets::difference(dead, callers));
+        let live = sets::difference(self.live, dead);
+        State {
+            current: self.current,
+            live,
+            stamps,
+            copies: self.copies,
+        }
+    }
+
+    // A define or modify gives the current version the step number as its stamp.
+    pub fn referenced(self, x: Access, step: u16) -> State
+        requires { ⌜ self .current < 16 ⌝ }
+        ensures { λ r. ⌜ r ≡ referenced x step self ⌝ }
+    {
+        let at = self.current as usize;
+        match x {
+            Access::Read => self,
+            Access::Define => given(self, at, step),
+            Access::Modify => given(self, at, step),
+        }
+    }
+}
+
+// A stamp given to one version.
+fn given(s: State, at: usize, step: u16) -> State
+    requires { ⌜ at < 16 ⌝ }
+    ensures { λ r. ⌜ r ≡ record { current = s .current; live = s .live; stamps = set (s .stamps) at step; copies = s .copies } ⌝ }
+{
+    let mut t = s;
+    t.stamps[at] = step;
+    t
+}
+
+// The lowest version of a set.
+fn lowest_in(set: u16) -> u8
+    requires { ⌜ 0 < set ⌝ }
+    ensures { λ r. ⌜ r < 16 ⌝ }
+    ensures { λ r. ⌜ has set r ≡ true ⌝ }
+{
+    u16::trailing_zeros(set) as u8
+}
+
+// The stamps of the versions in `dead` become 0, the lowest first; no other is touched.
+fn clear(stamps: [u16; 16], dead: u16) -> [u16; 16]
+    ensures { λ r. ⌜ r ≡ cleared dead stamps 16 ⌝ }
+{
+    let mut left = stamps;
+    let mut rest = dead;
+    while rest != 0 {
+        let lowest = lowest_in(rest);
+        let at = lowest as usize;
+        left[at] = 0;
+        rest = sets::difference(rest, sets::single(lowest));
+    }
+    left
+}
+
+// A label: the move, then the cleaning. The letter is a byte of the table.
+pub fn labelled_by(s: State, letter: u8, t: u8, keep: u16, callers: u16) -> State
+    requires { ⌜ t < 16 ⌝ }
+    requires { ⌜ Current s ⌝ }
+    requires { ⌜ s .copies < 65535 ⌝ }
+    ensures { λ r. ⌜ r ≡ cleaned callers keep (moved (useOfByte letter) t s) ⌝ }
+{
+    s.moved(Use::of_letter(letter), t).cleaned(callers, keep)
+}
+
+// The same label on a state that is lent.
+pub fn step(s: &mut State, letter: u8, t: u8, keep: u16, callers: u16)
+    requires { ⌜ t < 16 ⌝ }
+    requires { ⌜ Current (now s) ⌝ }
+    requires { ⌜ now s .copies < 65535 ⌝ }
+    ensures { λ _. ⌜ now (s .exit) ≡ cleaned callers keep (moved (useOfByte letter) t (now (s .entry))) ⌝ }
+{
+    *s = labelled_by(*s, letter, t, keep, callers);
+}
+
+// The lent step, for a state by value.
+pub fn stepped(s: State, letter: u8, t: u8, keep: u16, callers: u16) -> State
+    requires { ⌜ t < 16 ⌝ }
+    requires { ⌜ Current s ⌝ }
+    requires { ⌜ s .copies < 65535 ⌝ }
+    ensures { λ r. ⌜ r ≡ cleaned callers keep (moved (useOfByte letter) t s) ⌝ }
+{
+    let mut next = s;
+    step(&mut next, letter, t, keep, callers);
+    next
+}
+
+// One array at one vertex, by its event, letter and kept set.
+pub fn visit(s: State, r: ArrayRecord, x: Action, letter: u8, keep: u16, step: u16) -> State
+    requires { ⌜ r .initial < 16 ⌝ }
+    requires { ⌜ Visits x s ⌝ }
+    ensures { λ n. ⌜ n ≡ visited r x (useOfByte letter) keep step s ⌝ }
+{
+    match x {
+        Action::Nothing => s,
+        Action::Reference(access) => s.referenced(access, step),
+        Action::Remap(t) => stepped(s, letter, t, keep, callers_of(r)),
+        Action::Unknown => s,
+    }
+}
+
+// At the exit local arrays lose all copies.
+pub fn leave(s: State, r: ArrayRecord, at_exit: bool) -> State
+    ensures { λ n. ⌜ n ≡ left r «at_exit» s ⌝ }
+{
+    if !at_exit {
+        return s;
+    }
+    if r.kind != 0 {
+        return s;
+    }
+    empty(s.copies)
+}
