@@ -14,14 +14,13 @@ use Rattle.labels.specs.Reaching.{reachingOf}
 use Rattle.labels.specs.Uses.{isN, useOf}
 use Rattle.labels.specs.declared.Use.{Use}
 use Rattle.labels.specs.declared.Use.the-variants.{N, D, R, W}
-use Rattle.plan.specs.Calls.{planOf}
+use Rattle.plan.specs.Calls.{planOf, planOutcome}
 use Rattle.plan.specs.Plan.{planBytes}
 use Rattle.routine.specs.Layout.{arrays, vertices}
 use Rattle.routine.specs.Refusals.{refused}
-use Rattle.routine.specs.Replies.{replyOutcome}
 use Rattle.routine.specs.declared.refusal.Outcome.{Outcome}
 use Rattle.routine.specs.declared.refusal.Reply.the-variants.{Written}
-use Rattle.run.specs.Calls.{runOf}
+use Rattle.run.specs.Calls.{runOf, runOutcome}
 use Rattle.run.specs.Machine.{machineAfter}
 use Rattle.run.specs.Paths.{steps}
 use Rattle.run.specs.Report.{reportBytes}
@@ -95,8 +94,8 @@ Holds (plans c) =
     × (linesOf (c .file) ≡ c .lines)
     × (planBytes (c .file) ≡ c .plan)
 Holds (refuses c) =
-    ((size : ℕ) → replyOutcome (planOf (c .file) size) ≡ c .outcome)
-    × ((path : List ℕ) (size : ℕ) → replyOutcome (runOf (c .file) path size) ≡ c .outcome)
+    ((size : ℕ) → planOutcome (c .file) size ≡ c .outcome)
+    × ((path : List ℕ) (size : ℕ) → runOutcome (c .file) path size ≡ c .outcome)
 Holds (runs c) =
     (runOf (c .file) (c .path) (length (c .report)) ≡ Written (length (c .report)))
     × (stateAfter (c .file) (c .path) 0 (steps (c .path)) .copies ≡ c .copies)

@@ -42,6 +42,7 @@ unfoldable pub arrivePasses : List ℕ → ℕ → ℕ → ℕ
 unfolding event
 arrivePasses file a v = cond (isLabel file a v) 0 everyVersion
 
+-- the versions that arrive at each vertex
 unfoldable pub arrivingSets : List ℕ → ℕ → List ℕ
 unfolding solution arriveGives arrivePasses
 arrivingSets file a =

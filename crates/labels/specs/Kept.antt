@@ -16,6 +16,7 @@ use Rattle.labels.specs.Events.{everyVersion, edgeBytes, event, isLabel,
 use Rattle.labels.specs.Uses.{useOf, isKept, Leaves}
 use Rattle.words.specs.Tables.{table}
 
+-- the letters whose kept set goes on to the next label
 abbrev pub isNOrR : Use → Bool
 isNOrR N = true
 isNOrR D = false
@@ -52,6 +53,7 @@ keptSets file a =
     solution (edgeBytes file) true (table (leavingSet file a) (vertices file))
     (table (λ v. cond (passesKept file a v) everyVersion 0) (vertices file)) (vertices file)
 
+-- the kept set at v, computed
 unfoldable pub keptOf : List ℕ → ℕ → ℕ → ℕ
 unfolding leavingSet keptSets useOf
 keptOf file a v = bitOr (leavingSet file a v) (cond (isNOrR (useOf file a v)) (getD (keptSets file a) v 0) 0)

@@ -10,12 +10,14 @@ use Rattle.labels.specs.declared.Use.the-variants.{N, D, R, W}
 use Rattle.routine.specs.Layout.{vertices}
 use Rattle.words.specs.Tables.{table}
 
+-- a letter in ASCII
 abbrev pub letterByte : Use → ℕ
 letterByte N = 78
 letterByte D = 68
 letterByte R = 82
 letterByte W = 87
 
+-- and back
 abbrev pub useOfByte : ℕ → Use
 useOfByte b = cond (eqb b 78) N (cond (eqb b 68) D (cond (eqb b 82) R W))
 

@@ -54,7 +54,7 @@ unfoldable pub isReached : List ℕ → ℕ → Bool
 unfolding reachedSets has
 isReached file v = eqb v entry || has (getD (reachedSets file) v 0) 0
 
--- a kept label gives its version; so does the entry of in and inout, kept or not
+-- a kept label that a path from the entry reaches gives its version; so does the entry of in and inout, kept or not
 unfoldable pub reachGives : List ℕ → ℕ → ℕ → ℕ
 unfolding isReached isKept version
 reachGives file a v =

@@ -55,7 +55,7 @@ Defined file a v = (Unused file a v → ⊥) × (MeetsUndefined file a needsValu
 abbrev pub OnlyRead : List ℕ → ℕ → ℕ → Type 0
 OnlyRead file a v = Meets file a isRead v × (Meets file a isWrite v → ⊥)
 
--- W: all else
+-- the rule of each letter; W: all else
 abbrev pub Rule : List ℕ → ℕ → ℕ → Use → Type 0
 Rule file a v N = Unused file a v
 Rule file a v D = Defined file a v

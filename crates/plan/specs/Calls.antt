@@ -9,9 +9,10 @@ use Rattle.labels.specs.Checks.{programmerCheck}
 use Rattle.plan.specs.Plan.{planBytes, planLength}
 use Rattle.routine.specs.Checks.{_andThen_, holds}
 use Rattle.routine.specs.Reader.{readOf}
-use Rattle.routine.specs.Replies.{written, filledBy}
+use Rattle.routine.specs.Replies.{written, filledBy, replyOutcome}
 use Rattle.routine.specs.declared.reader.Answer.{Answer}
 use Rattle.routine.specs.declared.reader.Answer.the-variants.{Routine, Refused}
+use Rattle.routine.specs.declared.refusal.Outcome.{Outcome}
 use Rattle.routine.specs.declared.refusal.Refusal.the-variants.{ShortPlanBuffer}
 use Rattle.routine.specs.declared.refusal.Reply.{Reply}
 use Rattle.routine.specs.declared.refusal.Reply.the-variants.{Denied}
@@ -27,6 +28,7 @@ unfolding planCheck planLength
 planReply (Refused r) file size = Denied r
 planReply (Routine h) file size = written (planCheck file size) (planLength file)
 
+-- the reply to any file, with a buffer of `size` bytes
 unfoldable pub planOf : List ℕ → ℕ → Reply
 unfolding readOf planCheck planLength
 planOf file size = planReply (readOf file) file size
@@ -40,7 +42,12 @@ pub record PlannedRead (file before : List ℕ) (reply : Reply) (after : List �
   pub answer : reply ≡ written (planCheck file (length before)) (planLength file)
   pub buffer : after ≡ planInto reply file before
 
+-- its number and places
+abbrev pub planOutcome : List ℕ → ℕ → Outcome
+planOutcome file size = replyOutcome (planOf file size)
+
 -- of any list of bytes
 pub record Planned (file before : List ℕ) (reply : Reply) (after : List ℕ) : Type 0 where
   pub answer : reply ≡ planOf file (length before)
+  pub outcome : replyOutcome reply ≡ planOutcome file (length before)
   pub buffer : after ≡ planInto reply file before

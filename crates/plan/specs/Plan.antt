@@ -24,6 +24,7 @@ unfolding event
 labelsAmong file v zero = 0
 labelsAmong file v (suc a) = labelsAmong file v a + cond (isLabel file a v) 1 0
 
+-- the labels of vertex v
 unfoldable pub labelsAt : List ℕ → ℕ → ℕ
 unfolding labelsAmong
 labelsAt file v = labelsAmong file v (arrays file)
@@ -57,6 +58,7 @@ leavingByte file a v = cond (isN (useOf file a v)) 255 (version file a v)
 abbrev pub eightBytes : ℕ → ℕ → ℕ → ℕ → ℕ → List ℕ
 eightBytes array letter leaving reaching kept = array ∷ letter ∷ leaving ∷ 0 ∷ (bytes16 reaching ++ bytes16 kept)
 
+-- the label of array a at vertex v
 unfoldable pub labelBytes : List ℕ → ℕ → ℕ → List ℕ
 unfolding useOf leavingByte reachingOf keptOf
 labelBytes file v a =

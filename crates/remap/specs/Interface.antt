@@ -4,16 +4,17 @@ use mathlib.Core.Path.{_≡_}
 use mathlib.Core.List.{List}
 use Prim.Native.Nat.{ℕ}
 use lib.ListN.{length}
-use Rattle.plan.specs.Calls.{planOf, planInto}
-use Rattle.routine.specs.Replies.{replyOutcome}
+use Rattle.plan.specs.Calls.{planOf, planOutcome, planInto}
 use Rattle.routine.specs.declared.refusal.Outcome.{Outcome}
-use Rattle.run.specs.Calls.{runOf, runInto, DemandMet}
+use Rattle.run.specs.Calls.{runOf, runOutcome, runInto, DemandMet}
 
+-- what hpf_plan answers and leaves
 pub record PlannedC (file before : List ℕ) (outcome : Outcome) (after : List ℕ) : Type 0 where
-  pub answer : outcome ≡ replyOutcome (planOf file (length before))
+  pub answer : outcome ≡ planOutcome file (length before)
   pub buffer : after ≡ planInto (planOf file (length before)) file before
 
+-- what hpf_run answers and leaves
 pub record RanC (file path before : List ℕ) (outcome : Outcome) (after : List ℕ) : Type 0 where
-  pub answer : outcome ≡ replyOutcome (runOf file path (length before))
+  pub answer : outcome ≡ runOutcome file path (length before)
   pub buffer : after ≡ runInto (runOf file path (length before)) file path before
   pub demand : DemandMet (runOf file path (length before)) file path

@@ -83,9 +83,6 @@ module _ {file : List ℕ} (w : WellFormed file) where
     pub remap-below : {k : ℕ} → action file v a ≡ Remap k → k < arrayOf file a .versions
     remap-below {k} e = ltb-true k (arrayOf file a .versions) (rw e at (sound-here .below))
 
-    pub remap-small : {k : ℕ} → action file v a ≡ Remap k → k < 16
-    remap-small e = omega (arith, remap-below e, array-limits in-a)
-
   pub entry-nothing : {a : ℕ} → a < arrays file → action file 0 a ≡ Nothing
   entry-nothing in-a = sound-here {v = 0} (omega (arith, w .laid .limits)) in-a .zero-there refl
 

@@ -32,18 +32,21 @@ unfoldable pub action : List ℕ → ℕ → ℕ → Action
 unfolding actionOf
 action file v a = actionOf (actionByte file v a)
 
+-- one of document 01's five
 abbrev pub isKnown : Action → Bool
 isKnown Nothing = true
 isKnown (Reference r) = true
 isKnown (Remap k) = true
 isKnown Unknown = false
 
+-- the middle three are references
 abbrev pub isReference : Action → Bool
 isReference Nothing = false
 isReference (Reference r) = true
 isReference (Remap k) = false
 isReference Unknown = false
 
+-- a remapping
 abbrev pub isRemap : Action → Bool
 isRemap Nothing = false
 isRemap (Reference r) = false
@@ -65,14 +68,16 @@ isEntryOrExit file v = eqb v 0 || eqb v (vertices file - 1)
 abbrev pub mixes : Action → Action → Bool
 mixes x y = isReference x && isRemap y || isRemap x && isReference y
 
--- 15: action byte unknown, version too large, entry or exit row not zero, or kind mixed with an earlier one in its row
+-- refused at its byte
 abbrev pub wrong : List ℕ → ℕ → ℕ → Bool → Verdict
 wrong file v a bad = holds (not bad) (WrongActionByte (actionAt file v a))
 
+-- mixed with an earlier action of its row
 unfoldable pub mixedCheck : List ℕ → ℕ → ℕ → ℕ → Verdict
 unfolding action
 mixedCheck file v a earlier = wrong file v a (mixes (action file v earlier) (action file v a))
 
+-- action unknown, version too large, row of entry or exit not zero, or references and remappings in one row
 unfoldable pub actionCheck : List ℕ → ℕ → ℕ → Verdict
 unfolding action arrayOf firstFailed mixedCheck
 actionCheck file v a =
@@ -85,6 +90,7 @@ unfoldable pub rowCheck : List ℕ → ℕ → Verdict
 unfolding actionCheck firstFailed
 rowCheck file v = firstFailed (actionCheck file v) 0 (arrays file)
 
+-- 15: action byte, first by vertex, then by array
 unfoldable pub check15 : List ℕ → Verdict
 unfolding rowCheck firstFailed
 check15 file = firstFailed (rowCheck file) 0 (vertices file)

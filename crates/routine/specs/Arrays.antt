@@ -14,6 +14,7 @@ use Rattle.routine.specs.Layout.{arrays, recordAt, within}
 abbrev pub recordOf : List ℕ → ArrayRecord
 recordOf b = record { kind = getD b 0 0; versions = getD b 1 0; initial = getD b 2 0; zero = getD b 3 0 }
 
+-- array a, from four bytes
 unfoldable pub arrayOf : List ℕ → ℕ → ArrayRecord
 arrayOf file a = recordOf (take 4 (drop (recordAt a) file))
 
@@ -25,6 +26,7 @@ recordCheck r at =
     andThen holds (ltb (r .initial) (r .versions)) (WrongArrayByte (at + 2))
     andThen holds (eqb (r .zero) 0) (WrongArrayByte (at + 3))
 
+-- its lowest wrong byte
 unfoldable pub arrayCheck : List ℕ → ℕ → Verdict
 arrayCheck file a = recordCheck (arrayOf file a) (recordAt a)
 

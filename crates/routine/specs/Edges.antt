@@ -11,6 +11,7 @@ use Rattle.routine.specs.declared.refusal.Verdict.{Verdict}
 use Rattle.routine.specs.Checks.{_andThen_, holds, firstFailed}
 use Rattle.routine.specs.Layout.{vertices, edges, edgeAt}
 
+-- edge i: from, to
 abbrev pub edgeOf : List ℕ → ℕ → Edge
 edgeOf file i = record { from = word file (edgeAt file i); to = word file (edgeAt file i + 2) }
 
@@ -22,10 +23,12 @@ endsWithin e n = ltb (e .from) n && (ltb (e .to) n && (not (eqb (e .to) 0) && no
 abbrev pub before : Edge → Edge → Bool
 before d e = ltb (d .from) (e .from) || eqb (d .from) (e .from) && ltb (d .to) (e .to)
 
+-- edge i stands behind the one before it
 unfoldable pub rises : List ℕ → ℕ → Bool
 rises file zero = true
 rises file (suc i) = before (edgeOf file i) (edgeOf file (suc i))
 
+-- an edge's ends, then its order
 unfoldable pub edgeCheck : List ℕ → ℕ → Verdict
 unfolding rises
 edgeCheck file i =

@@ -59,16 +59,18 @@ check10 file = holds (leb 18 (length file)) (TooShort (length file)) andThen hol
 unfoldable pub check11 : List ℕ → Verdict
 check11 file = holds (eqb (word file 4) 1) WrongEdition
 
--- 12: count outside its limits: arrays 1 to 8, vertices 2 to 256, edges 0 to 1,024
+-- within its limits
 abbrev pub within : ℕ → ℕ → ℕ → Bool
 within low high n = leb low n && leb n high
 
+-- arrays 1 to 8, vertices 2 to 256, edges 0 to 1,024
 abbrev pub countsCheck : Header → Verdict
 countsCheck h =
     holds (within 1 8 (h .arrays)) (CountOutsideLimits 8)
     andThen holds (within 2 256 (h .vertices)) (CountOutsideLimits 12)
     andThen holds (within 0 1024 (h .edges)) (CountOutsideLimits 16)
 
+-- 12: count outside its limits
 unfoldable pub check12 : List ℕ → Verdict
 check12 file = countsCheck (headerOf file)
 

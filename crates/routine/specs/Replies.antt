@@ -1,8 +1,8 @@
 -- Document 01, "Plan and report": success is 0 and the length written; bytes beyond it keep their contents; a refusal writes no byte.
 -- Assumes nothing.
-use mathlib.Core.List.{List, _++_}
+use mathlib.Core.List.{List}
 use Prim.Native.Nat.{ℕ}
-use lib.ListN.{drop}
+use Rattle.words.specs.Tables.{wrote}
 use Rattle.routine.specs.declared.reader.Answer.{Answer}
 use Rattle.routine.specs.declared.reader.Answer.the-variants.{Routine, Refused}
 use Rattle.routine.specs.declared.refusal.Outcome.{Outcome}
@@ -19,7 +19,7 @@ written (Failed r) n = Denied r
 
 -- what a call that is to write `bytes` leaves in a buffer
 abbrev pub filledBy : Reply → List ℕ → List ℕ → List ℕ
-filledBy (Written n) bytes before = bytes ++ drop n before
+filledBy (Written n) bytes before = wrote before bytes
 filledBy (Denied r) bytes before = before
 
 -- number, first place, second place
@@ -27,7 +27,7 @@ abbrev pub replyOutcome : Reply → Outcome
 replyOutcome (Written n) = record { number = 0; first = n; second = 0 }
 replyOutcome (Denied r) = outcomeOf r
 
--- a refusal of the reader's, handed on
+-- a refusal of the reader's, handed on; a routine read is none, and answers 0 only so that each answer has a value
 abbrev pub deniedOf : Answer → Reply
 deniedOf (Routine h) = Written 0
 deniedOf (Refused r) = Denied r

@@ -1,5 +1,6 @@
 // The file's head: mark, edition, table of contents; checks 10 to 13 (document 01, "Routine file").
 use crate::array::ArrayRecord;
+use crate::edge::Edge;
 use crate::refusal::Refusal;
 use crate::refusal::Verdict;
 ghost use mathlib.Core.Path.{_≡_};
@@ -8,7 +9,7 @@ ghost use lib.ListN.{length};
 ghost use Rattle.routine.specs.Layout.{headerOf, marked, within, check10, check11, check12, check13};
 ghost use Rattle.routine.specs.Checks.{holds};
 ghost use Rattle.routine.specs.declared.refusal.Refusal.the-variants.{CountOutsideLimits};
-ghost use Rattle.routine.specs.Reader.{formCheck, Limits, Heads};
+ghost use Rattle.routine.specs.Reader.{formCheck, Limits};
 
 // How many arrays, vertices and edges the routine has.
 pub struct Header {
@@ -151,7 +152,7 @@ fn check_layout(file: &[u8]) -> Verdict
     if edges_offset != edges_at {
         return Verdict::Failed(Refusal::WrongOffset { byte: 14 });
     }
-    if file.len() != edges_at + 4 * h.edges {
+    if file.len() != edges_at + Edge::SIZE * h.edges {
         return Verdict::Failed(Refusal::WrongLength);
     }
     Verdict::Passed

@@ -8,9 +8,10 @@ use lib.ListN.{length}
 use Rattle.labels.specs.Checks.{programmerCheck}
 use Rattle.routine.specs.Checks.{_andThen_, holds}
 use Rattle.routine.specs.Reader.{readOf}
-use Rattle.routine.specs.Replies.{written, filledBy}
+use Rattle.routine.specs.Replies.{written, filledBy, replyOutcome}
 use Rattle.routine.specs.declared.reader.Answer.{Answer}
 use Rattle.routine.specs.declared.reader.Answer.the-variants.{Routine, Refused}
+use Rattle.routine.specs.declared.refusal.Outcome.{Outcome}
 use Rattle.routine.specs.declared.refusal.Refusal.the-variants.{ShortReportBuffer}
 use Rattle.routine.specs.declared.refusal.Reply.{Reply}
 use Rattle.routine.specs.declared.refusal.Reply.the-variants.{Written, Denied}
@@ -32,6 +33,7 @@ unfolding runCheck reportLength
 runReply (Refused r) file path size = Denied r
 runReply (Routine h) file path size = written (runCheck file path size) (reportLength file path)
 
+-- the reply to any file and path, with a buffer of `size` bytes
 unfoldable pub runOf : List ℕ → List ℕ → ℕ → Reply
 unfolding readOf runCheck reportLength
 runOf file path size = runReply (readOf file) file path size
@@ -51,8 +53,13 @@ pub record RanRead (file path before : List ℕ) (reply : Reply) (after : List �
   pub buffer : after ≡ runInto reply file path before
   pub demand : DemandMet reply file path
 
+-- its number and places
+abbrev pub runOutcome : List ℕ → List ℕ → ℕ → Outcome
+runOutcome file path size = replyOutcome (runOf file path size)
+
 -- of any lists of bytes
 pub record Ran (file path before : List ℕ) (reply : Reply) (after : List ℕ) : Type 0 where
   pub answer : reply ≡ runOf file path (length before)
+  pub outcome : replyOutcome reply ≡ runOutcome file path (length before)
   pub buffer : after ≡ runInto reply file path before
   pub demand : DemandMet reply file path

@@ -27,6 +27,7 @@ unfoldable pub edgeAmong : List ℕ → ℕ → ℕ → ℕ → Bool
 edgeAmong file v w zero = false
 edgeAmong file v w (suc n) = edgeAmong file v w n || (eqb (edgeOf file n .from) v && eqb (edgeOf file n .to) w)
 
+-- an edge leads from v to w
 unfoldable pub isEdge : List ℕ → ℕ → ℕ → Bool
 unfolding edgeAmong
 isEdge file v w = edgeAmong file v w (edges file)
@@ -48,6 +49,7 @@ unfoldable pub check32 : List ℕ → List ℕ → Verdict
 unfolding firstFailed arrivalCheck
 check32 file path = firstFailed (arrivalCheck file path) 1 (steps path - 1)
 
+-- 30 to 32
 unfoldable pub pathCheck : List ℕ → List ℕ → Verdict
 unfolding check32
 pathCheck file path = check30 path andThen check31 path andThen check32 file path

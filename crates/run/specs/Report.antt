@@ -37,6 +37,7 @@ abbrev pub recordsBytes : List Record → List ℕ
 recordsBytes [] = []
 recordsBytes (r ∷ rs) = recordBytes r ++ recordsBytes rs
 
+-- the entries of the arrays, then the records
 unfoldable pub reportBytes : List ℕ → List ℕ → List ℕ
 unfolding entries runRecords
 reportBytes file path = entries file path ++ recordsBytes (runRecords file path)

@@ -3,7 +3,6 @@
 // The laws of masks are stated once for any width, in `proofs/Laws.antt`; the functions here are those laws at 16 bits.
 ghost use mathlib.Core.Path.{_≡_};
 ghost use Prim.Native.Nat.{_<_, _^_};
-ghost use lib.Bits.{bitOr};
 ghost use Rattle.sets.specs.Sets.{has, minus, several};
 
 // Whether version k is in the set.
@@ -20,13 +19,6 @@ pub fn single(k: u8) -> u16
     ensures { λ r. ⌜ r ≡ 2 ^ k ⌝ }
 {
     1 << k
-}
-
-// What is in one of the two sets.
-pub fn union(a: u16, b: u16) -> u16
-    ensures { λ r. ⌜ r ≡ bitOr a b ⌝ }
-{
-    a | b
 }
 
 // What is in the first set and not in the second.

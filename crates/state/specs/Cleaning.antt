@@ -23,12 +23,13 @@ dying keep s = minus (s .live) (bitOr keep (currentSet s))
 abbrev pub callers : ArrayRecord → ℕ
 callers r = cond (isArgument (r .kind)) (2 ^ r .initial) 0
 
--- the stamps of the dying versions below n become 0; the caller's version keeps its stamp
+-- the stamps of the dying versions below n become 0
 unfoldable pub cleared : ℕ → List ℕ → ℕ → List ℕ
 unfolding has
 cleared dead stamps zero = stamps
 cleared dead stamps (suc n) = cond (has dead n) (set (cleared dead stamps n) n 0) (cleared dead stamps n)
 
+-- dying versions are live no more; the caller's version keeps its stamp
 unfoldable pub cleaned : ℕ → ℕ → State → State
 unfolding cleared minus
 cleaned own keep s =

@@ -16,6 +16,7 @@ use Rattle.state.specs.States.{hasCurrent, stampOf}
 abbrev pub moves : Use → ℕ → State → Bool
 moves u t s = not (isN u) && not (eqb (s .current) t)
 
+-- D: the value is not copied
 abbrev pub isD : Use → Bool
 isD N = false
 isD D = true

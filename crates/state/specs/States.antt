@@ -12,6 +12,7 @@ use Rattle.state.specs.declared.State.{State}
 abbrev pub nothing : ℕ
 nothing = 255
 
+-- a copy is current
 abbrev pub hasCurrent : State → Bool
 hasCurrent s = not (eqb (s .current) nothing)
 

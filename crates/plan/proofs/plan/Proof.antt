@@ -1,9 +1,10 @@
 -- `plan` meets its contract: the reader's refusal is handed on, and a routine that was read is planned.
 -- Assumes nothing.
-use mathlib.Core.Path.{sym, _∙_}
+use mathlib.Core.Path.{sym, ap, _∙_}
 use lib.ListN.{length}
 use Rattle.plan.specs.Plan.{planBytes}
 use Rattle.plan.proofs.Ways.{refused-way, read-way}
+use Rattle.routine.specs.Replies.{replyOutcome}
 use Rattle.routine.proofs.Accepted.{accepted, unwritten}
 use borrow.Author.Needs.{needs}
 use Rattle.plan.proofs.plan.Statement.{statement}
@@ -26,8 +27,10 @@ returns c =
     let s = c .before .before .before .before .before .before in
     let a = c .before .before .before .read in
     let e = c .before .enum-told .given .1 in
+    let same = c .denied .ensures ∙ refused-way (s .args .file .now) (length (s .args .out .now)) (a .ensures) e in
     record {
-      answer = c .denied .ensures ∙ refused-way (s .args .file .now) (length (s .args .out .now)) (a .ensures) e;
+      answer = same;
+      outcome = ap replyOutcome same;
       buffer = unwritten (planBytes (s .args .file .now)) (s .args .out .now) (c .denied .ensures) e;
     }
 
@@ -44,8 +47,10 @@ returns-2 : tie.Need-returns-2
 returns-2 c =
     let s = c .before .before .before .before .before .before .before .before .before .before in
     let p = c .before .before .plan-read .ensures in
+    let same = p .answer ∙ read-way (s .args .file .now) (length (s .args .out .now)) (c .before .before .before .before .before .before .before .read .ensures) (c .before .before .before .before .before .answer .given .1) in
     record {
-      answer = p .answer ∙ read-way (s .args .file .now) (length (s .args .out .now)) (c .before .before .before .before .before .before .before .read .ensures) (c .before .before .before .before .before .answer .given .1);
+      answer = same;
+      outcome = ap replyOutcome same;
       buffer = p .buffer;
     }
 

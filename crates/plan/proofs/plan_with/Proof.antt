@@ -116,7 +116,7 @@ returns-3 c =
       answer =
           ap Written needed
           ∙ written-way file (length (s .args .out .now)) (c .before .before .before .before .before .before .before .before .before .before .before .before .before .before .before .before .before .before .before .before .before .before .before .before .before .before .before .before .before .before .before .before .before .before .before .before .before .before .before .check .ensures .answers) (c .before .before .before .before .before .before .before .before .before .before .before .before .before .before .before .before .before .before .before .before .before .before .before .before .before .before .before .before .before .enum-told .given .1) (omega (arith, needed, c .before .before .before .before .before .before .before .before .before .before .before .before .before .before .before .before .before .before .before .before .before .before .before .before .before .before .before .if1 .left));
-      buffer = c .before .before .write .ensures ∙ ap (λ (n : ℕ). planBytes file ++ drop n (s .args .out .now)) (plan-length file ∙ sym needed);
+      buffer = c .before .before .write .ensures;
     }
 
 pub plan-with-spec : {M : Type 1} → statement M

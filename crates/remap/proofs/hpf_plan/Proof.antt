@@ -2,7 +2,6 @@
 -- Assumes nothing.
 use mathlib.Core.Path.{ap, _∙_}
 use Rattle.plan.specs.Calls.{planInto}
-use Rattle.routine.specs.Replies.{replyOutcome}
 use Rattle.routine.specs.declared.refusal.Reply.{Reply}
 use borrow.Author.Needs.{needs}
 use Rattle.remap.proofs.hpf_plan.Statement.{statement}
@@ -22,7 +21,7 @@ returns c =
     let a = c .before .before .before .before .before .before .before .args in
     let p = c .before .before .before .plan .ensures in
     record {
-      answer = c .reply-outcome .ensures ∙ ap replyOutcome (p .answer);
+      answer = c .reply-outcome .ensures ∙ p .outcome;
       buffer = p .buffer ∙ ap (λ (r : Reply). planInto r (a .file .now) (a .out .now)) (p .answer);
     }
 

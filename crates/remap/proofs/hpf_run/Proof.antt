@@ -1,7 +1,6 @@
 -- `hpf_run` meets its contract: the answer of `run`, in numbers, and demand 3.
 -- Assumes nothing.
 use mathlib.Core.Path.{ap, subst, _∙_}
-use Rattle.routine.specs.Replies.{replyOutcome}
 use Rattle.routine.specs.declared.refusal.Reply.{Reply}
 use Rattle.run.specs.Calls.{runInto, DemandMet}
 use borrow.Author.Needs.{needs}
@@ -22,7 +21,7 @@ returns c =
     let a = c .before .before .before .before .before .before .before .before .args in
     let r = c .before .before .before .run .ensures in
     record {
-      answer = c .reply-outcome .ensures ∙ ap replyOutcome (r .answer);
+      answer = c .reply-outcome .ensures ∙ r .outcome;
       buffer = r .buffer ∙ ap (λ (r : Reply). runInto r (a .file .now) (a .path .now) (a .out .now)) (r .answer);
       demand = subst (λ (r : Reply). DemandMet r (a .file .now) (a .path .now)) (r .answer) (r .demand);
     }

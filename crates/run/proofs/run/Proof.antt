@@ -1,7 +1,8 @@
 -- `run` meets its contract: the reader's refusal is handed on, and a path through a routine that was read is run.
 -- Assumes nothing.
-use mathlib.Core.Path.{sym, _∙_}
+use mathlib.Core.Path.{sym, ap, _∙_}
 use lib.ListN.{length}
+use Rattle.routine.specs.Replies.{replyOutcome}
 use Rattle.routine.proofs.Accepted.{accepted, unwritten}
 use Rattle.run.specs.Report.{reportBytes}
 use Rattle.run.proofs.Ways.{refused-way, read-way, no-demand}
@@ -25,8 +26,10 @@ returns : tie.Need-returns
 returns c =
     let a = c .before .before .before .before .before .before .before .args in
     let e = c .before .enum-told .given .1 in
+    let same = c .denied .ensures ∙ refused-way (a .file .now) (a .path .now) (length (a .out .now)) (c .before .before .before .read .ensures) e in
     record {
-      answer = c .denied .ensures ∙ refused-way (a .file .now) (a .path .now) (length (a .out .now)) (c .before .before .before .read .ensures) e;
+      answer = same;
+      outcome = ap replyOutcome same;
       buffer = unwritten (reportBytes (a .file .now) (a .path .now)) (a .out .now) (c .denied .ensures) e;
       demand = no-demand (a .file .now) (a .path .now) (c .denied .ensures) e;
     }
@@ -43,8 +46,10 @@ returns-2 : tie.Need-returns-2
 returns-2 c =
     let a = c .before .before .before .before .before .before .before .before .before .before .before .args in
     let r = c .before .before .run-read .ensures in
+    let same = r .answer ∙ read-way (a .file .now) (a .path .now) (length (a .out .now)) (c .before .before .before .before .before .before .before .read .ensures) (c .before .before .before .before .before .answer .given .1) in
     record {
-      answer = r .answer ∙ read-way (a .file .now) (a .path .now) (length (a .out .now)) (c .before .before .before .before .before .before .before .read .ensures) (c .before .before .before .before .before .answer .given .1);
+      answer = same;
+      outcome = ap replyOutcome same;
       buffer = r .buffer;
       demand = r .demand;
     }

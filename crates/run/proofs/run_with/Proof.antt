@@ -154,7 +154,7 @@ returns-4 c =
       answer =
           ap Written needed
           ∙ written-way file path (length (s .args .out .now)) (c .before .before .before .before .before .before .before .before .before .before .before .before .before .before .before .before .before .before .before .before .before .before .before .before .before .before .before .before .before .before .before .before .before .before .before .before .before .before .before .before .check .ensures .answers) (c .before .before .before .before .before .before .before .before .before .before .before .before .before .before .before .before .before .before .before .before .before .before .before .before .before .before .before .before .before .before .enum-told .given .1) follows told (omega (arith, needed, c .before .before .before .before .before .before .before .before .before .before .before .before .before .before .before .before .before .before .before .before .before .before .if1 .left));
-      buffer = c .before .before .write .ensures ∙ ap (λ (n : ℕ). reportBytes file path ++ drop n (s .args .out .now)) (report-length file path ∙ sym needed);
+      buffer = c .before .before .write .ensures;
       demand = demand3 file path (s .pre .0 .well) (sym follows ∙ told);
     }
 
