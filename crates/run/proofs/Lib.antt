@@ -1,5 +1,5 @@
 pub mod Bytes
-pub mod Order
+pub mod EdgeTable
 pub mod References
 pub mod Rules
 pub mod Walking

@@ -6,7 +6,7 @@ use mathlib.Core.List.{List, [], _++_, append-assoc, append-nil}
 use Prim.Native.Nat.{ℕ, suc, _+_, _-_, _*_, _≤_, _<_}
 use native.Mathlib.Numerals.{add-one}
 use native.Mathlib.Omega.{arith}
-use borrow.Author.Tests.{lt-ltb, le-ltb, ltb-true, ltb-false, eqb-true, eqb-false}
+use borrow.Author.Tests.{lt-ltb, le-ltb, eqb-true, eqb-false}
 use lib.Dec.{T, eqb, ltb}
 use lib.ListN.{length, set, take, drop, length-append, length-set}
 use lib.Seq.{getD-set-same, getD-set-other}
@@ -34,6 +34,7 @@ use Rattle.state.specs.Vertex.{visited, Visits}
 use Rattle.run.specs.Run.{stateAfter, runRecords}
 use Rattle.run.proofs.Bytes.{recordBytesAt, records-bytes}
 use Rattle.run.proofs.Rules.Demand.{state-fits, reference-below}
+use Rattle.state.proofs.Cases.{one-more}
 use Rattle.words.specs.Tables.{rows, wrote}
 use Rattle.words.proofs.Tables.{rows-fit, rows-more}
 use Rattle.words.proofs.Written.{partFrom, write-more}
@@ -61,14 +62,6 @@ filled-more want states a {new} sized in-a is earlier b h = go (eqb b a) refl
     go : (t : Bool) → eqb b a ≡ t → stateOf (set states a new) b ≡ want b
     go true e = rw (eqb-true b a e) (getD-set-same states a new _ (omega arith) ∙ is)
     go false e = getD-set-other states a b new _ (eqb-false b a e) ∙ earlier b (omega (arith, eqb-false b a e))
-
--- below a + 1, and not a
-one-more : (b a : ℕ) → (b ≡ a → ⊥) → ltb b a ≡ ltb b (a + 1)
-one-more b a ne = go (ltb b a) refl
-  where
-    go : (t : Bool) → ltb b a ≡ t → t ≡ ltb b (a + 1)
-    go true e = sym (lt-ltb b (a + 1) (omega (arith, ltb-true b a e)))
-    go false e = sym (le-ltb b (a + 1) (omega (arith, ltb-false b a e)))
 
 module _ {file path : List ℕ} {i a : ℕ} {states : List State} (s : Served file path i a states) where
   -- the array that is next

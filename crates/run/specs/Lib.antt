@@ -1,5 +1,6 @@
 pub mod Calls
 pub mod Demand
+pub mod EdgeTable
 pub mod Machine
 pub mod Paths
 pub mod Records

@@ -1,15 +1,13 @@
 -- Document 01, "Who can cause a refusal", the path's writer: a path is 16-bit vertices; an odd last byte is ignored.
 -- Assumes nothing.
-use mathlib.Core.Path.{_≡_}
-use mathlib.Core.Bool.{Bool, true, false, _&&_, _||_}
+use mathlib.Core.Bool.{Bool, false, _&&_, _||_}
 use mathlib.Core.List.{List}
-use Prim.Native.Nat.{ℕ, zero, suc, _-_, _*_, _/_, _≤_, _<_}
+use Prim.Native.Nat.{ℕ, zero, suc, _-_, _*_, _/_}
 use lib.Dec.{eqb}
 use lib.ListN.{length}
 use Rattle.labels.specs.Events.{entry}
 use Rattle.routine.specs.Checks.{_andThen_, holds, firstFailed}
-use Rattle.routine.specs.declared.edge.Edge.{Edge}
-use Rattle.routine.specs.Edges.{edgeOf, before}
+use Rattle.routine.specs.Edges.{edgeOf}
 use Rattle.routine.specs.Layout.{edges, within}
 use Rattle.routine.specs.declared.refusal.Refusal.the-variants.{PathLengthOutsideLimits, WrongStart, NoSuchEdge}
 use Rattle.routine.specs.declared.refusal.Verdict.{Verdict}
@@ -53,11 +51,3 @@ check32 file path = firstFailed (arrivalCheck file path) 1 (steps path - 1)
 unfoldable pub pathCheck : List ℕ → List ℕ → Verdict
 unfolding check32
 pathCheck file path = check30 path andThen check31 path andThen check32 file path
-
--- ---- the search for an edge
-
--- r is the place of the first edge that does not stand before e
-pub record FirstNotBefore (file : List ℕ) (e : Edge) (r : ℕ) : Type 0 where
-  pub within-edges : r ≤ edges file
-  pub all-before : (i : ℕ) → i < r → before (edgeOf file i) e ≡ true
-  pub none-after : (i : ℕ) → r ≤ i → i < edges file → before (edgeOf file i) e ≡ false

@@ -6,8 +6,12 @@ use routine::refusal::Refusal;
 use routine::refusal::Verdict;
 ghost use mathlib.Core.Path.{_≡_};
 ghost use Prim.Native.Nat.{_+_, _<_};
+ghost use lib.ListN.{length, replicate};
 ghost use Rattle.labels.specs.Routines.{ReadAs};
-ghost use Rattle.run.specs.Paths.{steps, vertexAt, isEdge, check30, check31, check32, arrivalCheck, pathCheck, FirstNotBefore};
+ghost use Rattle.routine.specs.Layout.{edges};
+ghost use Rattle.routine.specs.Reader.{WellFormed};
+ghost use Rattle.run.specs.EdgeTable.{marked, edgeTable, isMarked, arrivalBy};
+ghost use Rattle.run.specs.Paths.{steps, vertexAt, check30, check31, check32, pathCheck};
 
 // The longest path.
 pub const MAX: usize = 4096;
@@ -27,39 +31,46 @@ pub fn vertex(path: &[u8], i: usize) -> usize
     words::at(path, 2 * i)
 }
 
-// The place of the first edge that does not stand before e; edges rise, so halving finds it.
-fn first_not_before(file: &[u8], h: Header, e: Edge) -> usize
-    requires { ⌜ ReadAs (now file) h ⌝ }
-    ensures { λ r. ⌜ FirstNotBefore (now (file .entry)) e r ⌝ }
+// Words of the table of edges.
+const WORDS: usize = 4096;
+
+// Marks an edge in the table.
+fn mark(table: &mut [u16], e: Edge)
+    requires { ⌜ length (now table) ≡ 4096 ⌝ }
+    requires { ⌜ (e .from < 256) × (e .to < 256) ⌝ }
+    ensures { λ _. ⌜ now (table .exit) ≡ marked (now (table .entry)) e ⌝ }
 {
-    let mut low = 0;
-    let mut high = h.edges;
-    while low < high {
-        let middle = low + (high - low) / 2;
-        let before = edge::at(file, h, middle).is_before(e);
-        if before {
-            low = middle + 1;
-        } else {
-            high = middle;
-        }
-    }
-    low
+    let at = 16 * e.from + e.to / 16;
+    table[at] = table[at] | sets::single((e.to % 16) as u8);
 }
 
-// Whether an edge leads from v to w.
-pub fn is_edge(file: &[u8], h: Header, v: usize, w: usize) -> bool
+// Marks every edge in an empty table.
+fn mark_all(file: &[u8], h: Header, table: &mut [u16])
     requires { ⌜ ReadAs (now file) h ⌝ }
-    ensures { λ r. ⌜ r ≡ isEdge (now (file .entry)) v w ⌝ }
+    requires { ⌜ now table ≡ replicate 4096 0 ⌝ }
+    ensures { λ _. ⌜ now (table .exit) ≡ edgeTable (now (file .entry)) (edges (now (file .entry))) ⌝ }
 {
-    let place = first_not_before(file, h, Edge { from: v, to: w });
-    if place >= h.edges {
+    let n = h.edges;
+    let mut i = 0;
+    while i < n {
+        mark(table, edge::at(file, h, i));
+        i += 1;
+    }
+}
+
+// Whether the table has an edge from v to w.
+fn is_marked(table: &[u16], v: usize, w: usize) -> bool
+    requires { ⌜ length (now table) ≡ 4096 ⌝ }
+    ensures { λ r. ⌜ r ≡ isMarked (now (table .entry)) v w ⌝ }
+{
+    if v >= 256 {
         return false;
     }
-    let found = edge::at(file, h, place);
-    if found.from != v {
+    if w >= 256 {
         return false;
     }
-    found.to == w
+    let at = 16 * v + w / 16;
+    sets::member(table[at], (w % 16) as u8)
 }
 
 // Refusal 30.
@@ -88,16 +99,35 @@ fn check_start(path: &[u8]) -> Verdict
     Verdict::Passed
 }
 
-// Whether an edge leads on from the vertex at index i.
-fn check_arrival(file: &[u8], h: Header, path: &[u8], i: usize) -> Verdict
-    requires { ⌜ ReadAs (now file) h ⌝ }
+// Whether an edge of the table leads on from the vertex at index i.
+fn check_arrival(table: &[u16], path: &[u8], i: usize) -> Verdict
+    requires { ⌜ length (now table) ≡ 4096 ⌝ }
     requires { ⌜ i + 1 < steps (now path) ⌝ }
-    ensures { λ r. ⌜ r ≡ arrivalCheck (now (file .entry)) (now (path .entry)) (i + 1) ⌝ }
+    ensures { λ r. ⌜ r ≡ arrivalBy (now (table .entry)) (now (path .entry)) (i + 1) ⌝ }
 {
     let next = i + 1;
-    let joined = is_edge(file, h, vertex(path, i), vertex(path, next));
+    let joined = is_marked(table, vertex(path, i), vertex(path, next));
     if !joined {
         return Verdict::Failed(Refusal::NoSuchEdge { index: next });
+    }
+    Verdict::Passed
+}
+
+// Refusal 32, by the table of edges.
+fn check_arrivals_by(file: &[u8], table: &[u16], path: &[u8]) -> Verdict
+    requires { ⌜ WellFormed (now file) ⌝ }
+    requires { ⌜ now table ≡ edgeTable (now file) (edges (now file)) ⌝ }
+    requires { ⌜ 0 < steps (now path) ⌝ }
+    ensures { λ r. ⌜ r ≡ check32 (now (file .entry)) (now (path .entry)) ⌝ }
+{
+    let n = count(path) - 1;
+    let mut i = 0;
+    while i < n {
+        let verdict = check_arrival(table, path, i);
+        if let Verdict::Failed(_) = verdict {
+            return verdict;
+        }
+        i += 1;
     }
     Verdict::Passed
 }
@@ -108,16 +138,9 @@ fn check_arrivals(file: &[u8], h: Header, path: &[u8]) -> Verdict
     requires { ⌜ 0 < steps (now path) ⌝ }
     ensures { λ r. ⌜ r ≡ check32 (now (file .entry)) (now (path .entry)) ⌝ }
 {
-    let n = count(path) - 1;
-    let mut i = 0;
-    while i < n {
-        let verdict = check_arrival(file, h, path, i);
-        if let Verdict::Failed(_) = verdict {
-            return verdict;
-        }
-        i += 1;
-    }
-    Verdict::Passed
+    let mut table = [0u16; WORDS];
+    mark_all(file, h, &mut table);
+    check_arrivals_by(file, &table, path)
 }
 
 // Refusals 30 to 32.

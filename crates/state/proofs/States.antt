@@ -8,11 +8,11 @@ use Prim.Native.Nat.{ℕ, zero, suc, _+_, _/_, _%_, _^_, _≤_, _<_}
 use native.Mathlib.Nat.{eq-or-lt-of-le, pow-suc}
 use native.Mathlib.Omega.{arith}
 use lib.Bits.{bitOr, and-zero-r}
-use borrow.Author.Tests.{eqb-true, eqb-false, eq-eqb, ne-eqb}
+use borrow.Author.Tests.{lt-ltb, le-ltb, eqb-true, eqb-false, eq-eqb, ne-eqb}
 use lib.Count.{trailingZeros, under, trailing-le}
-use lib.Dec.{eqb}
-use lib.ListN.{set}
-use lib.Seq.{set-comm}
+use lib.Dec.{eqb, ltb}
+use lib.ListN.{getD, set}
+use lib.Seq.{set-comm, set-getD}
 use Rattle.labels.specs.declared.Use.{Use}
 use Rattle.routine.proofs.Laws.{and-parts}
 use Rattle.sets.proofs.Laws.{bit-zero, bit-has, has-suc, has-minus, has-single, has-zero, has-out}
@@ -21,7 +21,7 @@ use Rattle.state.specs.declared.State.{State}
 use Rattle.state.specs.States.{Current, nothing, hasCurrent, stampOf}
 use Rattle.state.specs.Cleaning.{currentSet, dying, cleared, cleaned}
 use Rattle.state.specs.Moves.{moves, isD, copies, targetStamp, moved}
-use Rattle.state.proofs.Cases.{at-cond, by-test}
+use Rattle.state.proofs.Cases.{at-cond, by-test, one-more}
 
 -- a current copy is a version
 pub current-below : (s : State) → Current s → hasCurrent s ≡ true → s .current < 16
@@ -39,15 +39,29 @@ module _ (u : Use) (t : ℕ) (s : State) where
   unfolding copies
   target-is copied live e f = simp (e, f)
 
-  pub moved-is : (takes copied : Bool) (one stamp count : ℕ) → takes ≡ moves u t s → copied ≡ copies u t s → one ≡ 2 ^ t → stamp ≡ targetStamp u t s
-      → count ≡ s .copies + cond copied 1 0
-      → cond takes (record { current = t; live = bitOr (s .live) one; stamps = set (s .stamps) t stamp; copies = count }) s ≡ moved u t s
+  pub moved-is : (takes copied : Bool) (one count : ℕ) (stamps : List ℕ) → takes ≡ moves u t s → copied ≡ copies u t s → one ≡ 2 ^ t
+      → stamps ≡ set (s .stamps) t (targetStamp u t s) → count ≡ s .copies + cond copied 1 0
+      → cond takes (record { current = t; live = bitOr (s .live) one; stamps = stamps; copies = count }) s ≡ moved u t s
   unfolding moved
-  moved-is takes copied one stamp count e f g h k = simp (e, k, f, g, h)
+  moved-is takes copied one count stamps e f g h k = simp (e, k, f, g, h)
 
   pub moved-current : Current s → t < 16 → Current (moved u t s)
   unfolding moved
   moved-current current below = at-cond Current (moves u t s) (λ _. inl below) (λ _. current)
+
+-- one stamp more of those with x at one version
+pub with-more : (stamps new : List ℕ) (at k x : ℕ) → new ≡ cond (ltb at k) (set stamps at x) stamps
+    → set new k (cond (eqb k at) x (getD new k 0)) ≡ cond (ltb at (k + 1)) (set stamps at x) stamps
+with-more stamps new at k x is =
+    by-test (eqb k at)
+    (λ e.
+    let same = eqb-true k at e in
+    let early : ltb at k ≡ false = le-ltb at k (omega arith) in
+    let late : ltb at (k + 1) ≡ true = lt-ltb at (k + 1) (omega arith) in
+    rw (e, late) (ap₂ (λ (l : List ℕ) (j : ℕ). set l j x) (is ∙ ap (λ (b : Bool). cond b (set stamps at x) stamps) early) same))
+    (λ e.
+    rw e (set-getD new k 0) ∙ is
+    ∙ ap (λ (b : Bool). cond b (set stamps at x) stamps) (one-more at k (λ f. eqb-false k at e (sym f))))
 
 -- the lowest member of a set that is not empty
 pub lowest-has : (w m : ℕ) → 0 < m → m < 2 ^ w → has m (trailingZeros w m) ≡ true

@@ -148,13 +148,16 @@ impl State {
         }
         let copied = self.copies_stamp(u, t);
         let stamp = self.target_stamp(u, t);
-        let at = t as usize;
-        let mut s = self;
-        s.current = t;
-        s.live = s.live | sets::single(t);
-        s.stamps[at] = stamp;
-        s.copies = counted(s.copies, copied);
-        s
+        let old = self.stamps;
+        let stamps = with(old, t as usize, stamp);
+        let live = self.live | sets::single(t);
+        let copies = counted(self.copies, copied);
+        State {
+            current: t,
+            live,
+            stamps,
+            copies,
+        }
     }
 
     // The current copy as a set.
@@ -209,9 +212,39 @@ fn given(s: State, at: usize, step: u16) -> State
     requires { ⌜ at < 16 ⌝ }
     ensures { λ r. ⌜ r ≡ record { current = s .current; live = s .live; stamps = set (s .stamps) at step; copies = s .copies } ⌝ }
 {
-    let mut t = s;
-    t.stamps[at] = step;
-    t
+    let old = s.stamps;
+    let stamps = with(old, at, step);
+    State {
+        current: s.current,
+        live: s.live,
+        stamps,
+        copies: s.copies,
+    }
+}
+
+// The first if `b` holds, else the second.
+fn choose(b: bool, x: u16, y: u16) -> u16
+    ensures { λ r. ⌜ r ≡ cond b x y ⌝ }
+{
+    if b {
+        return x;
+    }
+    y
+}
+
+// The stamps with x as that of one version. Each is written anew: to write one alone, and then read all of them as parts of a state, would
+// make every step wait for the store.
+fn with(stamps: [u16; 16], at: usize, x: u16) -> [u16; 16]
+    requires { ⌜ at < 16 ⌝ }
+    ensures { λ r. ⌜ r ≡ set stamps at x ⌝ }
+{
+    let mut new = stamps;
+    let mut k: usize = 0;
+    while k < 16 {
+        new[k] = choose(k == at, x, new[k]);
+        k += 1;
+    }
+    new
 }
 
 // The lowest version of a set.

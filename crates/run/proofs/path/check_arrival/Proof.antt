@@ -5,7 +5,8 @@ use Prim.Native.Nat.{_+_, _-_}
 use native.Mathlib.Omega.{arith}
 use borrow.Author.Needs.{needs}
 use borrow.Author.Tests.{not-true, not-false}
-use Rattle.run.specs.Paths.{vertexAt, isEdge, arrivalCheck}
+use Rattle.run.specs.EdgeTable.{isMarked, arrivalBy}
+use Rattle.run.specs.Paths.{vertexAt}
 use Rattle.run.proofs.path.check_arrival.Statement.{statement}
 use Rattle.run.proofs.path.check_arrival.Tie as tie
 
@@ -18,28 +19,28 @@ vertex-requires c κs = search needs
 vertex-requires-2 : tie.Need-vertex-requires-2
 vertex-requires-2 c κs = search needs
 
-is-edge-requires : tie.Need-is-edge-requires
-is-edge-requires c κs = search needs
+is-marked-requires : tie.Need-is-marked-requires
+is-marked-requires c κs = search needs
 
 -- what the test says
-told : (c : tie.After-is-edge) →
+told : (c : tie.After-is-marked) →
     let a = c .before .before .before .before .before .args in
-    c .is-edge .result ≡ isEdge (a .file .now) (vertexAt (a .path .now) (a .i + 1 - 1)) (vertexAt (a .path .now) (a .i + 1))
+    c .is-marked .result ≡ isMarked (a .table .now) (vertexAt (a .path .now) (a .i + 1 - 1)) (vertexAt (a .path .now) (a .i + 1))
 told c =
     let a = c .before .before .before .before .before .args in
     let back : a .i ≡ a .i + 1 - 1 = omega arith in
-    c .is-edge .ensures
-    ∙ ap₂ (isEdge (a .file .now)) (c .before .before .vertex .ensures ∙ ap (vertexAt (a .path .now)) back) (c .before .vertex2 .ensures)
+    c .is-marked .ensures
+    ∙ ap₂ (isMarked (a .table .now)) (c .before .before .vertex .ensures ∙ ap (vertexAt (a .path .now)) back) (c .before .vertex2 .ensures)
 
 returns : tie.Need-returns
-unfolding arrivalCheck
-returns c = rw (← told (c .before), not-true (c .before .is-edge .result) (c .if1 .taken))
+unfolding arrivalBy
+returns c = rw (← told (c .before), not-true (c .before .is-marked .result) (c .if1 .taken))
 
 returns-2 : tie.Need-returns-2
-unfolding arrivalCheck
-returns-2 c = rw (← told (c .before), not-false (c .before .is-edge .result) (c .if1 .left))
+unfolding arrivalBy
+returns-2 c = rw (← told (c .before), not-false (c .before .is-marked .result) (c .if1 .left))
 
 pub check-arrival-spec : {M : Type 1} → statement M
 check-arrival-spec =
     tie.close
-    (tie.spec add-next vertex-requires vertex-requires-2 is-edge-requires returns returns-2)
+    (tie.spec add-next vertex-requires vertex-requires-2 is-marked-requires returns returns-2)

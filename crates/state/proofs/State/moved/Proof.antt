@@ -1,9 +1,10 @@
 -- `State::moved` meets its contract, with one law for its two exits.
 -- Assumes nothing.
-use mathlib.Core.Path.{refl, sym, _∙_}
+use mathlib.Core.Path.{refl, sym, ap, _∙_}
 use mathlib.Core.Bool.{true, false}
 use borrow.Author.Needs.{needs}
 use borrow.Author.Tests.{not-true, not-false}
+use lib.ListN.{set}
 use Rattle.state.proofs.States.{moved-is}
 use Rattle.state.proofs.State.moved.Statement.{statement}
 use Rattle.state.proofs.State.moved.Tie as tie
@@ -22,24 +23,23 @@ copies-stamp-requires c κs = search needs
 target-stamp-requires : tie.Need-target-stamp-requires
 target-stamp-requires c κs = search needs
 
+with-requires : tie.Need-with-requires
+with-requires c κs = search needs
+
 single-requires : tie.Need-single-requires
 single-requires c κs = search needs
-
-mul-s : tie.Need-mul-s
-mul-s c = search needs
-
-element-write-s : tie.Need-element-write-s
-element-write-s c = search needs
 
 counted-requires : tie.Need-counted-requires
 counted-requires c κs = search needs
 
 returns-2 : tie.Need-returns-2
 returns-2 c =
-    let b = c .before .before .before .before in
+    let w = c .before .before .before in
+    let b = w .before .before .before .before in
     let s = b .before .before in
     moved-is (s .args .u) (s .args .t) (s .args .self) true _ _ _ _ (sym (not-false _ (b .if1 .left)) ∙ b .before .takes-up .ensures)
-    (c .before .before .before .copies-stamp .ensures) (c .before .single .ensures) (c .before .before .target-stamp .ensures) (c .counted .ensures)
+    (w .before .before .before .copies-stamp .ensures) (c .before .before .single .ensures)
+    (w .with .ensures ∙ ap (set (s .args .self .stamps) (s .args .t)) (w .before .before .target-stamp .ensures)) (c .counted .ensures)
 
 pub moved-spec : {M : Type 1} → statement M
 moved-spec =
@@ -49,8 +49,7 @@ moved-spec =
     returns
     copies-stamp-requires
     target-stamp-requires
+    with-requires
     single-requires
-    mul-s
-    element-write-s
     counted-requires
     returns-2)
