@@ -58,7 +58,7 @@ pub fn compare(library: &Library, options: Options) -> Result<Tally, Box<Mismatc
 }
 
 /// Routines with a name, each with paths.
-fn named() -> Vec<(Draft, Vec<Vec<u16>>)> {
+pub fn named() -> Vec<(Draft, Vec<Vec<u16>>)> {
     vec![
         (
             builder::p(),
