@@ -20,7 +20,6 @@ unsafe extern "C" {
         plan_len: usize,
     ) -> HpfOutcome;
 
-    #[cfg(feature = "run")]
     fn hpf_run(
         routine: *const u8,
         routine_len: usize,
@@ -48,7 +47,6 @@ fn plan(routine: &[u8], out: &mut [u8]) -> Outcome {
     outcome.into()
 }
 
-#[cfg(feature = "run")]
 fn run(routine: &[u8], path: &[u8], out: &mut [u8]) -> Outcome {
     // SAFETY: as in `plan`.
     let outcome = unsafe {
@@ -64,11 +62,5 @@ fn run(routine: &[u8], path: &[u8], out: &mut [u8]) -> Outcome {
     outcome.into()
 }
 
-/// The calls of the verified library that are linked.
-pub const VERIFIED: Library = Library {
-    plan,
-    #[cfg(feature = "run")]
-    run: Some(run),
-    #[cfg(not(feature = "run"))]
-    run: None,
-};
+/// The calls of the verified library.
+pub const VERIFIED: Library = Library { plan, run };

@@ -17,8 +17,6 @@ pub struct Options {
     /// Random paths that are run.
     pub paths: u64,
     pub seed: u64,
-    /// The runner is left out.
-    pub plan_only: bool,
 }
 
 /// An input on which library and oracle differ, made small.
@@ -51,18 +49,16 @@ pub fn compare(library: &Library, options: Options) -> Result<Tally, Box<Mismatc
     driver.small_plans()?;
     driver.damaged_plans()?;
     driver.random_plans()?;
-    if !options.plan_only {
-        driver.named_runs()?;
-        driver.runs_at_limits()?;
-        driver.small_runs()?;
-        driver.damaged_runs()?;
-        driver.random_runs()?;
-    }
+    driver.named_runs()?;
+    driver.runs_at_limits()?;
+    driver.small_runs()?;
+    driver.damaged_runs()?;
+    driver.random_runs()?;
     Ok(driver.tally)
 }
 
 /// Routines with a name, each with paths.
-fn named() -> Vec<(Draft, Vec<Vec<u16>>)> {
+pub fn named() -> Vec<(Draft, Vec<Vec<u16>>)> {
     vec![
         (
             builder::p(),

@@ -8,17 +8,17 @@ pub type Plan = fn(&[u8], &mut [u8]) -> Outcome;
 /// Runs a routine along a path into a buffer.
 pub type Run = fn(&[u8], &[u8], &mut [u8]) -> Outcome;
 
-/// A library's two calls; the runner may be missing.
+/// A library's two calls.
 #[derive(Clone, Copy)]
 pub struct Library {
     pub plan: Plan,
-    pub run: Option<Run>,
+    pub run: Run,
 }
 
 /// The oracle's own calls.
 pub const ORACLE: Library = Library {
     plan: oracle::plan::plan,
-    run: Some(oracle::run::run),
+    run: oracle::run::run,
 };
 
 /// What a call reads: a plan has no path.
@@ -43,11 +43,11 @@ impl Input {
         }
     }
 
-    /// Calls a library on this input; none if it lacks the runner.
-    pub fn call(&self, library: &Library, out: &mut [u8]) -> Option<Outcome> {
+    /// Calls a library on this input.
+    pub fn call(&self, library: &Library, out: &mut [u8]) -> Outcome {
         match &self.path {
-            None => Some((library.plan)(&self.routine, out)),
-            Some(path) => library.run.map(|run| run(&self.routine, path, out)),
+            None => (library.plan)(&self.routine, out),
+            Some(path) => (library.run)(&self.routine, path, out),
         }
     }
 }

@@ -1,6 +1,6 @@
 //! Holds the verified static library against the oracle.
 //!
-//! compare [--routines N] [--paths N] [--seed S] [--plan-only]
+//! compare [--routines N] [--paths N] [--seed S]
 
 mod bindings;
 
@@ -9,21 +9,16 @@ use std::env;
 use std::process::ExitCode;
 use std::time::Instant;
 
-const USAGE: &str = "compare [--routines N] [--paths N] [--seed S] [--plan-only]";
+const USAGE: &str = "compare [--routines N] [--paths N] [--seed S]";
 
 fn options() -> Option<Options> {
     let mut options = Options {
         routines: 20_000,
         paths: 20_000,
         seed: 1,
-        plan_only: bindings::VERIFIED.run.is_none(),
     };
     let mut arguments = env::args().skip(1);
     while let Some(argument) = arguments.next() {
-        if argument == "--plan-only" {
-            options.plan_only = true;
-            continue;
-        }
         let number = arguments.next()?.parse().ok()?;
         match argument.as_str() {
             "--routines" => options.routines = number,
@@ -52,7 +47,7 @@ fn main() -> ExitCode {
     print!("{tally}");
     let seconds = start.elapsed().as_secs_f64();
     println!("{} inputs agree, {seconds:.1} seconds", tally.inputs());
-    let missing = tally.missing(options.plan_only);
+    let missing = tally.missing();
     if !missing.is_empty() {
         println!("never answered: {}", missing.join(", "));
         return ExitCode::FAILURE;

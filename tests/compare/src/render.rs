@@ -1,7 +1,8 @@
-//! A mismatch in words.
+//! An input and a mismatch in words.
 
 use crate::check::Difference;
 use crate::drive::Mismatch;
+use crate::library::Input;
 use oracle::builder::Draft;
 use oracle::outcome::Outcome;
 use oracle::routine::Action;
@@ -73,6 +74,26 @@ fn side(name: &str, (outcome, bytes): &(Outcome, Vec<u8>)) -> String {
     text
 }
 
+impl fmt::Display for Input {
+    fn fmt(&self, f: &mut fmt::Formatter) -> fmt::Result {
+        writeln!(f, "routine, {} bytes:", self.routine.len())?;
+        f.write_str(&hexadecimal(&self.routine))?;
+        if let Some(draft) = Draft::from_bytes(&self.routine) {
+            f.write_str(&routine(&draft))?;
+        }
+        if let Some(path) = &self.path {
+            writeln!(f, "path, {} bytes:", path.len())?;
+            f.write_str(&hexadecimal(path))?;
+            let words = path.as_chunks().0.iter();
+            let vertices: Vec<String> = words
+                .map(|&word| u16::from_le_bytes(word).to_string())
+                .collect();
+            writeln!(f, "  vertices: {}", vertices.join(" "))?;
+        }
+        Ok(())
+    }
+}
+
 impl fmt::Display for Mismatch {
     fn fmt(&self, f: &mut fmt::Formatter) -> fmt::Result {
         let mut text = String::new();
@@ -89,20 +110,7 @@ impl fmt::Display for Mismatch {
         writeln!(text, "{difference}, buffer of {} bytes", fault.buffer)?;
         text += &side("oracle", &fault.expected);
         text += &side("library", &fault.found);
-        writeln!(text, "routine, {} bytes:", self.input.routine.len())?;
-        text += &hexadecimal(&self.input.routine);
-        if let Some(draft) = Draft::from_bytes(&self.input.routine) {
-            text += &routine(&draft);
-        }
-        if let Some(path) = &self.input.path {
-            writeln!(text, "path, {} bytes:", path.len())?;
-            text += &hexadecimal(path);
-            let words = path.as_chunks().0.iter();
-            let vertices: Vec<String> = words
-                .map(|&word| u16::from_le_bytes(word).to_string())
-                .collect();
-            writeln!(text, "  vertices: {}", vertices.join(" "))?;
-        }
+        write!(text, "{}", self.input)?;
         f.write_str(&text)
     }
 }

@@ -12,7 +12,6 @@ const FEW: Options = Options {
     routines: 2000,
     paths: 1000,
     seed: 1,
-    plan_only: false,
 };
 
 /// The mismatch that a faulty planner gives, and the parts of its small routine.
@@ -27,7 +26,7 @@ fn planner(faulty: Plan) -> (Box<Mismatch>, Option<Draft>) {
 /// The mismatch that a faulty runner gives, and the parts of its small routine.
 fn runner(faulty: Run) -> (Box<Mismatch>, Option<Draft>) {
     let library = Library {
-        run: Some(faulty),
+        run: faulty,
         ..ORACLE
     };
     found(&library)
@@ -72,23 +71,8 @@ fn old_value_read(routine: &Routine, array: usize, vertex: usize, seen: &mut Vec
 #[test]
 fn the_oracle_agrees_with_itself() {
     let tally = compare(&ORACLE, FEW).unwrap();
-    assert_eq!(tally.missing(false), [""; 0]);
+    assert_eq!(tally.missing(), [""; 0]);
     assert!(tally.inputs() > 3000);
-}
-
-#[test]
-fn a_planner_alone_is_compared() {
-    let library = Library {
-        run: None,
-        ..ORACLE
-    };
-    let options = Options {
-        plan_only: true,
-        ..FEW
-    };
-    let tally = compare(&library, options).unwrap();
-    assert_eq!(tally.missing(true), [""; 0]);
-    assert_eq!(tally.missing(false).len(), 14);
 }
 
 /// Q's vertex 1 as D: the next label, met without a define, does not count.

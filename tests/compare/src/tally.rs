@@ -29,14 +29,14 @@ impl Tally {
     }
 
     /// The answers that no call gave: `plan 16`, `run 32`.
-    pub fn missing(&self, plan_only: bool) -> Vec<String> {
+    pub fn missing(&self) -> Vec<String> {
         let plans = PLAN_ANSWERS
             .iter()
             .filter(|number| !self.plans.contains_key(number))
             .map(|number| format!("plan {number}"));
         let runs = RUN_ANSWERS
             .iter()
-            .filter(|number| !plan_only && !self.runs.contains_key(number))
+            .filter(|number| !self.runs.contains_key(number))
             .map(|number| format!("run {number}"));
         plans.chain(runs).collect()
     }

@@ -119,17 +119,23 @@ fn routines_of_any_size() {
 /// Tables that were used before give the same plan.
 #[test]
 fn tables_used_again() {
+    let seed = SEED + 3;
     let mut solved = Solved::EMPTY;
     for index in 0..1000 {
-        let mut rng = Rng::for_input(SEED + 3, index);
+        let mut rng = Rng::for_input(seed, index);
         let size = Size::any(&mut rng);
-        let file = routines::accepted(&mut rng, size).bytes();
+        let draft = routines::accepted(&mut rng, size);
+        let file = draft.bytes();
         let routine = Routine::parse(&file).unwrap();
         solved.solve(&routine);
         for (array, labels) in search::labels(&routine).into_iter().enumerate() {
             for (vertex, expected) in labels.into_iter().enumerate() {
                 let label = solved.labels_at(vertex).find(|label| label.0 == array);
-                assert_eq!(label.map(|label| label.1), expected);
+                assert_eq!(
+                    label.map(|label| label.1),
+                    expected,
+                    "seed {seed}, index {index}, vertex {vertex}, array {array}: {draft:?}"
+                );
             }
         }
     }

@@ -11,21 +11,33 @@ use oracle::run::{check_path, run};
 
 const SEED: u64 = 2;
 
-/// Demand 3 of the run and of the report's bytes.
-fn demand_3(draft: &Draft, path: &[u16]) {
+/// Demand 3 of the run and of the report's bytes; `name` says where the input comes from.
+fn demand_3(name: &str, draft: &Draft, path: &[u16]) {
+    let shown = || format!("{name}: path {path:?}, {draft:?}");
     let file = draft.bytes();
-    let path = path_bytes(path);
-    let routine = Routine::parse(&file).unwrap();
-    assert_eq!(check_path(&routine, &path), Ok(()));
+    let bytes = path_bytes(path);
+    let routine =
+        Routine::parse(&file).unwrap_or_else(|refusal| panic!("{refusal:?}, {}", shown()));
+    assert_eq!(check_path(&routine, &bytes), Ok(()), "{}", shown());
     let mut solved = Solved::EMPTY;
     let accepted = solved.accept(&routine).is_ok();
-    assert_eq!(demand3::of_run(&routine, &solved, &path), Ok(()));
+    assert_eq!(
+        demand3::of_run(&routine, &solved, &bytes),
+        Ok(()),
+        "{}",
+        shown()
+    );
     if accepted {
         let mut report = vec![0x5a; 400_000];
-        let answer = run(&file, &path, &mut report);
-        assert_eq!(answer.number, 0);
+        let answer = run(&file, &bytes, &mut report);
+        assert_eq!(answer.number, 0, "{}", shown());
         report.truncate(answer.first as usize);
-        assert_eq!(demand3::of_report(&routine, &path, &report), Ok(()));
+        assert_eq!(
+            demand3::of_report(&routine, &bytes, &report),
+            Ok(()),
+            "{}",
+            shown()
+        );
     }
 }
 
@@ -39,7 +51,7 @@ fn random_paths() {
         let wanted = paths::any_length(&mut rng);
         let path = paths::walk(&mut rng, &draft, wanted);
         home += usize::from(usize::from(path[path.len() - 1]) == draft.rows.len() - 1);
-        demand_3(&draft, &path);
+        demand_3(&format!("seed {SEED}, index {index}"), &draft, &path);
     }
     assert!(home > 1000, "{home} paths end at the exit");
 }
@@ -47,8 +59,9 @@ fn random_paths() {
 /// Demand 3 needs neither 20 nor 21.
 #[test]
 fn paths_through_refused_routines() {
+    let seed = SEED + 1;
     for index in 0..4000 {
-        let mut rng = Rng::for_input(SEED + 1, index);
+        let mut rng = Rng::for_input(seed, index);
         let size = Size::any(&mut rng);
         let draft = if rng.chance(50) {
             routines::program(&mut rng, size)
@@ -57,13 +70,17 @@ fn paths_through_refused_routines() {
         };
         let wanted = paths::any_length(&mut rng);
         let path = paths::walk(&mut rng, &draft, wanted);
-        demand_3(&draft, &path);
+        demand_3(&format!("seed {seed}, index {index}"), &draft, &path);
     }
 }
 
 #[test]
 fn the_longest_path() {
-    demand_3(&limits::largest_report(), &limits::longest_path());
+    demand_3(
+        "the longest path",
+        &limits::largest_report(),
+        &limits::longest_path(),
+    );
 }
 
 /// A report that differs from the machine is found.
