@@ -1,8 +1,11 @@
 /* Array remapping by copies: planner and run-time.
  *
  * Two calls. Both read bytes that the caller lends and write bytes into a buffer that the caller lends. They keep no state and
- * take no memory of their own but some 20 KiB of stack: any number of threads may call them at once, each with its own buffers.
- * Every call ends.
+ * take no memory of their own but at most 16 KiB of stack: any number of threads may call them at once, each with its own
+ * buffers. Every call ends.
+ *
+ * Each pointer is that of as many bytes as the length beside it says, or null if that length is 0. The buffer that a call writes
+ * must not overlap the bytes that it reads.
  *
  * 16-bit numbers in all formats are unsigned, low byte first.
  *
@@ -43,7 +46,8 @@ typedef struct {
     uint64_t number, first, second;
 } hpf_outcome;
 
-/* Sizes that always suffice. A report's length depends on the path: call hpf_run with an empty buffer, and answer 2 gives it. */
+/* Sizes in bytes that always suffice, and the most vertices of a path. A report's length depends on the path: call hpf_run with an
+ * empty buffer, and answer 2 gives it. */
 #define HPF_LARGEST_ROUTINE 6194
 #define HPF_LARGEST_PLAN 17416
 #define HPF_LARGEST_REPORT 327648
@@ -51,10 +55,16 @@ typedef struct {
 
 /* Plans a routine.
  *
- * routine: four bytes `HPFR`; edition (16 bits, 1); offset and count (16 bits each) of arrays, vertices and edges; then
- *   arrays   1 to 8, four bytes each: kind (0 local, 1 in, 2 out, 3 inout), versions (1 to 16), initial version, zero;
- *   vertices 2 to 256, a byte for each array: 00 nothing, 10 read, 20 define, 30 modify, 40+k remap to version k (hexadecimal);
- *   edges    0 to 1,024: from, to (16 bits each), strictly rising.
+ * routine: four bytes `HPFR`; edition (16 bits, 1); offset and count (16 bits each) of arrays, vertices and edges; then, from
+ *   byte 18 to the end of the file and without gaps,
+ *   arrays   1 to 8, four bytes each: kind (0 local, 1 in, 2 out, 3 inout), versions (1 to 16), initial version (below versions),
+ *            zero;
+ *   vertices 2 to 256, a byte for each array: 00 nothing, 10 read, 20 define (all of it rewritten, nothing read), 30 modify (old
+ *            value needed), 40+k remap to version k (hexadecimal; k below the array's versions). Read, define and modify are
+ *            references: a vertex has references or remappings, never both. Vertex 0 is the entry and the last one the exit; all
+ *            bytes of these two are 00;
+ *   edges    0 to 1,024: from, to (16 bits each, below the vertex count), strictly rising by from, then to; none enters the entry,
+ *            none leaves the exit.
  * plan: four bytes `HPFP`; vertex count; label count; for each vertex the index of its first label and how many (16 bits each);
  *   then labels of eight bytes by vertex, then array: array, use letter (N D R W), leaving version (255 none), zero,
  *   reaching set, kept set (16 bits each, bit k for version k).

@@ -1,8 +1,9 @@
 //! Times of the verified library and of the oracle on the same inputs, in one process: medians
-//! of repeated batches, taken in turn.
+//! of repeated batches, taken in turn. For a plan also the rounds over the edges.
 
 #[path = "../../tests/compare/src/bindings.rs"]
 mod bindings;
+mod rounds;
 
 use std::hint::black_box;
 use std::time::{Duration, Instant};
@@ -12,12 +13,17 @@ use oracle::builder::{self, Draft};
 use oracle::generate::limits;
 use oracle::generate::rng::Rng;
 use oracle::generate::routines::{self, Size};
+use oracle::routine::Routine;
+use rounds::Rounds;
 
 const SEED: u64 = 1;
 const BATCHES: usize = 31;
 const BATCH: Duration = Duration::from_millis(20);
 
-/// An accepted routine, from the first draft that can be made acceptable.
+/// No plan or report is longer.
+const ROOM: usize = 327_648;
+
+/// The routine that the seed draws, with what 20 and 21 refuse taken out.
 fn acceptable(draw: impl Fn(&mut Rng) -> Draft) -> Vec<u8> {
     let mut rng = Rng::new(SEED);
     let mut draft = draw(&mut rng);
@@ -40,6 +46,10 @@ fn lines() -> Vec<(&'static str, Input)> {
             "plan, backward chain",
             Input::plan(acceptable(limits::backward_chain)),
         ),
+        (
+            "plan, zigzag chain",
+            Input::plan(acceptable(limits::zigzag_chain)),
+        ),
         ("plan, largest", Input::plan(limits::largest_plan().bytes())),
         (
             "run, case 2",
@@ -56,6 +66,25 @@ fn lines() -> Vec<(&'static str, Input)> {
             ),
         ),
     ]
+}
+
+/// Both sides do the whole work and give the same bytes: a refusal is not to be timed.
+fn check(name: &str, both: &[Library; 2], input: &Input) {
+    let [ours, rust] = both.map(|library| {
+        let mut out = vec![0; ROOM];
+        (input.call(&library, &mut out), out)
+    });
+    assert_eq!(ours.0.number, 0, "{name}: {:?}", ours.0);
+    assert_eq!(ours.0, rust.0, "{name}");
+    assert!(ours.1 == rust.1, "{name}: the bytes differ");
+}
+
+/// The rounds of a plan's passes; a run has no column for them.
+fn rounds_of(input: &Input) -> String {
+    match (&input.path, Routine::parse(&input.routine)) {
+        (None, Ok(routine)) => Rounds::of(&routine).to_string(),
+        _ => String::new(),
+    }
 }
 
 /// The time of one call, from `calls` of them.
@@ -84,10 +113,18 @@ fn micros(time: Duration) -> f64 {
 
 fn main() {
     println!("seed {SEED}, medians of {BATCHES} batches, microseconds a call");
-    println!("{:34} {:>12} {:>12} {:>7}", "", "library", "Rust", "ratio");
-    let mut out = vec![0; 327_648];
+    println!(
+        "{:34} {:>12} {:>12} {:>7}{}",
+        "",
+        "library",
+        "Rust",
+        "ratio",
+        rounds::HEADS
+    );
+    let both = [bindings::VERIFIED, ORACLE];
+    let mut out = vec![0; ROOM];
     for (name, input) in lines() {
-        let both = [bindings::VERIFIED, ORACLE];
+        check(name, &both, &input);
         let counts = both.map(|library| calls(&library, &input, &mut out));
         let mut times = [Vec::new(), Vec::new()];
         for _ in 0..BATCHES {
@@ -96,6 +133,7 @@ fn main() {
             }
         }
         let [ours, rust] = times.map(median).map(micros);
-        println!("{name:34} {ours:12.2} {rust:12.2} {:7.2}", ours / rust);
+        let times = format!("{name:34} {ours:12.2} {rust:12.2} {:7.2}", ours / rust);
+        println!("{times}{}", rounds_of(&input));
     }
 }

@@ -5,7 +5,11 @@ module hpf_remap
   private
   public :: hpf_outcome, hpf_plan, hpf_run
 
+  ! Sizes in bytes that always suffice, and the most vertices of a path.
+  integer, parameter, public :: hpf_largest_routine = 6194
   integer, parameter, public :: hpf_largest_plan = 17416
+  integer, parameter, public :: hpf_largest_report = 327648
+  integer, parameter, public :: hpf_longest_path = 4096
 
   type, bind(c) :: hpf_outcome
     integer(c_int64_t) :: number, first, second

@@ -5,7 +5,7 @@ use oracle::outcome::Outcome;
 
 /// `hpf_outcome`: number 0 and the length written, or a refusal and its two places.
 #[repr(C)]
-struct HpfOutcome {
+pub struct HpfOutcome {
     number: u64,
     first: u64,
     second: u64,
@@ -13,14 +13,14 @@ struct HpfOutcome {
 
 #[link(name = "remap", kind = "static")]
 unsafe extern "C" {
-    fn hpf_plan(
+    pub fn hpf_plan(
         routine: *const u8,
         routine_len: usize,
         plan: *mut u8,
         plan_len: usize,
     ) -> HpfOutcome;
 
-    fn hpf_run(
+    pub fn hpf_run(
         routine: *const u8,
         routine_len: usize,
         path: *const u8,

@@ -37,6 +37,30 @@ struct Driver<'a> {
     tally: Tally,
 }
 
+/// Compares a library with the oracle where the routine, the path or both are empty, and on
+/// inputs that are tried with an empty buffer.
+pub fn compare_empty(library: &Library) -> Result<Tally, Box<Mismatch>> {
+    let mut driver = Driver {
+        library,
+        options: Options {
+            routines: 0,
+            paths: 0,
+            seed: 0,
+        },
+        tally: Tally::default(),
+    };
+    let inputs = [
+        Input::plan(vec![]),
+        Input::run(vec![], vec![]),
+        Input::run(vec![], path_bytes(&[0])),
+        Input::run(builder::p().bytes(), vec![]),
+    ];
+    driver.try_all("empty", inputs.into_iter())?;
+    driver.named_plans()?;
+    driver.named_runs()?;
+    Ok(driver.tally)
+}
+
 /// Compares a library with the oracle on all inputs, up to the first mismatch.
 pub fn compare(library: &Library, options: Options) -> Result<Tally, Box<Mismatch>> {
     let mut driver = Driver {

@@ -47,15 +47,29 @@ pub fn longest_path() -> Vec<u16> {
     path
 }
 
-/// A chain numbered against its direction: facts travel one vertex a sweep.
-pub fn backward_chain(rng: &mut Rng) -> Draft {
+/// Random rows on a chain that takes the vertices in this order.
+fn chain(rng: &mut Rng, order: &[u16]) -> Draft {
     let mut draft = routines::graph(rng, Size::LARGEST, 0, false);
-    let last = MAX_VERTICES as u16 - 2;
-    draft.edges = (2..=last).map(|vertex| (vertex, vertex - 1)).collect();
-    draft.edges.push((0, last));
-    draft.edges.push((1, last + 1));
+    draft.edges = order.windows(2).map(|pair| (pair[0], pair[1])).collect();
     draft.edges.sort_unstable();
     draft
+}
+
+/// A chain numbered against its direction: facts travel one vertex a sweep.
+pub fn backward_chain(rng: &mut Rng) -> Draft {
+    let exit = MAX_VERTICES as u16 - 1;
+    let mut order = vec![0];
+    order.extend((1..exit).rev());
+    order.push(exit);
+    chain(rng, &order)
+}
+
+/// A chain 0, 128, 1, 129 and so on: facts travel two vertices a sweep, whichever way the
+/// sweeps go.
+pub fn zigzag_chain(rng: &mut Rng) -> Draft {
+    let half = MAX_VERTICES as u16 / 2;
+    let order: Vec<u16> = (0..half).flat_map(|low| [low, half + low]).collect();
+    chain(rng, &order)
 }
 
 /// 256 vertices, 1,024 edges, eight arrays of up to 16 versions.

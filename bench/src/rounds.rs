@@ -1,0 +1,198 @@
+//! How many rounds over the edges each pass of the planner takes, the last one, which alters
+//! nothing, included. A round takes the edges in place: those of a pass along them from the
+//! last to the first, those of a pass against them from the first to the last.
+
+use std::fmt;
+
+use oracle::labels::{Label, Use, fixpoint};
+use oracle::routine::{Event, Kind, Reference, Routine};
+
+const EVERY: u16 = 0xffff;
+
+/// The most rounds of a pass for any array.
+#[derive(Default)]
+pub struct Rounds {
+    reached: usize,
+    arriving: usize,
+    letters: usize,
+    reaching: usize,
+    kept: usize,
+}
+
+/// The heads of the columns.
+pub const HEADS: &str = "  reached arriving  letters reaching     kept";
+
+impl fmt::Display for Rounds {
+    fn fmt(&self, f: &mut fmt::Formatter) -> fmt::Result {
+        write!(f, "{:9}{:9}", self.reached, self.arriving)?;
+        write!(f, "{:9}{:9}{:9}", self.letters, self.reaching, self.kept)
+    }
+}
+
+impl Rounds {
+    /// The rounds of the passes on a routine; what they find is held against the oracle.
+    pub fn of(routine: &Routine) -> Rounds {
+        let vertices = routine.vertex_count();
+        let edges: Vec<(usize, usize)> = routine.edges().collect();
+        let (mut reached, rounds) = solve(&edges, false, vertices, |v| (u16::from(v == 0), 1));
+        reached[0] = 1;
+        let mut most = Rounds {
+            reached: rounds,
+            ..Rounds::default()
+        };
+        for (index, labels) in fixpoint::labels(routine).iter().enumerate() {
+            let array = Array {
+                edges: &edges,
+                reached: &reached,
+                events: (0..vertices).map(|v| routine.event(v, index)).collect(),
+                kind: routine.array(index).kind,
+            };
+            most.take(&array, labels);
+        }
+        most
+    }
+
+    /// Counts the passes for one array with these labels.
+    fn take(&mut self, array: &Array, labels: &[Option<Label>]) {
+        let (_, rounds) = array.arriving();
+        self.arriving = self.arriving.max(rounds);
+        let (letters, rounds) = array.letters();
+        self.letters = self.letters.max(rounds);
+        let (reaching, rounds) = array.reaching(&letters);
+        self.reaching = self.reaching.max(rounds);
+        let (kept, rounds) = array.kept(&letters);
+        self.kept = self.kept.max(rounds);
+        for (v, label) in labels.iter().enumerate() {
+            if let Some(label) = label {
+                let found = (letters[v], reaching[v], kept[v]);
+                assert_eq!(found, (label.letter, label.reaching, label.kept));
+            }
+        }
+    }
+}
+
+/// The sets of a pass and its rounds, from what each vertex gives and passes: a set grows by
+/// what the far end of an edge gives, and by what that end holds and passes.
+fn solve(
+    edges: &[(usize, usize)],
+    along: bool,
+    vertices: usize,
+    facts: impl Fn(usize) -> (u16, u16),
+) -> (Vec<u16>, usize) {
+    let (gives, passes): (Vec<u16>, Vec<u16>) = (0..vertices).map(facts).unzip();
+    let far_and_near: Vec<(usize, usize)> = if along {
+        edges.iter().rev().map(|&(from, to)| (to, from)).collect()
+    } else {
+        edges.to_vec()
+    };
+    let mut sets = vec![0; vertices];
+    let mut rounds = 0;
+    let mut altered = true;
+    while altered {
+        altered = false;
+        rounds += 1;
+        for &(far, near) in &far_and_near {
+            let handed = gives[far] | sets[far] & passes[far];
+            altered |= handed & !sets[near] != 0;
+            sets[near] |= handed;
+        }
+    }
+    (sets, rounds)
+}
+
+fn set_if(given: bool, set: u16) -> u16 {
+    if given { set } else { 0 }
+}
+
+/// What a segment meets: bit 0 a reference; bit 1 a read, a modify or a label without a define
+/// before it; bit 2 a read; bit 3 a define or modify. What an event gives and passes of these.
+fn use_facts(event: Event) -> (u16, u16) {
+    match event {
+        Event::Nothing => (0b0000, 0b1111),
+        Event::Reference(Reference::Read) => (0b0111, 0b1111),
+        Event::Reference(Reference::Define) => (0b1001, 0b1101),
+        Event::Reference(Reference::Modify) => (0b1011, 0b1111),
+        Event::Label(_) => (0b0010, 0b0000),
+    }
+}
+
+fn letter(facts: u16) -> Use {
+    match [0, 1, 2, 3].map(|bit| facts >> bit & 1) {
+        [0, ..] => Use::N,
+        [_, 0, ..] => Use::D,
+        [.., 1, 0] => Use::R,
+        _ => Use::W,
+    }
+}
+
+/// One array of a routine.
+struct Array<'a> {
+    edges: &'a [(usize, usize)],
+    /// 1 for each vertex that a path from the entry reaches.
+    reached: &'a [u16],
+    events: Vec<Event>,
+    kind: Kind,
+}
+
+impl Array<'_> {
+    fn solve(&self, along: bool, facts: impl Fn(usize) -> (u16, u16)) -> (Vec<u16>, usize) {
+        solve(self.edges, along, self.events.len(), facts)
+    }
+
+    /// A label's version as a set; empty without a label.
+    fn version(&self, v: usize) -> u16 {
+        match self.events[v] {
+            Event::Label(version) => 1 << version,
+            _ => 0,
+        }
+    }
+
+    fn is_label(&self, v: usize) -> bool {
+        self.version(v) != 0
+    }
+
+    fn is_kept(&self, letters: &[Use], v: usize) -> bool {
+        self.is_label(v) && letters[v] != Use::N
+    }
+
+    /// The versions of the last labels on paths from the entry.
+    fn arriving(&self) -> (Vec<u16>, usize) {
+        self.solve(false, |v| {
+            (
+                set_if(self.reached[v] == 1, self.version(v)),
+                set_if(!self.is_label(v), EVERY),
+            )
+        })
+    }
+
+    fn letters(&self) -> (Vec<Use>, usize) {
+        let (facts, rounds) = self.solve(true, |v| use_facts(self.events[v]));
+        let mut letters: Vec<Use> = facts.into_iter().map(letter).collect();
+        let exit = letters.len() - 1;
+        letters[exit] = Use::at_exit(self.kind);
+        (letters, rounds)
+    }
+
+    fn reaching(&self, letters: &[Use]) -> (Vec<u16>, usize) {
+        let initial = self.kind.brings_value();
+        let (mut sets, rounds) = self.solve(false, |v| {
+            let kept = self.is_kept(letters, v);
+            let given = self.reached[v] == 1 && (kept || v == 0 && initial);
+            (set_if(given, self.version(v)), set_if(!kept, EVERY))
+        });
+        sets[0] = set_if(initial, self.version(0));
+        (sets, rounds)
+    }
+
+    fn kept(&self, letters: &[Use]) -> (Vec<u16>, usize) {
+        let leaving = |v| set_if(self.is_kept(letters, v), self.version(v));
+        let open = |v: usize| matches!(letters[v], Use::N | Use::R);
+        let (mut sets, rounds) = self.solve(true, |v| {
+            (leaving(v), set_if(!self.is_label(v) || open(v), EVERY))
+        });
+        for (v, set) in sets.iter_mut().enumerate() {
+            *set = leaving(v) | set_if(open(v), *set);
+        }
+        (sets, rounds)
+    }
+}
