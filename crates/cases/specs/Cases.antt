@@ -178,13 +178,9 @@ path2 = 0 ∷ 0 ∷ 1 ∷ 0 ∷ 2 ∷ 0 ∷ 3 ∷ 0 ∷ 4 ∷ 0 ∷ 5 ∷ 0 ∷ 
 abbrev pub path4 : List ℕ
 path4 = 0 ∷ 0 ∷ 1 ∷ 0 ∷ 3 ∷ 0 ∷ 4 ∷ 0 ∷ []
 
--- 0 1 2 3 4
+-- 0 1 2 3 4, of cases 5 and 6
 abbrev pub path5 : List ℕ
 path5 = 0 ∷ 0 ∷ 1 ∷ 0 ∷ 2 ∷ 0 ∷ 3 ∷ 0 ∷ 4 ∷ 0 ∷ []
-
--- 0 1 2 3 4
-abbrev pub path6 : List ℕ
-path6 = 0 ∷ 0 ∷ 1 ∷ 0 ∷ 2 ∷ 0 ∷ 3 ∷ 0 ∷ 4 ∷ 0 ∷ []
 
 -- 0 1 2 3 4 5 6
 abbrev pub pathU : List ℕ
@@ -296,7 +292,7 @@ case6 =
     runs
     (record {
       file = S;
-      path = path6;
+      path = path5;
       copies = 1;
       against = 2;
       reads = seen 2 2 ∷ [];

@@ -12,7 +12,7 @@ use Rattle.routine.specs.Actions.{action, isRemap}
 use Rattle.routine.specs.Arrays.{arrayOf}
 use Rattle.routine.specs.Layout.{vertices, edgesAt}
 
--- the width of a version set: the one place where it is a number
+-- the width of a version set, for all label rules
 abbrev pub width : ℕ
 width = 16
 

@@ -1,13 +1,15 @@
 -- The ways out of the call `plan`: what the checks say, as the definition's answer.
 -- Assumes nothing.
-use mathlib.Core.Path.{_≡_}
+use mathlib.Core.Path.{_≡_, refl, ap, _∙_}
 use mathlib.Core.List.{List}
 use Prim.Native.Nat.{ℕ, _≤_, _<_}
 use borrow.Author.Tests.{le-leb, lt-leb}
 use Rattle.labels.specs.Checks.{programmerCheck}
-use Rattle.plan.specs.Calls.{planCheck, planOf}
+use Rattle.plan.specs.Calls.{planCheck, planReply, planOf}
 use Rattle.plan.specs.Plan.{planLength}
-use Rattle.routine.specs.Reader.{readOf}
+use Rattle.routine.specs.Checks.{_andThen_}
+use Rattle.routine.specs.Layout.{headerOf}
+use Rattle.routine.specs.Reader.{formCheck, bodyCheck, answered, readOf}
 use Rattle.routine.specs.Replies.{written, deniedOf}
 use Rattle.routine.specs.declared.header.Header.{Header}
 use Rattle.routine.specs.declared.reader.Answer.{Answer}
@@ -17,6 +19,18 @@ use Rattle.routine.specs.declared.refusal.Refusal.the-variants.{ShortPlanBuffer
 use Rattle.routine.specs.declared.refusal.Reply.the-variants.{Written, Denied}
 use Rattle.routine.specs.declared.refusal.Verdict.{Verdict}
 use Rattle.routine.specs.declared.refusal.Verdict.the-variants.{Passed, Failed}
+use Rattle.routine.proofs.Laws.{then-assoc}
+
+-- checks run 10 to 16, 20, 21, then for a plan 1: the reply in one line
+pub plan-in-order : (file : List ℕ) (size : ℕ) → planOf file size ≡ written (formCheck file andThen bodyCheck file andThen planCheck file size) (planLength file)
+unfolding planOf readOf
+plan-in-order file size =
+    by-verdict (formCheck file andThen bodyCheck file)
+    ∙ ap (λ (v : Verdict). written v (planLength file)) (then-assoc (formCheck file) (bodyCheck file) (planCheck file size))
+  where
+    by-verdict : (v : Verdict) → planReply (answered v (headerOf file)) file size ≡ written (v andThen planCheck file size) (planLength file)
+    by-verdict Passed = refl
+    by-verdict (Failed r) = refl
 
 module _ (file : List ℕ) (size : ℕ) {v : Verdict} (is : v ≡ programmerCheck file) where
   -- 20 or 21

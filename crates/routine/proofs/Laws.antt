@@ -31,6 +31,10 @@ passes is e next = rw (← is, e) next
 pub goes-on : {v w x : Verdict} → v ≡ Passed → w ≡ x → (v andThen w) ≡ x
 goes-on p e = sym (passes refl p (sym e))
 
+pub then-assoc : (u v w : Verdict) → ((u andThen v) andThen w) ≡ (u andThen v andThen w)
+then-assoc Passed v w = refl
+then-assoc (Failed r) v w = refl
+
 -- the verdict on an action byte goes by the test and the place
 pub of-byte : {bad wrong : Bool} {at place : ℕ} → bad ≡ wrong → at ≡ place → holds (not bad) (WrongActionByte at) ≡ holds (not wrong) (WrongActionByte place)
 of-byte e f = ap₂ (λ (bad : Bool) (at : ℕ). holds (not bad) (WrongActionByte at)) e f

@@ -1,11 +1,13 @@
 -- The ways out of the call `run`: what the checks say, as the definition's answer.
 -- Assumes nothing.
-use mathlib.Core.Path.{_≡_}
+use mathlib.Core.Path.{_≡_, refl, ap, _∙_}
 use mathlib.Core.List.{List}
 use Prim.Native.Nat.{ℕ, _≤_, _<_}
 use borrow.Author.Tests.{le-leb, lt-leb}
 use Rattle.labels.specs.Checks.{programmerCheck}
-use Rattle.routine.specs.Reader.{readOf}
+use Rattle.routine.specs.Checks.{_andThen_}
+use Rattle.routine.specs.Layout.{headerOf}
+use Rattle.routine.specs.Reader.{formCheck, bodyCheck, answered, readOf}
 use Rattle.routine.specs.Replies.{written, deniedOf}
 use Rattle.routine.specs.declared.header.Header.{Header}
 use Rattle.routine.specs.declared.reader.Answer.{Answer}
@@ -16,9 +18,22 @@ use Rattle.routine.specs.declared.refusal.Reply.{Reply}
 use Rattle.routine.specs.declared.refusal.Reply.the-variants.{Written, Denied}
 use Rattle.routine.specs.declared.refusal.Verdict.{Verdict}
 use Rattle.routine.specs.declared.refusal.Verdict.the-variants.{Passed, Failed}
-use Rattle.run.specs.Calls.{runCheck, runOf, DemandMet}
+use Rattle.routine.proofs.Laws.{then-assoc}
+use Rattle.run.specs.Calls.{runCheck, runReply, runOf, DemandMet}
 use Rattle.run.specs.Paths.{pathCheck}
 use Rattle.run.specs.Report.{reportLength}
+
+-- checks run 10 to 16, 20, 21, for a run 30 to 32, then 2: the reply in one line
+pub run-in-order : (file path : List ℕ) (size : ℕ)
+    → runOf file path size ≡ written (formCheck file andThen bodyCheck file andThen runCheck file path size) (reportLength file path)
+unfolding runOf readOf
+run-in-order file path size =
+    by-verdict (formCheck file andThen bodyCheck file)
+    ∙ ap (λ (v : Verdict). written v (reportLength file path)) (then-assoc (formCheck file) (bodyCheck file) (runCheck file path size))
+  where
+    by-verdict : (v : Verdict) → runReply (answered v (headerOf file)) file path size ≡ written (v andThen runCheck file path size) (reportLength file path)
+    by-verdict Passed = refl
+    by-verdict (Failed r) = refl
 
 module _ (file path : List ℕ) (size : ℕ) {v : Verdict} (is : v ≡ programmerCheck file) where
   -- 20 or 21
