@@ -8,7 +8,7 @@ ghost use Rattle.flow.specs.Paths.{edgeCount};
 ghost use Rattle.flow.specs.Solver.{relaxed, swept, Tables, Advanced, Solved};
 
 // Empties every set.
-fn clear(sets: &mut [u16])
+fn clear(sets: &mut [u64])
     ensures { λ r. ⌜ now (sets .exit) ≡ replicate (length (now (sets .entry))) 0 ⌝ }
 {
     for v in 0..sets.len() {
@@ -30,9 +30,9 @@ fn pick(first: bool, a: usize, b: usize) -> usize
 fn relax(
     edges: &[u8],
     along: bool,
-    gives: &[u16],
-    passes: &[u16],
-    sets: &mut [u16],
+    gives: &[u64],
+    passes: &[u64],
+    sets: &mut [u64],
     i: usize,
 ) -> bool
     requires { ⌜ Tables (now edges) (now gives) (now passes) (now sets) ⌝ }
@@ -55,7 +55,7 @@ fn relax(
 }
 
 // Takes every edge once, in the order in which facts travel. Says whether a set was altered.
-fn round(edges: &[u8], along: bool, gives: &[u16], passes: &[u16], sets: &mut [u16]) -> bool
+fn round(edges: &[u8], along: bool, gives: &[u64], passes: &[u64], sets: &mut [u64]) -> bool
     requires { ⌜ Tables (now edges) (now gives) (now passes) (now sets) ⌝ }
     ensures { λ r. ⌜ Advanced
         (swept (now (edges .entry)) along (now (gives .entry)) (now (passes .entry)) (now (sets .entry)) (edgeCount (now (edges .entry))))
@@ -71,7 +71,7 @@ fn round(edges: &[u8], along: bool, gives: &[u16], passes: &[u16], sets: &mut [u
 }
 
 // Fills in the sets of all vertices, one for each entry of `sets`, and returns the number of rounds. The last round alters no set.
-pub fn solve(edges: &[u8], along: bool, gives: &[u16], passes: &[u16], sets: &mut [u16]) -> usize
+pub fn solve(edges: &[u8], along: bool, gives: &[u64], passes: &[u64], sets: &mut [u64]) -> usize
     requires { ⌜ Tables (now edges) (now gives) (now passes) (now sets) ⌝ }
     ensures { λ r. ⌜ Solved
         (now (edges .entry)) along (now (gives .entry)) (now (passes .entry)) (length (now (sets .entry)))

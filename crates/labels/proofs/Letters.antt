@@ -20,7 +20,7 @@ use Rattle.routine.specs.declared.header.Header.{Header}
 use Rattle.words.proofs.Tables.{table-at, rows-length}
 use Rattle.words.specs.Tables.{rows}
 use Rattle.labels.proofs.Bounds.{letters-length, entries}
-use Rattle.labels.proofs.Rows.{part, row-of}
+use Rattle.labels.proofs.Rows.{part, rows-inside, rows-row}
 
 pub letter-use : (u : Use) → useOfByte (letterByte u) ≡ u
 letter-use N = refl
@@ -37,12 +37,10 @@ letter-at file a {letters} {v} e h =
 -- the letters of all arrays, by the header
 module _ {file : List ℕ} {h : Header} (is : ReadAs file h) {letters : List ℕ} (e : letters ≡ rows (letterTable file) (arrays file)) where
   pub letters-inside : {a : ℕ} → a < h .arrays → a * h .vertices + h .vertices ≤ length letters
-  letters-inside l =
-      omega (arith, ap length e, rows-length (letterTable file) (vertices file) (letters-length file) (arrays file), entries is, mul-le-mul-right (h .vertices) l)
+  letters-inside l = rows-inside is (letterTable file) (letters-length file) e l
 
   pub letters-row : {a : ℕ} → a < h .arrays → part letters (a * h .vertices) (h .vertices) ≡ letterTable file a
-  letters-row l =
-      row-of (letterTable file) (λ i. letters-length file i ∙ sym (is .heads .vertices-are)) (e ∙ ap (rows (letterTable file)) (sym (is .heads .arrays-are))) l
+  letters-row l = rows-row is (letterTable file) (letters-length file) e l
 
 -- a kept label, by its event and its letter
 pub kept-is : (file : List ℕ) (a v : ℕ) {x : Action} {u : Use} {k : Bool}

@@ -1,8 +1,8 @@
 -- Laws of the loops that write one row after the other, each into a part of the table that is lent.
 -- Assumes nothing.
-use mathlib.Core.Path.{_≡_, sym, ap, ap₂, _∙_}
+use mathlib.Core.Path.{_≡_, refl, sym, ap, ap₂, _∙_}
 use mathlib.Core.List.{List, _++_, append-assoc, append-nil}
-use Prim.Native.Nat.{ℕ, _+_, _-_, _*_, _≤_, _<_}
+use Prim.Native.Nat.{ℕ, zero, suc, _+_, _-_, _*_, _≤_, _<_}
 use native.Mathlib.Nat.{zero-mul, le-antisymm, mul-le-mul-right}
 use native.Mathlib.Numerals.{add-one}
 use native.Mathlib.Omega.{arith}
@@ -87,6 +87,10 @@ module _ {row : ℕ → List ℕ} {w m : ℕ} {old new : List ℕ} {a : ℕ} (t 
       longer : length (rows row (a + 1) ++ drop ((a + 1) * w) old) ≡ m * w
       longer = simp (length-append, length-drop) (omega (arith, rows-length row w (t .wide) (a + 1), row-inside h, more, t .whole))
 
+  -- the rows behind are as they were
+  pub row-still : a < m → part new (a * w) w ≡ part old (a * w) w
+  row-still h = ap (take (a * w + w - a * w)) (ap (drop (a * w)) (t .is) ∙ drop-at (rows row a) (drop (a * w) old) (a * w) written)
+
   all-rows : m ≤ a → new ≡ rows row m
   all-rows h =
       let e = le-antisymm (t .within) h in
@@ -114,3 +118,17 @@ module _ {file : List ℕ} {h : Header} (is : ReadAs file h) {row : ℕ → List
 
     pub end-all : h .arrays ≤ a → new ≡ rows row (arrays file)
     end-all l = all-rows t l ∙ ap (rows row) (is .heads .arrays-are)
+
+-- a table that was written
+module _ {file : List ℕ} {h : Header} (is : ReadAs file h) (row : ℕ → List ℕ) (wide : (i : ℕ) → length (row i) ≡ vertices file) {xs : List ℕ} (e : xs ≡ rows row (arrays file)) where
+  pub rows-inside : {a : ℕ} → a < h .arrays → a * h .vertices + h .vertices ≤ length xs
+  rows-inside l = omega (arith, ap length e, rows-length row (vertices file) wide (arrays file), entries is, mul-le-mul-right (h .vertices) l)
+
+  pub rows-row : {a : ℕ} → a < h .arrays → part xs (a * h .vertices) (h .vertices) ≡ row a
+  rows-row l = row-of row (λ i. wide i ∙ sym (is .heads .vertices-are)) (e ∙ ap (rows row) (sym (is .heads .arrays-are))) l
+
+-- rows that agree as far as a table goes
+pub rows-ext : {f g : ℕ → List ℕ} (m : ℕ) → ((a : ℕ) → a < m → f a ≡ g a) → rows f m ≡ rows g m
+unfolding rows
+rows-ext zero h = refl
+rows-ext (suc m) h = ap₂ (λ (x y : List ℕ). x ++ y) (rows-ext m (λ a l. h a (omega arith))) (h m (omega arith))

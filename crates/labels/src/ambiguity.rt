@@ -1,20 +1,19 @@
 // The versions that paths from the entry bring (document 01, refusal 21).
 use crate::event;
-use crate::pass;
 use crate::reaching;
 use routine::array;
 use routine::header::Header;
 ghost use mathlib.Core.Path.{_≡_};
-ghost use Prim.Native.Nat.{_<_};
+ghost use Prim.Native.Nat.{_*_, _<_};
 ghost use lib.ListN.{length};
-ghost use Rattle.labels.specs.Ambiguity.{arriveGives, arrivePasses, arrivingSets};
+ghost use Rattle.labels.specs.Ambiguity.{arriveGives, arrivePasses};
 ghost use Rattle.labels.specs.Reaching.{reachedSets};
 ghost use Rattle.labels.specs.Routines.{ReadAs};
 ghost use Rattle.routine.specs.Layout.{arrays, vertices};
-ghost use Rattle.words.specs.Tables.{table};
+ghost use Rattle.words.specs.Tables.{table, rows};
 
 // The tables of the pass for array a.
-fn fill(file: &[u8], h: Header, a: usize, reached: &[u16], gives: &mut [u16], passes: &mut [u16])
+fn fill(file: &[u8], h: Header, a: usize, reached: &[u64], gives: &mut [u16], passes: &mut [u16])
     requires { ⌜ ReadAs (now file) h ⌝ }
     requires { ⌜ a < arrays (now file) ⌝ }
     requires { ⌜ now reached ≡ reachedSets (now file) ⌝ }
@@ -36,24 +35,29 @@ fn fill(file: &[u8], h: Header, a: usize, reached: &[u16], gives: &mut [u16], pa
     }
 }
 
-// The arriving versions of array a, a set for each vertex.
-pub fn arriving_of(
-    file: &[u8],
-    h: Header,
-    a: usize,
-    reached: &[u16],
-    gives: &mut [u16],
-    passes: &mut [u16],
-    sets: &mut [u16],
-)
+// The tables of the pass for all arrays.
+pub fn fill_all(file: &[u8], h: Header, reached: &[u64], gives: &mut [u16], passes: &mut [u16])
     requires { ⌜ ReadAs (now file) h ⌝ }
-    requires { ⌜ a < arrays (now file) ⌝ }
     requires { ⌜ now reached ≡ reachedSets (now file) ⌝ }
-    requires { ⌜ length (now gives) ≡ vertices (now file) ⌝ }
-    requires { ⌜ length (now passes) ≡ vertices (now file) ⌝ }
-    requires { ⌜ length (now sets) ≡ vertices (now file) ⌝ }
-    ensures { λ _. ⌜ now (sets .exit) ≡ arrivingSets (now (file .entry)) a ⌝ }
+    requires { ⌜ length (now gives) ≡ arrays (now file) * vertices (now file) ⌝ }
+    requires { ⌜ length (now passes) ≡ arrays (now file) * vertices (now file) ⌝ }
+    ensures { λ _. ⌜ now (gives .exit) ≡ rows (λ a. table (arriveGives (now (file .entry)) a) (vertices (now (file .entry)))) (arrays (now (file .entry))) ⌝ }
+    ensures { λ _. ⌜ now (passes .exit) ≡ rows (λ a. table (arrivePasses (now (file .entry)) a) (vertices (now (file .entry)))) (arrays (now (file .entry))) ⌝ }
 {
-    fill(file, h, a, reached, gives, passes);
-    pass::solve(file, h, false, gives, passes, sets);
+    let n = h.vertices;
+    let m = h.arrays;
+    let mut a = 0;
+    while a < m {
+        let from = a * n;
+        let to = from + n;
+        fill(
+            file,
+            h,
+            a,
+            reached,
+            &mut gives[from..to],
+            &mut passes[from..to],
+        );
+        a += 1;
+    }
 }

@@ -138,28 +138,28 @@ pub fn check_ambiguous(file: &[u8], h: Header, arriving: &[u16]) -> Verdict
     Verdict::Passed
 }
 
-// Refusals 20 and 21. `all` holds an entry for each array and vertex, the other work slices one for each vertex; `reached` is left with
-// what the pass that computes it says.
+// Refusals 20 and 21. `reached` holds an entry for each vertex and is left with what the pass that computes it says; the other work slices
+// hold one for each array and vertex.
 pub fn check(
     file: &[u8],
     h: Header,
     all: &mut [u16],
-    reached: &mut [u16],
+    reached: &mut [u64],
     gives: &mut [u16],
     passes: &mut [u16],
 ) -> Verdict
     requires { ⌜ ReadAs (now file) h ⌝ }
     requires { ⌜ length (now all) ≡ arrays (now file) * vertices (now file) ⌝ }
     requires { ⌜ length (now reached) ≡ vertices (now file) ⌝ }
-    requires { ⌜ length (now gives) ≡ vertices (now file) ⌝ }
-    requires { ⌜ length (now passes) ≡ vertices (now file) ⌝ }
+    requires { ⌜ length (now gives) ≡ arrays (now file) * vertices (now file) ⌝ }
+    requires { ⌜ length (now passes) ≡ arrays (now file) * vertices (now file) ⌝ }
     ensures { λ r. ⌜ Checked (now (file .entry)) r (now (reached .exit)) ⌝ }
 {
     let writes = check_writes(file, h);
     if let Verdict::Failed(_) = writes {
         return writes;
     }
-    reaching::reached(file, h, gives, passes, reached);
+    reaching::reached(file, h, reached);
     tables::arriving(file, h, reached, all, gives, passes);
     check_ambiguous(file, h, all)
 }

@@ -1,20 +1,19 @@
 // Kept sets (document 01, "Labels").
 use crate::Use;
 use crate::event;
-use crate::pass;
 use routine::array;
 use routine::header::Header;
 ghost use mathlib.Core.Path.{_≡_};
 ghost use mathlib.Core.Bool.{cond};
-ghost use Prim.Native.Nat.{_<_};
+ghost use Prim.Native.Nat.{_*_, _<_};
 ghost use lib.Bits.{bitOr};
 ghost use lib.ListN.{length, getD};
 ghost use Rattle.labels.specs.Events.{everyVersion};
-ghost use Rattle.labels.specs.Kept.{isNOrR, passesKept, leavingSet, keptOf};
+ghost use Rattle.labels.specs.Kept.{isNOrR, passesKept, leavingSet, keptSets, keptOf};
 ghost use Rattle.labels.specs.Letters.{letterTable, useOfByte};
 ghost use Rattle.labels.specs.Routines.{ReadAs};
 ghost use Rattle.routine.specs.Layout.{arrays, vertices};
-ghost use Rattle.words.specs.Tables.{table};
+ghost use Rattle.words.specs.Tables.{table, rows};
 
 fn is_n_or_r(u: Use) -> bool
     ensures { λ r. ⌜ r ≡ isNOrR u ⌝ }
@@ -64,25 +63,53 @@ fn join(n: usize, letters: &[u8], leaving: &[u16], sets: &mut [u16])
     }
 }
 
-// The kept sets of array a.
-pub fn kept_of(
-    file: &[u8],
-    h: Header,
-    a: usize,
-    letters: &[u8],
-    gives: &mut [u16],
-    passes: &mut [u16],
-    sets: &mut [u16],
-)
+// The tables of the pass for all arrays.
+pub fn fill_all(file: &[u8], h: Header, letters: &[u8], gives: &mut [u16], passes: &mut [u16])
     requires { ⌜ ReadAs (now file) h ⌝ }
-    requires { ⌜ a < arrays (now file) ⌝ }
-    requires { ⌜ now letters ≡ letterTable (now file) a ⌝ }
-    requires { ⌜ length (now gives) ≡ vertices (now file) ⌝ }
-    requires { ⌜ length (now passes) ≡ vertices (now file) ⌝ }
-    requires { ⌜ length (now sets) ≡ vertices (now file) ⌝ }
-    ensures { λ _. ⌜ now (sets .exit) ≡ table (keptOf (now (file .entry)) a) (vertices (now (file .entry))) ⌝ }
+    requires { ⌜ now letters ≡ rows (letterTable (now file)) (arrays (now file)) ⌝ }
+    requires { ⌜ length (now gives) ≡ arrays (now file) * vertices (now file) ⌝ }
+    requires { ⌜ length (now passes) ≡ arrays (now file) * vertices (now file) ⌝ }
+    ensures { λ _. ⌜ now (gives .exit) ≡ rows (λ a. table (leavingSet (now (file .entry)) a) (vertices (now (file .entry)))) (arrays (now (file .entry))) ⌝ }
+    ensures { λ _. ⌜ now (passes .exit) ≡ rows (λ a. table (λ v. cond (passesKept (now (file .entry)) a v) everyVersion 0) (vertices (now (file .entry)))) (arrays (now (file .entry))) ⌝ }
 {
-    fill(file, h, a, letters, gives, passes);
-    pass::solve(file, h, true, gives, passes, sets);
-    join(h.vertices, letters, gives, sets);
+    let n = h.vertices;
+    let m = h.arrays;
+    let mut a = 0;
+    while a < m {
+        let from = a * n;
+        let to = from + n;
+        fill(
+            file,
+            h,
+            a,
+            &letters[from..to],
+            &mut gives[from..to],
+            &mut passes[from..to],
+        );
+        a += 1;
+    }
+}
+
+// The kept sets of all arrays, by what the solver says.
+pub fn join_all(file: &[u8], h: Header, letters: &[u8], leaving: &[u16], sets: &mut [u16])
+    requires { ⌜ ReadAs (now file) h ⌝ }
+    requires { ⌜ now letters ≡ rows (letterTable (now file)) (arrays (now file)) ⌝ }
+    requires { ⌜ now leaving ≡ rows (λ a. table (leavingSet (now file) a) (vertices (now file))) (arrays (now file)) ⌝ }
+    requires { ⌜ now sets ≡ rows (keptSets (now file)) (arrays (now file)) ⌝ }
+    ensures { λ _. ⌜ now (sets .exit) ≡ rows (λ a. table (keptOf (now (file .entry)) a) (vertices (now (file .entry)))) (arrays (now (file .entry))) ⌝ }
+{
+    let n = h.vertices;
+    let m = h.arrays;
+    let mut a = 0;
+    while a < m {
+        let from = a * n;
+        let to = from + n;
+        join(
+            n,
+            &letters[from..to],
+            &leaving[from..to],
+            &mut sets[from..to],
+        );
+        a += 1;
+    }
 }

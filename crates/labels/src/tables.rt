@@ -1,6 +1,7 @@
 // Tables of all arrays: array a's row starts at a times the vertex count.
 use crate::ambiguity;
 use crate::kept;
+use crate::pass;
 use crate::reaching;
 use crate::uses;
 use routine::header::Header;
@@ -19,7 +20,7 @@ ghost use Rattle.words.specs.Tables.{table, rows};
 pub fn arriving(
     file: &[u8],
     h: Header,
-    reached: &[u16],
+    reached: &[u64],
     all: &mut [u16],
     gives: &mut [u16],
     passes: &mut [u16],
@@ -27,19 +28,12 @@ pub fn arriving(
     requires { ⌜ ReadAs (now file) h ⌝ }
     requires { ⌜ now reached ≡ reachedSets (now file) ⌝ }
     requires { ⌜ length (now all) ≡ arrays (now file) * vertices (now file) ⌝ }
-    requires { ⌜ length (now gives) ≡ vertices (now file) ⌝ }
-    requires { ⌜ length (now passes) ≡ vertices (now file) ⌝ }
+    requires { ⌜ length (now gives) ≡ arrays (now file) * vertices (now file) ⌝ }
+    requires { ⌜ length (now passes) ≡ arrays (now file) * vertices (now file) ⌝ }
     ensures { λ _. ⌜ now (all .exit) ≡ rows (arrivingSets (now (file .entry))) (arrays (now (file .entry))) ⌝ }
 {
-    let n = h.vertices;
-    let m = h.arrays;
-    let mut a = 0;
-    while a < m {
-        let from = a * n;
-        let to = from + n;
-        ambiguity::arriving_of(file, h, a, reached, gives, passes, &mut all[from..to]);
-        a += 1;
-    }
+    ambiguity::fill_all(file, h, reached, gives, passes);
+    pass::solve(file, h, false, gives, passes, all);
 }
 
 // The letters.
@@ -53,27 +47,21 @@ pub fn letters(
 )
     requires { ⌜ ReadAs (now file) h ⌝ }
     requires { ⌜ length (now all) ≡ arrays (now file) * vertices (now file) ⌝ }
-    requires { ⌜ length (now gives) ≡ vertices (now file) ⌝ }
-    requires { ⌜ length (now passes) ≡ vertices (now file) ⌝ }
-    requires { ⌜ length (now sets) ≡ vertices (now file) ⌝ }
+    requires { ⌜ length (now gives) ≡ arrays (now file) * vertices (now file) ⌝ }
+    requires { ⌜ length (now passes) ≡ arrays (now file) * vertices (now file) ⌝ }
+    requires { ⌜ length (now sets) ≡ arrays (now file) * vertices (now file) ⌝ }
     ensures { λ _. ⌜ now (all .exit) ≡ rows (letterTable (now (file .entry))) (arrays (now (file .entry))) ⌝ }
 {
-    let n = h.vertices;
-    let m = h.arrays;
-    let mut a = 0;
-    while a < m {
-        let from = a * n;
-        let to = from + n;
-        uses::letters_of(file, h, a, &mut all[from..to], gives, passes, sets);
-        a += 1;
-    }
+    uses::fill_all(file, h, gives, passes);
+    pass::solve(file, h, true, gives, passes, sets);
+    uses::write_all(file, h, sets, all);
 }
 
 // The reaching sets.
 pub fn reaching(
     file: &[u8],
     h: Header,
-    reached: &[u16],
+    reached: &[u64],
     letters: &[u8],
     all: &mut [u16],
     gives: &mut [u16],
@@ -83,28 +71,13 @@ pub fn reaching(
     requires { ⌜ now reached ≡ reachedSets (now file) ⌝ }
     requires { ⌜ now letters ≡ rows (letterTable (now file)) (arrays (now file)) ⌝ }
     requires { ⌜ length (now all) ≡ arrays (now file) * vertices (now file) ⌝ }
-    requires { ⌜ length (now gives) ≡ vertices (now file) ⌝ }
-    requires { ⌜ length (now passes) ≡ vertices (now file) ⌝ }
+    requires { ⌜ length (now gives) ≡ arrays (now file) * vertices (now file) ⌝ }
+    requires { ⌜ length (now passes) ≡ arrays (now file) * vertices (now file) ⌝ }
     ensures { λ _. ⌜ now (all .exit) ≡ rows (λ a. table (reachingOf (now (file .entry)) a) (vertices (now (file .entry)))) (arrays (now (file .entry))) ⌝ }
 {
-    let n = h.vertices;
-    let m = h.arrays;
-    let mut a = 0;
-    while a < m {
-        let from = a * n;
-        let to = from + n;
-        reaching::reaching_of(
-            file,
-            h,
-            a,
-            reached,
-            &letters[from..to],
-            gives,
-            passes,
-            &mut all[from..to],
-        );
-        a += 1;
-    }
+    reaching::fill_all(file, h, reached, letters, gives, passes);
+    pass::solve(file, h, false, gives, passes, all);
+    reaching::enter_all(file, h, all);
 }
 
 // The kept sets.
@@ -119,25 +92,11 @@ pub fn kept(
     requires { ⌜ ReadAs (now file) h ⌝ }
     requires { ⌜ now letters ≡ rows (letterTable (now file)) (arrays (now file)) ⌝ }
     requires { ⌜ length (now all) ≡ arrays (now file) * vertices (now file) ⌝ }
-    requires { ⌜ length (now gives) ≡ vertices (now file) ⌝ }
-    requires { ⌜ length (now passes) ≡ vertices (now file) ⌝ }
+    requires { ⌜ length (now gives) ≡ arrays (now file) * vertices (now file) ⌝ }
+    requires { ⌜ length (now passes) ≡ arrays (now file) * vertices (now file) ⌝ }
     ensures { λ _. ⌜ now (all .exit) ≡ rows (λ a. table (keptOf (now (file .entry)) a) (vertices (now (file .entry)))) (arrays (now (file .entry))) ⌝ }
 {
-    let n = h.vertices;
-    let m = h.arrays;
-    let mut a = 0;
-    while a < m {
-        let from = a * n;
-        let to = from + n;
-        kept::kept_of(
-            file,
-            h,
-            a,
-            &letters[from..to],
-            gives,
-            passes,
-            &mut all[from..to],
-        );
-        a += 1;
-    }
+    kept::fill_all(file, h, letters, gives, passes);
+    pass::solve(file, h, true, gives, passes, all);
+    kept::join_all(file, h, letters, gives, all);
 }

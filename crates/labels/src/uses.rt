@@ -1,7 +1,6 @@
 // Use, one letter for each label (document 01, "Labels").
 use crate::Use;
 use crate::event;
-use crate::pass;
 use routine::action::Access;
 use routine::action::Action;
 use routine::array;
@@ -9,7 +8,7 @@ use routine::array::ArrayRecord;
 use routine::header::Header;
 ghost use mathlib.Core.Path.{_≡_};
 ghost use mathlib.Core.Bool.{cond};
-ghost use Prim.Native.Nat.{_-_, _≤_, _<_};
+ghost use Prim.Native.Nat.{_-_, _*_, _≤_, _<_};
 ghost use lib.Dec.{eqb};
 ghost use lib.ListN.{length};
 ghost use Rattle.labels.specs.Events.{event};
@@ -17,7 +16,7 @@ ghost use Rattle.labels.specs.Routines.{ReadAs};
 ghost use Rattle.labels.specs.Uses.{useGives, usePasses, useSets, letterOf, exitUse};
 ghost use Rattle.labels.specs.Letters.{letterTable};
 ghost use Rattle.routine.specs.Layout.{arrays, vertices};
-ghost use Rattle.words.specs.Tables.{table};
+ghost use Rattle.words.specs.Tables.{table, rows};
 
 // What an event gives to the sets of use.
 fn gives_of(x: Action) -> u16
@@ -128,25 +127,39 @@ fn write(file: &[u8], h: Header, a: usize, sets: &[u16], letters: &mut [u8])
     }
 }
 
-// The letters of array a, a byte for each vertex.
-pub fn letters_of(
-    file: &[u8],
-    h: Header,
-    a: usize,
-    letters: &mut [u8],
-    gives: &mut [u16],
-    passes: &mut [u16],
-    sets: &mut [u16],
-)
+// The tables for all arrays.
+pub fn fill_all(file: &[u8], h: Header, gives: &mut [u16], passes: &mut [u16])
     requires { ⌜ ReadAs (now file) h ⌝ }
-    requires { ⌜ a < arrays (now file) ⌝ }
-    requires { ⌜ length (now letters) ≡ vertices (now file) ⌝ }
-    requires { ⌜ length (now gives) ≡ vertices (now file) ⌝ }
-    requires { ⌜ length (now passes) ≡ vertices (now file) ⌝ }
-    requires { ⌜ length (now sets) ≡ vertices (now file) ⌝ }
-    ensures { λ _. ⌜ now (letters .exit) ≡ letterTable (now (file .entry)) a ⌝ }
+    requires { ⌜ length (now gives) ≡ arrays (now file) * vertices (now file) ⌝ }
+    requires { ⌜ length (now passes) ≡ arrays (now file) * vertices (now file) ⌝ }
+    ensures { λ _. ⌜ now (gives .exit) ≡ rows (λ a. table (λ v. useGives (event (now (file .entry)) a v)) (vertices (now (file .entry)))) (arrays (now (file .entry))) ⌝ }
+    ensures { λ _. ⌜ now (passes .exit) ≡ rows (λ a. table (λ v. usePasses (event (now (file .entry)) a v)) (vertices (now (file .entry)))) (arrays (now (file .entry))) ⌝ }
 {
-    fill(file, h, a, gives, passes);
-    pass::solve(file, h, true, gives, passes, sets);
-    write(file, h, a, sets, letters);
+    let n = h.vertices;
+    let m = h.arrays;
+    let mut a = 0;
+    while a < m {
+        let from = a * n;
+        let to = from + n;
+        fill(file, h, a, &mut gives[from..to], &mut passes[from..to]);
+        a += 1;
+    }
+}
+
+// The letters of all arrays.
+pub fn write_all(file: &[u8], h: Header, sets: &[u16], letters: &mut [u8])
+    requires { ⌜ ReadAs (now file) h ⌝ }
+    requires { ⌜ now sets ≡ rows (useSets (now file)) (arrays (now file)) ⌝ }
+    requires { ⌜ length (now letters) ≡ arrays (now file) * vertices (now file) ⌝ }
+    ensures { λ _. ⌜ now (letters .exit) ≡ rows (letterTable (now (file .entry))) (arrays (now (file .entry))) ⌝ }
+{
+    let n = h.vertices;
+    let m = h.arrays;
+    let mut a = 0;
+    while a < m {
+        let from = a * n;
+        let to = from + n;
+        write(file, h, a, &sets[from..to], &mut letters[from..to]);
+        a += 1;
+    }
 }

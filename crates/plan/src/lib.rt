@@ -24,30 +24,28 @@ ghost use Rattle.routine.specs.Layout.{arrays, vertices};
 fn tabulate(
     file: &[u8],
     h: Header,
-    reached: &[u16],
+    reached: &[u64],
     letters: &mut [u8],
     reaching: &mut [u16],
     kept: &mut [u16],
     gives: &mut [u16],
     passes: &mut [u16],
-    sets: &mut [u16],
 )
     requires { ⌜ ReadAs (now file) h ⌝ }
     requires { ⌜ now reached ≡ reachedSets (now file) ⌝ }
     requires { ⌜ length (now letters) ≡ arrays (now file) * vertices (now file) ⌝ }
     requires { ⌜ length (now reaching) ≡ arrays (now file) * vertices (now file) ⌝ }
     requires { ⌜ length (now kept) ≡ arrays (now file) * vertices (now file) ⌝ }
-    requires { ⌜ length (now gives) ≡ vertices (now file) ⌝ }
-    requires { ⌜ length (now passes) ≡ vertices (now file) ⌝ }
-    requires { ⌜ length (now sets) ≡ vertices (now file) ⌝ }
+    requires { ⌜ length (now gives) ≡ arrays (now file) * vertices (now file) ⌝ }
+    requires { ⌜ length (now passes) ≡ arrays (now file) * vertices (now file) ⌝ }
     ensures { λ _. ⌜ Tabled (now (file .entry)) (now (letters .exit)) (now (reaching .exit)) (now (kept .exit)) ⌝ }
 {
-    tables::letters(file, h, letters, gives, passes, sets);
+    tables::letters(file, h, letters, gives, passes, kept);
     tables::reaching(file, h, reached, letters, reaching, gives, passes);
     tables::kept(file, h, letters, kept, gives, passes);
 }
 
-// Plans a routine that was read. The tables hold an entry for each array and vertex, the other work slices one for each vertex.
+// Plans a routine that was read. `reached` holds an entry for each vertex, the other tables one for each array and vertex.
 fn plan_with(
     file: &[u8],
     h: Header,
@@ -55,19 +53,17 @@ fn plan_with(
     letters: &mut [u8],
     reaching: &mut [u16],
     kept: &mut [u16],
-    reached: &mut [u16],
+    reached: &mut [u64],
     gives: &mut [u16],
     passes: &mut [u16],
-    sets: &mut [u16],
 ) -> Reply
     requires { ⌜ ReadAs (now file) h ⌝ }
     requires { ⌜ length (now letters) ≡ arrays (now file) * vertices (now file) ⌝ }
     requires { ⌜ length (now reaching) ≡ arrays (now file) * vertices (now file) ⌝ }
     requires { ⌜ length (now kept) ≡ arrays (now file) * vertices (now file) ⌝ }
     requires { ⌜ length (now reached) ≡ vertices (now file) ⌝ }
-    requires { ⌜ length (now gives) ≡ vertices (now file) ⌝ }
-    requires { ⌜ length (now passes) ≡ vertices (now file) ⌝ }
-    requires { ⌜ length (now sets) ≡ vertices (now file) ⌝ }
+    requires { ⌜ length (now gives) ≡ arrays (now file) * vertices (now file) ⌝ }
+    requires { ⌜ length (now passes) ≡ arrays (now file) * vertices (now file) ⌝ }
     ensures { λ r. ⌜ PlannedRead (now (file .entry)) (now (out .entry)) r (now (out .exit)) ⌝ }
 {
     let checked = checks::check(file, h, kept, reached, gives, passes);
@@ -78,17 +74,7 @@ fn plan_with(
     if out.len() < needed {
         return Reply::Denied(Refusal::ShortPlanBuffer { needed });
     }
-    tabulate(
-        file,
-        h,
-        reached,
-        letters,
-        reaching,
-        kept,
-        gives,
-        passes,
-        sets,
-    );
+    tabulate(file, h, reached, letters, reaching, kept, gives, passes);
     writer::write(file, h, letters, reaching, kept, out);
     Reply::Written(needed)
 }
@@ -101,19 +87,17 @@ fn plan_within(
     letters: &mut [u8],
     reaching: &mut [u16],
     kept: &mut [u16],
-    reached: &mut [u16],
+    reached: &mut [u64],
     gives: &mut [u16],
     passes: &mut [u16],
-    sets: &mut [u16],
 ) -> Reply
     requires { ⌜ ReadAs (now file) h ⌝ }
     requires { ⌜ length (now letters) ≡ 2048 ⌝ }
     requires { ⌜ length (now reaching) ≡ 2048 ⌝ }
     requires { ⌜ length (now kept) ≡ 2048 ⌝ }
     requires { ⌜ length (now reached) ≡ 256 ⌝ }
-    requires { ⌜ length (now gives) ≡ 256 ⌝ }
-    requires { ⌜ length (now passes) ≡ 256 ⌝ }
-    requires { ⌜ length (now sets) ≡ 256 ⌝ }
+    requires { ⌜ length (now gives) ≡ 2048 ⌝ }
+    requires { ⌜ length (now passes) ≡ 2048 ⌝ }
     ensures { λ r. ⌜ PlannedRead (now (file .entry)) (now (out .entry)) r (now (out .exit)) ⌝ }
 {
     let n = h.vertices;
@@ -126,9 +110,8 @@ fn plan_within(
         &mut reaching[..all],
         &mut kept[..all],
         &mut reached[..n],
-        &mut gives[..n],
-        &mut passes[..n],
-        &mut sets[..n],
+        &mut gives[..all],
+        &mut passes[..all],
     )
 }
 
@@ -139,10 +122,9 @@ fn plan_read(file: &[u8], h: Header, out: &mut [u8]) -> Reply
     let mut letters = [0u8; 2048];
     let mut reaching = [0u16; 2048];
     let mut kept = [0u16; 2048];
-    let mut reached = [0u16; 256];
-    let mut gives = [0u16; 256];
-    let mut passes = [0u16; 256];
-    let mut sets = [0u16; 256];
+    let mut reached = [0u64; 256];
+    let mut gives = [0u16; 2048];
+    let mut passes = [0u16; 2048];
     plan_within(
         file,
         h,
@@ -153,7 +135,6 @@ fn plan_read(file: &[u8], h: Header, out: &mut [u8]) -> Reply
         &mut reached,
         &mut gives,
         &mut passes,
-        &mut sets,
     )
 }
 

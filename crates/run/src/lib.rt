@@ -28,22 +28,20 @@ fn tabulate(
     kept: &mut [u16],
     gives: &mut [u16],
     passes: &mut [u16],
-    sets: &mut [u16],
 )
     requires { ⌜ ReadAs (now file) h ⌝ }
     requires { ⌜ length (now letters) ≡ arrays (now file) * vertices (now file) ⌝ }
     requires { ⌜ length (now kept) ≡ arrays (now file) * vertices (now file) ⌝ }
-    requires { ⌜ length (now gives) ≡ vertices (now file) ⌝ }
-    requires { ⌜ length (now passes) ≡ vertices (now file) ⌝ }
-    requires { ⌜ length (now sets) ≡ vertices (now file) ⌝ }
+    requires { ⌜ length (now gives) ≡ arrays (now file) * vertices (now file) ⌝ }
+    requires { ⌜ length (now passes) ≡ arrays (now file) * vertices (now file) ⌝ }
     ensures { λ _. ⌜ Tabled (now (file .entry)) (now (letters .exit)) (now (kept .exit)) ⌝ }
 {
-    tables::letters(file, h, letters, gives, passes, sets);
+    tables::letters(file, h, letters, gives, passes, kept);
     tables::kept(file, h, letters, kept, gives, passes);
 }
 
-// Runs a path through a routine that was read. The tables hold an entry for each array and vertex, the other work slices one for each
-// vertex.
+// Runs a path through a routine that was read. `counts` and `reached` hold an entry for each vertex, the other tables one for each array
+// and vertex.
 fn run_with(
     file: &[u8],
     h: Header,
@@ -52,7 +50,7 @@ fn run_with(
     letters: &mut [u8],
     kept: &mut [u16],
     counts: &mut [u8],
-    reached: &mut [u16],
+    reached: &mut [u64],
     gives: &mut [u16],
     passes: &mut [u16],
 ) -> Reply
@@ -61,8 +59,8 @@ fn run_with(
     requires { ⌜ length (now kept) ≡ arrays (now file) * vertices (now file) ⌝ }
     requires { ⌜ length (now counts) ≡ vertices (now file) ⌝ }
     requires { ⌜ length (now reached) ≡ vertices (now file) ⌝ }
-    requires { ⌜ length (now gives) ≡ vertices (now file) ⌝ }
-    requires { ⌜ length (now passes) ≡ vertices (now file) ⌝ }
+    requires { ⌜ length (now gives) ≡ arrays (now file) * vertices (now file) ⌝ }
+    requires { ⌜ length (now passes) ≡ arrays (now file) * vertices (now file) ⌝ }
     ensures { λ r. ⌜ RanRead (now (file .entry)) (now (path .entry)) (now (out .entry)) r (now (out .exit)) ⌝ }
 {
     let checked = checks::check(file, h, kept, reached, gives, passes);
@@ -77,7 +75,7 @@ fn run_with(
     if out.len() < needed {
         return Reply::Denied(Refusal::ShortReportBuffer { needed });
     }
-    tabulate(file, h, letters, kept, gives, passes, reached);
+    tabulate(file, h, letters, kept, gives, passes);
     walk::write(file, h, path, letters, kept, out);
     Reply::Written(needed)
 }
@@ -91,7 +89,7 @@ fn run_within(
     letters: &mut [u8],
     kept: &mut [u16],
     counts: &mut [u8],
-    reached: &mut [u16],
+    reached: &mut [u64],
     gives: &mut [u16],
     passes: &mut [u16],
 ) -> Reply
@@ -100,8 +98,8 @@ fn run_within(
     requires { ⌜ length (now kept) ≡ 2048 ⌝ }
     requires { ⌜ length (now counts) ≡ 256 ⌝ }
     requires { ⌜ length (now reached) ≡ 256 ⌝ }
-    requires { ⌜ length (now gives) ≡ 256 ⌝ }
-    requires { ⌜ length (now passes) ≡ 256 ⌝ }
+    requires { ⌜ length (now gives) ≡ 2048 ⌝ }
+    requires { ⌜ length (now passes) ≡ 2048 ⌝ }
     ensures { λ r. ⌜ RanRead (now (file .entry)) (now (path .entry)) (now (out .entry)) r (now (out .exit)) ⌝ }
 {
     let n = h.vertices;
@@ -115,8 +113,8 @@ fn run_within(
         &mut kept[..all],
         &mut counts[..n],
         &mut reached[..n],
-        &mut gives[..n],
-        &mut passes[..n],
+        &mut gives[..all],
+        &mut passes[..all],
     )
 }
 
@@ -127,9 +125,9 @@ fn run_read(file: &[u8], h: Header, path: &[u8], out: &mut [u8]) -> Reply
     let mut letters = [0u8; 2048];
     let mut kept = [0u16; 2048];
     let mut counts = [0u8; 256];
-    let mut reached = [0u16; 256];
-    let mut gives = [0u16; 256];
-    let mut passes = [0u16; 256];
+    let mut reached = [0u64; 256];
+    let mut gives = [0u16; 2048];
+    let mut passes = [0u16; 2048];
     run_within(
         file,
         h,

@@ -23,11 +23,8 @@ slice-aggregate-plan-within-5 c = search needs
 slice-aggregate-plan-within-6 : tie.Need-slice-aggregate-plan-within-6
 slice-aggregate-plan-within-6 c = search needs
 
-slice-aggregate-plan-within-7 : tie.Need-slice-aggregate-plan-within-7
-slice-aggregate-plan-within-7 c = search needs
-
 plan-within-requires : tie.Need-plan-within-requires
-plan-within-requires c κs = (c .before .before .before .before .before .before .before .before .before .before .pre, (refl, (refl, (refl, (refl, (refl, (refl, refl)))))))
+plan-within-requires c κs = (c .before .before .before .before .before .before .before .before .before .pre, (refl, (refl, (refl, (refl, (refl, refl))))))
 
 same-length : tie.Need-same-length
 same-length c = search needs
@@ -45,7 +42,6 @@ plan-read-spec =
     slice-aggregate-plan-within-4
     slice-aggregate-plan-within-5
     slice-aggregate-plan-within-6
-    slice-aggregate-plan-within-7
     plan-within-requires
     same-length
     returns)

@@ -16,8 +16,8 @@ use Rattle.plan.proofs.plan_with.Tie as tie
 
 check-requires : tie.Need-check-requires
 check-requires c κs =
-    let p = c .before .before .before .before .before .before .before .before .before .before .before .before .before .pre in
-    (p .0, (p .1 .1 .1 .0, (p .1 .1 .1 .1 .0, (p .1 .1 .1 .1 .1 .0, p .1 .1 .1 .1 .1 .1 .0))))
+    let p = c .before .before .before .before .before .before .before .before .before .before .before .before .pre in
+    (p .0, (p .1 .1 .1 .0, (p .1 .1 .1 .1 .0, (p .1 .1 .1 .1 .1 .0, p .1 .1 .1 .1 .1 .1))))
 
 enum-known-checked : tie.Need-enum-known-checked
 enum-known-checked c = search needs
@@ -36,7 +36,7 @@ same-length-4 c = search needs
 
 returns : tie.Need-returns
 returns c =
-    let s = c .before .before .before .before .before .before .before .before .before .before .before .before .before .before .before .before .before .before .before .before .before .before .before .before .before in
+    let s = c .before .before .before .before .before .before .before .before .before .before .before .before .before .before .before .before .before .before .before .before .before .before .before .before in
     record {
       answer = denied-way (s .args .file .now) (length (s .args .out .now)) (c .before .before .before .before .before .before .before .before .before .before .before .check .ensures .answers) (c .before .checked .given .1);
       buffer = refl;
@@ -62,7 +62,7 @@ same-length-8 c = search needs
 
 returns-2 : tie.Need-returns-2
 returns-2 c =
-    let s = c .before .before .before .before .before .before .before .before .before .before .before .before .before .before .before .before .before .before .before .before .before .before .before .before .before .before in
+    let s = c .before .before .before .before .before .before .before .before .before .before .before .before .before .before .before .before .before .before .before .before .before .before .before .before .before in
     let needed = c .before .plan-length .ensures in
     record {
       answer =
@@ -73,15 +73,15 @@ returns-2 c =
 
 tabulate-requires : tie.Need-tabulate-requires
 tabulate-requires c κs =
-    let p = c .before .before .before .before .before .before .before .before .before .before .before .before .before .before .before .before .before .before .before .before .before .before .before .before .before .before .before .before .before .before .before .before .before .pre in
-    let k = c .before .before .before .before .before .before .before .before .before .before .before .before .before .before .before .before .before .before .before .check in
-    (p .0, (k .ensures .reaches (c .before .before .before .before .before .before .before .before .before .enum-told .given .1), (p .1 .0, (p .1 .1 .0, (k .kept .1 .1 .0 ∙ p .1 .1 .1 .0, (k .kept .1 .1 .1 .1 .0 ∙ p .1 .1 .1 .1 .1 .0, (k .kept .1 .1 .1 .1 .1 .0 ∙ p .1 .1 .1 .1 .1 .1 .0, p .1 .1 .1 .1 .1 .1 .1)))))))
+    let p = c .before .before .before .before .before .before .before .before .before .before .before .before .before .before .before .before .before .before .before .before .before .before .before .before .before .before .before .before .before .before .before .pre in
+    let k = c .before .before .before .before .before .before .before .before .before .before .before .before .before .before .before .before .before .before .check in
+    (p .0, (k .ensures .reaches (c .before .before .before .before .before .before .before .before .enum-told .given .1), (p .1 .0, (p .1 .1 .0, (k .kept .1 .1 .0 ∙ p .1 .1 .1 .0, (k .kept .1 .1 .1 .1 .0 ∙ p .1 .1 .1 .1 .1 .0, k .kept .1 .1 .1 .1 .1 .0 ∙ p .1 .1 .1 .1 .1 .1))))))
 
 write-requires : tie.Need-write-requires
 write-requires c κs =
-    let s = c .before .before .before .before .before .before .before .before .before .before .before .before .before .before .before .before .before .before .before .before .before .before .before .before .before .before .before .before .before .before .before .before .before .before .before .before .before .before .before .before .before .before .before .before .before .before .before .before .before .before in
+    let s = c .before .before .before .before .before .before .before .before .before .before .before .before .before .before .before .before .before .before .before .before .before .before .before .before .before .before .before .before .before .before .before .before .before .before .before .before .before .before .before .before .before .before .before .before .before .before in
     let room = plan-length (s .args .file .now) in
-    (s .pre .0, (c .before .before .before .before .before .before .before .before .before .before .before .before .before .before .before .before .tabulate .ensures, omega (arith, room, c .before .before .before .before .before .before .before .before .before .before .before .before .before .before .before .before .before .before .before .before .before .before .before .before .before .plan-length .ensures, c .before .before .before .before .before .before .before .before .before .before .before .before .before .before .before .before .before .before .before .before .before .before .before .before .if1 .left)))
+    (s .pre .0, (c .before .before .before .before .before .before .before .before .before .before .before .before .before .before .tabulate .ensures, omega (arith, room, c .before .before .before .before .before .before .before .before .before .before .before .before .before .before .before .before .before .before .before .before .before .before .plan-length .ensures, c .before .before .before .before .before .before .before .before .before .before .before .before .before .before .before .before .before .before .before .before .before .if1 .left)))
 
 same-length-9 : tie.Need-same-length-9
 same-length-9 c = search needs
@@ -93,7 +93,7 @@ same-length-11 : tie.Need-same-length-11
 same-length-11 c = search needs
 
 same-length-12 : tie.Need-same-length-12
-same-length-12 c = c .before .before .before .before .before .before .before .before .before .before .before .before .before .before .before .before .before .before .before .tabulate .kept .1 .1 .1 .1 .1 .0 ∙ c .before .before .before .before .before .before .before .before .before .before .before .before .before .before .before .before .before .before .before .before .before .before .before .before .before .before .before .before .before .before .before .before .before .before .before .before .before .before .before .check .kept .1 .1 .0
+same-length-12 c = c .before .before .before .before .before .before .before .before .before .before .before .before .before .before .before .before .before .tabulate .kept .1 .1 .1 .1 .1 .0 ∙ c .before .before .before .before .before .before .before .before .before .before .before .before .before .before .before .before .before .before .before .before .before .before .before .before .before .before .before .before .before .before .before .before .before .before .before .before .check .kept .1 .1 .0
 
 same-length-13 : tie.Need-same-length-13
 same-length-13 c = search needs
@@ -104,18 +104,15 @@ same-length-14 c = search needs
 same-length-15 : tie.Need-same-length-15
 same-length-15 c = search needs
 
-same-length-16 : tie.Need-same-length-16
-same-length-16 c = search needs
-
 returns-3 : tie.Need-returns-3
 returns-3 c =
-    let s = c .before .before .before .before .before .before .before .before .before .before .before .before .before .before .before .before .before .before .before .before .before .before .before .before .before .before .before .before .before .before .before .before .before .before .before .before .before .before .before .before .before .before .before .before .before .before .before .before .before .before .before .before .before in
+    let s = c .before .before .before .before .before .before .before .before .before .before .before .before .before .before .before .before .before .before .before .before .before .before .before .before .before .before .before .before .before .before .before .before .before .before .before .before .before .before .before .before .before .before .before .before .before .before .before .before .before in
     let file = s .args .file .now in
-    let needed = c .before .before .before .before .before .before .before .before .before .before .before .before .before .before .before .before .before .before .before .before .before .before .before .before .before .before .before .before .plan-length .ensures in
+    let needed = c .before .before .before .before .before .before .before .before .before .before .before .before .before .before .before .before .before .before .before .before .before .before .before .before .before .plan-length .ensures in
     record {
       answer =
           ap Written needed
-          ∙ written-way file (length (s .args .out .now)) (c .before .before .before .before .before .before .before .before .before .before .before .before .before .before .before .before .before .before .before .before .before .before .before .before .before .before .before .before .before .before .before .before .before .before .before .before .before .before .before .check .ensures .answers) (c .before .before .before .before .before .before .before .before .before .before .before .before .before .before .before .before .before .before .before .before .before .before .before .before .before .before .before .before .before .enum-told .given .1) (omega (arith, needed, c .before .before .before .before .before .before .before .before .before .before .before .before .before .before .before .before .before .before .before .before .before .before .before .before .before .before .before .if1 .left));
+          ∙ written-way file (length (s .args .out .now)) (c .before .before .before .before .before .before .before .before .before .before .before .before .before .before .before .before .before .before .before .before .before .before .before .before .before .before .before .before .before .before .before .before .before .before .before .before .check .ensures .answers) (c .before .before .before .before .before .before .before .before .before .before .before .before .before .before .before .before .before .before .before .before .before .before .before .before .before .before .enum-told .given .1) (omega (arith, needed, c .before .before .before .before .before .before .before .before .before .before .before .before .before .before .before .before .before .before .before .before .before .before .before .before .if1 .left));
       buffer = c .before .before .write .ensures;
     }
 
@@ -146,5 +143,4 @@ plan-with-spec =
     same-length-13
     same-length-14
     same-length-15
-    same-length-16
     returns-3)

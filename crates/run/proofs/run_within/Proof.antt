@@ -39,7 +39,9 @@ slice-aggregate-run-with-2 c =
     sym (length-take-le _ (s .args .kept .now) (omega (arith, few s, s .pre .1 .1 .0)))
 
 slice-relend-prefix-run-with-3 : tie.Need-slice-relend-prefix-run-with-3
-slice-relend-prefix-run-with-3 c = search needs
+slice-relend-prefix-run-with-3 c =
+    let s = c .before .before .before .before .before .before .before .before .before .before .before .before .before in
+    omega (arith, small s, s .pre .1 .1 .1 .0)
 
 slice-aggregate-run-with-3 : tie.Need-slice-aggregate-run-with-3
 slice-aggregate-run-with-3 c =
@@ -47,7 +49,9 @@ slice-aggregate-run-with-3 c =
     sym (length-take-le _ (s .args .counts .now) (omega (arith, small s, s .pre .1 .1 .1 .0)))
 
 slice-relend-prefix-run-with-4 : tie.Need-slice-relend-prefix-run-with-4
-slice-relend-prefix-run-with-4 c = search needs
+slice-relend-prefix-run-with-4 c =
+    let s = c .before .before .before .before .before .before .before .before .before .before .before .before .before .before in
+    omega (arith, small s, s .pre .1 .1 .1 .1 .0)
 
 slice-aggregate-run-with-4 : tie.Need-slice-aggregate-run-with-4
 slice-aggregate-run-with-4 c =
@@ -55,25 +59,29 @@ slice-aggregate-run-with-4 c =
     sym (length-take-le _ (s .args .reached .now) (omega (arith, small s, s .pre .1 .1 .1 .1 .0)))
 
 slice-relend-prefix-run-with-5 : tie.Need-slice-relend-prefix-run-with-5
-slice-relend-prefix-run-with-5 c = search needs
+slice-relend-prefix-run-with-5 c =
+    let s = c .before .before .before .before .before .before .before .before .before .before .before .before .before .before .before in
+    omega (arith, few s, s .pre .1 .1 .1 .1 .1 .0)
 
 slice-aggregate-run-with-5 : tie.Need-slice-aggregate-run-with-5
 slice-aggregate-run-with-5 c =
     let s = c .before .before .before .before .before .before .before .before .before .before .before .before .before .before .before .before in
-    sym (length-take-le _ (s .args .gives .now) (omega (arith, small s, s .pre .1 .1 .1 .1 .1 .0)))
+    sym (length-take-le _ (s .args .gives .now) (omega (arith, few s, s .pre .1 .1 .1 .1 .1 .0)))
 
 slice-relend-prefix-run-with-6 : tie.Need-slice-relend-prefix-run-with-6
-slice-relend-prefix-run-with-6 c = search needs
+slice-relend-prefix-run-with-6 c =
+    let s = c .before .before .before .before .before .before .before .before .before .before .before .before .before .before .before .before in
+    omega (arith, few s, s .pre .1 .1 .1 .1 .1 .1)
 
 slice-aggregate-run-with-6 : tie.Need-slice-aggregate-run-with-6
 slice-aggregate-run-with-6 c =
     let s = c .before .before .before .before .before .before .before .before .before .before .before .before .before .before .before .before .before in
-    sym (length-take-le _ (s .args .passes .now) (omega (arith, small s, s .pre .1 .1 .1 .1 .1 .1)))
+    sym (length-take-le _ (s .args .passes .now) (omega (arith, few s, s .pre .1 .1 .1 .1 .1 .1)))
 
 run-with-requires : tie.Need-run-with-requires
 run-with-requires c κs =
     let s = c .before .before .before .before .before .before .before .before .before .before .before .before .before .before .before .before .before in
-    (s .pre .0, (length-take-le _ (s .args .letters .now) (omega (arith, few s, s .pre .1 .0)) ∙ entries (s .pre .0), (length-take-le _ (s .args .kept .now) (omega (arith, few s, s .pre .1 .1 .0)) ∙ entries (s .pre .0), (length-take-le _ (s .args .counts .now) (omega (arith, small s, s .pre .1 .1 .1 .0)) ∙ s .pre .0 .heads .vertices-are, (length-take-le _ (s .args .reached .now) (omega (arith, small s, s .pre .1 .1 .1 .1 .0)) ∙ s .pre .0 .heads .vertices-are, (length-take-le _ (s .args .gives .now) (omega (arith, small s, s .pre .1 .1 .1 .1 .1 .0)) ∙ s .pre .0 .heads .vertices-are, length-take-le _ (s .args .passes .now) (omega (arith, small s, s .pre .1 .1 .1 .1 .1 .1)) ∙ s .pre .0 .heads .vertices-are))))))
+    (s .pre .0, (length-take-le _ (s .args .letters .now) (omega (arith, few s, s .pre .1 .0)) ∙ entries (s .pre .0), (length-take-le _ (s .args .kept .now) (omega (arith, few s, s .pre .1 .1 .0)) ∙ entries (s .pre .0), (length-take-le _ (s .args .counts .now) (omega (arith, small s, s .pre .1 .1 .1 .0)) ∙ s .pre .0 .heads .vertices-are, (length-take-le _ (s .args .reached .now) (omega (arith, small s, s .pre .1 .1 .1 .1 .0)) ∙ s .pre .0 .heads .vertices-are, (length-take-le _ (s .args .gives .now) (omega (arith, few s, s .pre .1 .1 .1 .1 .1 .0)) ∙ entries (s .pre .0), length-take-le _ (s .args .passes .now) (omega (arith, few s, s .pre .1 .1 .1 .1 .1 .1)) ∙ entries (s .pre .0)))))))
 
 same-length : tie.Need-same-length
 same-length c = search needs

@@ -7,14 +7,15 @@ use Rattle.run.proofs.tabulate.Tie as tie
 
 letters-requires : tie.Need-letters-requires
 letters-requires c κs =
-    let p = c .before .before .before .before .before .before .before .before .before .before .pre in
-    (p .0, (p .1 .0, (p .1 .1 .1 .0, (p .1 .1 .1 .1 .0, p .1 .1 .1 .1 .1))))
+    let p = c .before .before .before .before .before .before .before .before .before .pre in
+    (p .0, (p .1 .0, (p .1 .1 .1 .0, (p .1 .1 .1 .1, p .1 .1 .0))))
 
 kept-requires : tie.Need-kept-requires
 kept-requires c κs =
-    let p = c .before .before .before .before .before .before .before .before .before .before .before .before .before .before .before .before .before .before .before .before .before .before .before .pre in
-    let l = c .before .before .before .before .before .before .before .before .before .before .before .before .letters in
-    (p .0, (l .ensures, (p .1 .1 .0, (l .kept .1 .1 .1 .0 ∙ p .1 .1 .1 .0, l .kept .1 .1 .1 .1 .0 ∙ p .1 .1 .1 .1 .0))))
+    let x = c .before .before .before .before .before .before .before .before .before .before .before .before in
+    let p = x .before .before .before .before .before .before .before .before .before .before .pre in
+    let l = x .letters in
+    (p .0, (l .ensures, (l .kept .1 .1 .1 .1 .1 .0 ∙ p .1 .1 .0, (l .kept .1 .1 .1 .0 ∙ p .1 .1 .1 .0, l .kept .1 .1 .1 .1 .0 ∙ p .1 .1 .1 .1))))
 
 same-length : tie.Need-same-length
 same-length c = search needs
@@ -27,9 +28,6 @@ same-length-3 c = search needs
 
 same-length-4 : tie.Need-same-length-4
 same-length-4 c = search needs
-
-same-length-5 : tie.Need-same-length-5
-same-length-5 c = search needs
 
 returns : tie.Need-returns
 returns c = search needs
@@ -44,5 +42,4 @@ tabulate-spec =
     same-length-2
     same-length-3
     same-length-4
-    same-length-5
     returns)

@@ -1,6 +1,6 @@
 -- `checks::check` meets its contract: 20 is answered first, then 21, by the arriving versions of all arrays.
 -- Assumes nothing.
-use mathlib.Core.Path.{_≡_, _∙_}
+use mathlib.Core.Path.{_≡_}
 use Prim.Native.Nat.{ℕ}
 use native.Mathlib.Omega.{arith}
 use borrow.Author.Needs.{needs}
@@ -28,18 +28,16 @@ enum-told-2 : tie.Need-enum-told-2
 enum-told-2 c = search needs
 
 reached-requires : tie.Need-reached-requires
-reached-requires c κs =
-    let p = c .before .before .before .before .before .before .before .before .before .before .before .pre in
-    (p .0, (p .1 .1 .1 .0, (p .1 .1 .1 .1, p .1 .1 .0)))
+reached-requires c κs = let p = c .before .before .before .before .before .before .before .before .before .pre in (p .0, p .1 .1 .0)
 
 arriving-requires : tie.Need-arriving-requires
 arriving-requires c κs =
-    let p = c .before .before .before .before .before .before .before .before .before .before .before .before .before .before .before .before .before .before .before .before .before .before .pre in
-    let r = c .before .before .before .before .before .before .before .before .before .before .reached in
-    (p .0, (r .ensures, (p .1 .0, (r .kept .1 .1 .0 ∙ p .1 .1 .1 .0, r .kept .1 .1 .1 .0 ∙ p .1 .1 .1 .1))))
+    let x = c .before .before .before .before .before .before in
+    let p = x .before .before .before .before .before .before .before .before .before .before .pre in
+    (p .0, (x .reached .ensures, (p .1 .0, (p .1 .1 .1 .0, p .1 .1 .1 .1))))
 
 check-ambiguous-requires : tie.Need-check-ambiguous-requires
-check-ambiguous-requires c κs = search needs
+check-ambiguous-requires c κs = let x = c .before .before .before .before .before .before .before in (x .before .before .before .before .before .before .before .before .before .before .before .before .before .before .before .before .before .pre .0, x .arriving .ensures)
 
 same-length : tie.Need-same-length
 same-length c = search needs
@@ -56,10 +54,11 @@ same-length-4 c = search needs
 returns-2 : tie.Need-returns-2
 unfolding programmerCheck
 returns-2 c =
-    let t = c .before .before .before .before .before .before .before .before .before .before .before .before .before .before .before .before .before .before .before .before .before .before .before in
+    let x = c .before .before .before .before .before .before .before .before .before .before .before .before .before .before .before in
+    let t = x .before .before in
     record {
       answers = passes (t .before .before .check-writes .ensures) (t .enum-told2 .given .1) (c .check-ambiguous .ensures);
-      reaches = λ e. c .before .before .before .before .before .before .before .before .before .before .before .before .before .before .before .before .before .before .before .reached .ensures;
+      reaches = λ e. x .reached .ensures;
     }
 
 pub check-spec : {M : Type 1} → statement M

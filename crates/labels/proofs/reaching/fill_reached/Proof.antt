@@ -22,6 +22,9 @@ loop-holds c = (begin _ (c .before .before .pre .0), begin _ (c .before .before 
 set-if-requires : tie.Need-set-if-requires Inv-loop μ-loop
 set-if-requires c κs = search needs
 
+cast-gives : tie.Need-cast-gives Inv-loop μ-loop
+cast-gives c = search needs
+
 mul-gives : tie.Need-mul-gives Inv-loop μ-loop
 mul-gives c = omega arith
 
@@ -60,6 +63,7 @@ fill-reached-spec =
     μ-loop
     loop-holds
     set-if-requires
+    cast-gives
     mul-gives
     slice-write-gives
     mul-passes

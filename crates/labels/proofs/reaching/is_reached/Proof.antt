@@ -1,14 +1,17 @@
--- `is_reached` meets its contract.
+-- `is_reached` meets its contract: bit 0 is the lowest digit.
 -- Assumes nothing.
-use borrow.Author.Needs.{needs}
+use mathlib.Core.Path.{sym, ap}
+use mathlib.Core.Bool.{_||_}
+use Prim.Native.Nat.{ℕ}
+use lib.Dec.{eqb}
+use Rattle.sets.specs.Sets.{has}
+use Rattle.sets.proofs.Laws.{bit-zero}
 use Rattle.labels.proofs.reaching.is_reached.Statement.{statement}
 use Rattle.labels.proofs.reaching.is_reached.Tie as tie
 
-member-requires : tie.Need-member-requires
-member-requires c κs = search needs
-
 returns : tie.Need-returns
-returns c = cc
+unfolding has
+returns c = ap (λ (n : ℕ). eqb (c .args .v) 0 || eqb n 1) (sym (bit-zero (c .args .set)))
 
 pub is-reached-spec : {M : Type 1} → statement M
-is-reached-spec = tie.close (tie.spec member-requires returns)
+is-reached-spec = tie.close (tie.spec returns)
