@@ -4,14 +4,13 @@ use mathlib.Core.Path.{_≡_, refl, sym, ap, ap₂, _∙_}
 use mathlib.Core.List.{List, _++_, append-assoc, append-nil}
 use Prim.Native.Nat.{ℕ, zero, suc, _+_, _-_, _*_, _≤_, _<_}
 use native.Mathlib.Nat.{zero-mul, le-antisymm, mul-le-mul-right}
-use native.Mathlib.Numerals.{add-one}
 use native.Mathlib.Omega.{arith}
 use lib.ListN.{length, take, drop, length-append, length-take, length-drop, drop-of-length-le}
 use lib.Seq.{take-at, drop-at, drop-drop}
 use Rattle.labels.specs.Routines.{ReadAs}
 use Rattle.routine.specs.Layout.{arrays, vertices}
 use Rattle.routine.specs.declared.header.Header.{Header}
-use Rattle.words.proofs.Tables.{rows-length, rows-part}
+use Rattle.words.proofs.Tables.{rows-more, rows-length, rows-part}
 use Rattle.words.specs.Tables.{rows}
 use Rattle.labels.proofs.Bounds.{entries, few-entries}
 
@@ -25,10 +24,6 @@ put xs at w ys = take at xs ++ (ys ++ drop (at + w - at) (drop at xs))
 
 cut : (at w : ℕ) → at + w - at ≡ w
 cut at w = omega arith
-
-rows-more : (row : ℕ → List ℕ) (a : ℕ) → rows row a ++ row a ≡ rows row (a + 1)
-unfolding rows
-rows-more row a = ap (rows row) (sym (add-one a))
 
 -- a table of m rows of width w, of which the first a have been written
 pub record Rowing (row : ℕ → List ℕ) (w m : ℕ) (old new : List ℕ) (a : ℕ) : Type 0 where

@@ -12,7 +12,7 @@ use Rattle.plan.specs.Plan.{labelsAmong, labelsAt, labelsBefore, labelCo
 use Rattle.routine.specs.Layout.{arrays, vertices}
 use Rattle.routine.specs.Reader.{Laid}
 use Rattle.words.specs.Tables.{rows}
-use Rattle.words.proofs.Tables.{rows-length}
+use Rattle.words.proofs.Tables.{at-most-one, rows-length}
 
 -- ---- sums: what `total` counts, item by item
 
@@ -27,10 +27,6 @@ module _ (size total : ℕ → ℕ) (none : total 0 ≡ 0) (more : (i : ℕ) →
   sum-length row wide (suc n) = omega (arith, length-append (rows row n) (row n), more n, wide n, sum-length row wide n)
 
 -- ---- counts
-
-pub at-most-one : (b : Bool) → cond b 1 0 ≤ 1
-at-most-one true = omega arith
-at-most-one false = omega arith
 
 module _ (file : List ℕ) where
   pub among-more : {count more : ℕ} (v a : ℕ) → count ≡ labelsAmong file v a → more ≡ cond (isLabel file a v) 1 0 → count + more ≡ labelsAmong file v (a + 1)

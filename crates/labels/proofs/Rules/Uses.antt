@@ -4,12 +4,12 @@ use mathlib.Core.Path.{_≡_, refl, sym, subst}
 use mathlib.Core.Bool.{Bool, true, false, not, _&&_, cond}
 use mathlib.Core.List.{List}
 use mathlib.Core.Logic.{_↔_, Iff·rfl, _⊎_, inl, inr, ⊎-elim}
-use Prim.Native.Nat.{ℕ, _<_, _^_}
-use lib.Dec.{T, eqb, lit<}
+use Prim.Native.Nat.{ℕ}
+use lib.Dec.{T, eqb}
 use lib.ListN.{length, getD}
 use Rattle.flow.specs.Paths.{Edge, Path, last, next}
 use Rattle.flow.proofs.Paths.{weaken, split-first}
-use Rattle.flow.proofs.Exact.{solution-length, solution-fits}
+use Rattle.flow.proofs.Exact.{solution-length}
 use Rattle.routine.specs.Actions.{isReference, isRemap}
 use Rattle.routine.specs.Layout.{vertices}
 use Rattle.routine.specs.declared.action.Action.{Action}
@@ -20,7 +20,7 @@ use Rattle.labels.specs.Events.{edgeBytes, exit, kind, event, isRead, is
 use Rattle.labels.specs.Proper.{Proper}
 use Rattle.labels.specs.Uses.{Segment, UndefinedSegment, Meets, MeetsUndefined, Unused, Rule, exitUse, IsUse, useGives, usePasses, useSets, letterOf, useOf}
 use Rattle.labels.proofs.Rules.Events.{by-event}
-use Rattle.labels.proofs.Rules.Tables.{table-all, Finds, solved}
+use Rattle.labels.proofs.Rules.Tables.{Finds, solved}
 use Rattle.labels.proofs.Rules.Tests.{or-left, and-left, eqb-iff}
 
 -- ---- the rules leave one letter at most
@@ -64,15 +64,10 @@ module _ (file : List ℕ) (a v : ℕ) where
 -- ---- use sets
 
 module _ (file : List ℕ) (a : ℕ) where
-  -- one for each vertex, of four bits
+  -- one for each vertex
   pub use-length : length (useSets file a) ≡ vertices file
   unfolding useSets
   use-length = solution-length _ _ _ _ (vertices file)
-
-  pub use-fits : (v : ℕ) → getD (useSets file a) v 0 < 2 ^ 4
-  unfolding useSets
-  use-fits = solution-fits _ _ _ _ 4 (vertices file)
-      (table-all (λ m. m < 2 ^ 4) _ (vertices file) (lit< tt) (λ u. by-event (λ x. useGives x < 2 ^ 4) (lit< tt) (lit< tt) (lit< tt) (lit< tt) (λ k. lit< tt) (lit< tt) (event file a u)))
 
 module _ (file : List ℕ) (a : ℕ) (proper : Proper file a) (v : ℕ) where
   -- the use set of v

@@ -6,8 +6,9 @@ use native.Mathlib.Omega.{arith}
 use borrow.Author.Needs.{needs}
 use Rattle.labels.specs.Events.{isLabel}
 use Rattle.plan.specs.Plan.{labelsAmong, labelsAt}
-use Rattle.plan.proofs.Sizes.{at-most-one, among-more, among-few, at-few}
+use Rattle.plan.proofs.Sizes.{among-more, among-few, at-few}
 use Rattle.routine.specs.Layout.{arrays}
+use Rattle.words.proofs.Tables.{at-most-one}
 use Rattle.plan.proofs.contents.labels_at.Statement.{statement}
 use Rattle.plan.proofs.contents.labels_at.Tie as tie
 
