@@ -27,18 +27,17 @@ use Rattle.run.specs.Run.{stateAfter, runRecords}
 pub entries-length : (state : ℕ → State) (m : ℕ) → length (rows (λ a. entryBytes (state a)) m) ≡ 6 * m
 entries-length state m = omega (arith, rows-length (λ a. entryBytes (state a)) 6 (λ a. refl) m)
 
-rows-same : (f g : ℕ → List ℕ) (n : ℕ) → ((i : ℕ) → i < n → f i ≡ g i) → rows f n ≡ rows g n
+pub rows-same : (f g : ℕ → List ℕ) (n : ℕ) → ((i : ℕ) → i < n → f i ≡ g i) → rows f n ≡ rows g n
 unfolding rows
 rows-same f g zero same = refl
 rows-same f g (suc n) same = ap₂ _++_ (rows-same f g n (λ i h. same i (omega arith))) (same n (omega arith))
 
 pub entries-of :
-    (file path : List ℕ) (states : List State) → ((a : ℕ) → a < arrays file → stateOf states a ≡ stateAfter file path a (steps path))
+    (file path : List ℕ) (states : List State)
+    → ((a : ℕ) → a < arrays file → entryBytes (stateOf states a) ≡ entryBytes (stateAfter file path a (steps path)))
     → entriesOf states (arrays file) ≡ entries file path
 unfolding entries
-entries-of file path states is =
-    rows-same (λ a. entryBytes (stateOf states a)) (λ a. entryBytes (stateAfter file path a (steps path))) (arrays file)
-    (λ a h. ap entryBytes (is a h))
+entries-of file path states = rows-same (λ a. entryBytes (stateOf states a)) (λ a. entryBytes (stateAfter file path a (steps path))) (arrays file)
 
 -- ---- records
 

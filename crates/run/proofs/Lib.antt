@@ -1,5 +1,6 @@
 pub mod Bytes
 pub mod EdgeTable
+pub mod Held
 pub mod References
 pub mod Rules
 pub mod Walking

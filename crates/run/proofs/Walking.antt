@@ -1,15 +1,14 @@
--- Following the path: what has been written, and which states the arrays have, when the first a arrays of step i + 1 have been served.
+-- Following the path: what has been written, and how the arrays stand, after the first i vertices.
 -- Assumes nothing.
 use mathlib.Core.Path.{_≡_, refl, sym, ap, ap₂, subst, _∙_}
-use mathlib.Core.Bool.{Bool, true, false, cond}
-use mathlib.Core.List.{List, [], _++_, append-assoc, append-nil}
-use Prim.Native.Nat.{ℕ, suc, _+_, _-_, _*_, _≤_, _<_}
+use mathlib.Core.Bool.{Bool, false}
+use mathlib.Core.List.{List, [], _++_}
+use mathlib.Core.Logic.{_⊎_}
+use Prim.Native.Nat.{ℕ, _+_, _-_, _≤_, _<_}
 use native.Mathlib.Numerals.{add-one}
 use native.Mathlib.Omega.{arith}
-use borrow.Author.Tests.{lt-ltb, le-ltb, eqb-true, eqb-false}
-use lib.Dec.{T, eqb, ltb}
-use lib.ListN.{length, set, take, drop, length-append, length-set}
-use lib.Seq.{getD-set-same, getD-set-other}
+use lib.Dec.{T, eqb}
+use lib.ListN.{length, getD, take, drop, length-append}
 use Rattle.labels.specs.Events.{exit, event, versionOf}
 use Rattle.labels.specs.Kept.{keptOf}
 use Rattle.labels.specs.Letters.{letterByte, useOfByte}
@@ -21,208 +20,194 @@ use Rattle.routine.specs.Arrays.{arrayOf}
 use Rattle.routine.specs.Layout.{arrays}
 use Rattle.routine.specs.Reader.{WellFormed}
 use Rattle.routine.specs.declared.action.Action.{Action}
+use Rattle.routine.specs.declared.action.Action.the-variants.{Nothing, Reference, Remap, Unknown}
 use Rattle.routine.specs.declared.array.ArrayRecord.{ArrayRecord}
 use Rattle.routine.specs.declared.refusal.Verdict.the-variants.{Passed}
-use Rattle.state.specs.declared.State.{State}
-use Rattle.state.specs.Fits.{Fits}
-use Rattle.state.specs.States.{Current}
-use Rattle.run.specs.Paths.{steps, vertexAt, pathCheck}
-use Rattle.run.specs.Report.{stateOf, recordsBytes}
+use Rattle.state.specs.Current.{settled}
 use Rattle.state.specs.Exit.{left}
+use Rattle.state.specs.Fits.{Fits}
 use Rattle.state.specs.Start.{started}
-use Rattle.state.specs.Vertex.{visited, Visits}
+use Rattle.state.specs.States.{nothing, hasCurrent, stampOf}
+use Rattle.state.specs.Vertex.{labelled, visited, relabelled, Visits}
+use Rattle.state.specs.declared.State.{State}
+use Rattle.state.proofs.Cases.{at-cond}
+use Rattle.state.proofs.Current.{settled-current, settled-copies, seen-is, visited-is, no-label}
+use Rattle.run.specs.Paths.{steps, vertexAt, pathCheck}
+use Rattle.run.specs.Records.{recordsAt}
+use Rattle.run.specs.Report.{entryBytes, stateOf, recordsBytes}
 use Rattle.run.specs.Run.{stateAfter, runRecords}
-use Rattle.run.proofs.Bytes.{recordBytesAt, records-bytes}
+use Rattle.run.specs.Walks.{Held, rowBytes, Referred, relabelledAt}
+use Rattle.run.proofs.Bytes.{recordBytesAt, records-bytes, rows-same}
+use Rattle.run.proofs.Held.{held-as}
 use Rattle.run.proofs.Rules.Demand.{state-fits, reference-below}
-use Rattle.state.proofs.Cases.{one-more}
 use Rattle.words.specs.Tables.{rows, wrote}
 use Rattle.words.proofs.Tables.{rows-fit, rows-more}
 use Rattle.words.proofs.Written.{partFrom, write-more}
 
--- ---- the states
+-- the records of the first i vertices
+abbrev pub doneAt : List ℕ → List ℕ → ℕ → List ℕ
+doneAt file path i = rows (λ i. rows (recordBytesAt file path i) (arrays file)) i
 
--- the arrays below a are one step further than the others
-pub record Served (file path : List ℕ) (i a : ℕ) (states : List State) : Type 0 where
-  pub sized : length states ≡ 8
-  pub state-is : (b : ℕ) → b < arrays file → stateOf states b ≡ stateAfter file path b (cond (ltb b a) (suc i) i)
+pub record Walking (file path old : List ℕ) (at i : ℕ) (states : List State) (versions stamps out : List ℕ) : Type 0 where
+  pub on-path : i ≤ steps path
+  pub held : Held (λ b. stateAfter file path b i) (arrays file) states versions stamps
+  pub out-is : out ≡ wrote old (doneAt file path i)
+  pub place : at ≡ length (doneAt file path i)
 
 -- before the first step
-pub begins : (file path : List ℕ) {states : List State} → length states ≡ 8 → ((a : ℕ) → a < arrays file → stateOf states a ≡ started (arrayOf file a)) → Served file path 0 0 states
-unfolding stateAfter
-begins file path sized is = record {
-  sized = sized;
-  state-is = λ b in-b. is b in-b ∙ sym (ap (λ (t : Bool). stateAfter file path b (cond t 1 0)) (le-ltb b 0 (omega arith)));
-}
+pub begins : (file path old : List ℕ) {states : List State} {versions stamps : List ℕ} → Held (λ a. started (arrayOf file a)) (arrays file) states versions stamps
+    → Walking file path old 0 0 states versions stamps old
+unfolding stateAfter rows
+begins file path old h = record { on-path = omega arith; held = h; out-is = refl; place = refl }
 
--- one more state is filled in
-pub filled-more : (want : ℕ → State) (states : List State) (a : ℕ) {new : State} → length states ≡ 8 → a < 8 → new ≡ want a
-    → ((b : ℕ) → b < a → stateOf states b ≡ want b) → (b : ℕ) → b < a + 1 → stateOf (set states a new) b ≡ want b
-filled-more want states a {new} sized in-a is earlier b h = go (eqb b a) refl
-  where
-    go : (t : Bool) → eqb b a ≡ t → stateOf (set states a new) b ≡ want b
-    go true e = rw (eqb-true b a e) (getD-set-same states a new _ (omega arith) ∙ is)
-    go false e = getD-set-other states a b new _ (eqb-false b a e) ∙ earlier b (omega (arith, eqb-false b a e))
+-- the next records have room
+pub room : (file path : List ℕ) {i size : ℕ} → i < steps path → length (recordsBytes (runRecords file path)) ≤ size
+    → length (doneAt file path i) + length (rows (recordBytesAt file path i) (arrays file)) ≤ size
+room file path {i} in-i fits =
+    omega (arith, rows-fit (λ i. rows (recordBytesAt file path i) (arrays file)) (steps path) i in-i, ap length (records-bytes file path))
 
-module _ {file path : List ℕ} {i a : ℕ} {states : List State} (s : Served file path i a states) where
-  -- the array that is next
-  pub next-state : a < arrays file → stateOf states a ≡ stateAfter file path a i
-  next-state h = s .state-is a h ∙ ap (λ (b : Bool). stateAfter file path a (cond b (suc i) i)) (le-ltb a a (omega arith))
+-- ---- one vertex
 
-  -- it is served
-  pub serve : {new : State} → a < arrays file → arrays file ≤ 8 → new ≡ stateAfter file path a (suc i) → Served file path i (a + 1) (set states a new)
-  serve {new} in-a few is = record {
-    sized = length-set states a new ∙ s .sized;
-    state-is = λ b in-b. go b in-b (eqb b a) refl;
+records-same : (x : Action) (step a : ℕ) {version version' stamp stamp' : ℕ} → (T (isReference x) → (version ≡ version') × (stamp ≡ stamp'))
+    → recordsAt x step a version stamp ≡ recordsAt x step a version' stamp'
+records-same Nothing step a h = refl
+records-same (Reference x) step a h = ap₂ (λ (v s : ℕ). recordsAt (Reference x) step a v s) (h tt .0) (h tt .1)
+records-same (Remap t) step a h = refl
+records-same Unknown step a h = refl
+
+module _ (file path : List ℕ) (well : WellFormed file) (accepted : pathCheck file path ≡ Passed) {i : ℕ} (in-i : i < steps path) (short : steps path ≤ 4096)
+    {states : List State} {versions stamps : List ℕ} (held : Held (λ b. stateAfter file path b i) (arrays file) states versions stamps) where
+  abbrev v : ℕ
+  v = vertexAt path i
+
+  module _ (b : ℕ) (in-b : b < arrays file) where
+    abbrev s : State
+    s = stateOf states b
+
+    abbrev x : Action
+    x = event file b v
+
+    fits : Fits (stateAfter file path b i) i
+    fits = state-fits file path well accepted b i in-b (omega arith)
+
+    is : settled (getD stamps b 0) s ≡ stateAfter file path b i
+    is = held .stand b in-b .is
+
+    sixteen : length (settled (getD stamps b 0) s .stamps) ≡ 16
+    sixteen = ap (λ (s : State). length (s .stamps)) is ∙ fits .stamps .sixteen
+
+    below : T (isReference x) → settled (getD stamps b 0) s .current < 16
+    below r = subst (λ (s : State). s .current < 16) (sym is) (reference-below file path well accepted i b in-i in-b r)
+
+    record-is : recordsBytes (recordsAt x (i + 1) b (getD versions b 0) (getD stamps b 0)) ≡ recordBytesAt file path i b
+    record-is =
+        ap recordsBytes (records-same x (i + 1) b (λ r. (
+          held .stand b in-b .version-is ∙ sym (settled-current (getD stamps b 0) s) ∙ ap (λ (s : State). s .current) is,
+          sym (seen-is (getD stamps b 0) s sixteen (below r)) ∙ ap (λ (s : State). stampOf s (s .current)) is,
+        )))
+
+  pub row-is : rowBytes file v (i + 1) versions stamps (arrays file) ≡ rows (recordBytesAt file path i) (arrays file)
+  unfolding rowBytes
+  row-is = rows-same _ (recordBytesAt file path i) (arrays file) record-is
+
+  -- once the references are made
+  module _ {old : List ℕ} {bytes : ℕ} {labels : Bool} {after new : List ℕ}
+      (r : Referred file v (i + 1) versions stamps old (arrays file) bytes labels after new) where
+    module _ (b : ℕ) (in-b : b < arrays file) where
+      abbrev after-b : State
+      after-b = settled (getD after b 0) (stateOf states b)
+
+      current-same : after-b .current ≡ stateAfter file path b i .current
+      current-same = settled-current (getD after b 0) (stateOf states b) ∙ sym (settled-current (getD stamps b 0) (stateOf states b)) ∙ ap (λ (s : State). s .current) (is b in-b)
+
+      copies-same : after-b .copies ≡ stateAfter file path b i .copies
+      copies-same = settled-copies (getD after b 0) (stateOf states b) ∙ sym (settled-copies (getD stamps b 0) (stateOf states b)) ∙ ap (λ (s : State). s .copies) (is b in-b)
+
+      pub visits-after : Visits (event file b v) after-b
+      visits-after = record {
+        current = subst (λ (k : ℕ). (k < 16) ⊎ (k ≡ nothing)) (sym current-same) (fits b in-b .current);
+        few-copies = omega (arith, copies-same, fits b in-b .copies);
+        at-remap = λ t g. subst (λ (x : Action). versionOf x < 16) g (event-below well in-b v);
+      }
+
+      relabelled-next : relabelledAt file v states after b ≡ stateAfter file path b (i + 1)
+      unfolding relabelledAt stateAfter
+      relabelled-next =
+          let a = arrayOf file b in
+          let u = useOf file b v in
+          let keep = keptOf file b v in
+          let x = event file b v in
+          ap (left a (eqb v (exit file)))
+          (ap (λ (y : ℕ). relabelled a x u keep (settled y (stateOf states b))) (r .served b in-b)
+          ∙ visited-is a u keep (i + 1) (getD stamps b 0) (stateOf states b) x (sixteen b in-b) (below b in-b)
+          ∙ ap (visited a x u keep (i + 1)) (is b in-b))
+          ∙ ap (stateAfter file path b) (sym (add-one i))
+
+      unlabelled : labels ≡ false → eqb v (exit file) ≡ false → relabelledAt file v states after b ≡ after-b
+      unfolding relabelledAt labelled
+      unlabelled e f =
+          ap (λ (t : Bool). left (arrayOf file b) t (relabelled (arrayOf file b) (event file b v) (useOf file b v) (keptOf file b v) after-b)) f
+          ∙ no-label (arrayOf file b) (useOf file b v) (keptOf file b v) after-b (event file b v) (r .no-label e b in-b)
+
+    -- no array has a label, and the path is not at the exit
+    pub held-on : labels ≡ false → eqb v (exit file) ≡ false → Held (λ b. stateAfter file path b (i + 1)) (arrays file) states versions after
+    held-on e f = record {
+      states-sized = held .states-sized;
+      versions-sized = held .versions-sized;
+      stamps-sized = r .sized;
+      stand = λ b in-b. record { is = sym (unlabelled b in-b e f) ∙ relabelled-next b in-b; version-is = held .stand b in-b .version-is };
+    }
+
+    pub held-labelled : {states' : List State} {versions' stamps' : List ℕ} → Held (relabelledAt file v states after) (arrays file) states' versions' stamps'
+        → Held (λ b. stateAfter file path b (i + 1)) (arrays file) states' versions' stamps'
+    held-labelled = held-as relabelled-next
+
+-- the step is made
+module _ (file path : List ℕ) (well : WellFormed file) (accepted : pathCheck file path ≡ Passed) {old : List ℕ} {at i : ℕ}
+    {states : List State} {versions stamps out : List ℕ} (in-i : i < steps path) (short : steps path ≤ 4096) (w : Walking file path old at i states versions stamps out)
+    {bytes : ℕ} {labels : Bool} {after new : List ℕ} (r : Referred file (vertexAt path i) (i + 1) versions stamps (partFrom out at) (arrays file) bytes labels after new) where
+  abbrev row : List ℕ
+  row = rows (recordBytesAt file path i) (arrays file)
+
+  row-same : rowBytes file (vertexAt path i) (i + 1) versions stamps (arrays file) ≡ row
+  row-same = row-is file path well accepted in-i short (w .held)
+
+  more : doneAt file path i ++ row ≡ doneAt file path (i + 1)
+  more = rows-more (λ i. rows (recordBytesAt file path i) (arrays file)) i
+
+  pub steps-on : {states' : List State} {versions' stamps' : List ℕ} → Held (λ b. stateAfter file path b (i + 1)) (arrays file) states' versions' stamps'
+      → Walking file path old (at + bytes) (i + 1) states' versions' stamps' (take at out ++ (new ++ drop (length out - at) (drop at out)))
+  steps-on h = record {
+    on-path = omega arith;
+    held = h;
+    out-is =
+        write-more old (doneAt file path i) out row new at (w .place) (w .out-is) (r .out-is ∙ ap (wrote (partFrom out at)) row-same)
+        ∙ ap (wrote old) more;
+    place =
+        ap₂ _+_ (w .place) (r .length-is ∙ ap length row-same) ∙ sym (length-append (doneAt file path i) row) ∙ ap length more;
   }
-    where
-      go : (b : ℕ) → b < arrays file → (t : Bool) → eqb b a ≡ t → stateOf (set states a new) b ≡ stateAfter file path b (cond (ltb b (a + 1)) (suc i) i)
-      go b in-b true e =
-          let f = eqb-true b a e in
-          rw (lt-ltb b (a + 1) (omega arith), f) (getD-set-same states a new _ (omega (arith, s .sized)) ∙ is)
-      go b in-b false e =
-          let ne = eqb-false b a e in
-          getD-set-other states a b new _ ne ∙ s .state-is b in-b
-          ∙ ap (λ (t : Bool). stateAfter file path b (cond t (suc i) i)) (one-more b a ne)
 
-  -- all are served: the next step begins
-  pub all-served : a ≡ arrays file → Served file path (suc i) 0 states
-  all-served e = record {
-    sized = s .sized;
-    state-is = λ b in-b. s .state-is b in-b ∙ ap (λ (t : Bool). stateAfter file path b (cond t (suc i) i)) (lt-ltb b a (omega arith)) ∙ sym (ap (λ (t : Bool). stateAfter file path b (cond t (suc (suc i)) (suc i))) (le-ltb b 0 (omega arith)));
-  }
+-- ---- the path ends
 
--- ---- what has been written
+entry-same : (stamp : ℕ) (s : State) → entryBytes (settled stamp s) ≡ entryBytes s
+entry-same stamp s = at-cond (λ (r : State). entryBytes r ≡ entryBytes s) (hasCurrent s) (λ _. refl) (λ _. refl)
 
--- the records of whole steps, and those of the arrays that this step has served
-abbrev pub doneAt : List ℕ → List ℕ → ℕ → ℕ → List ℕ
-doneAt file path i a = rows (λ i. rows (recordBytesAt file path i) (arrays file)) i ++ rows (recordBytesAt file path i) a
-
-module _ (file path : List ℕ) where
-  pub done-none : [] ≡ doneAt file path 0 0
-  unfolding rows
-  done-none = refl
-
-  done-more : (i a : ℕ) → doneAt file path i a ++ recordBytesAt file path i a ≡ doneAt file path i (a + 1)
-  done-more i a =
-      append-assoc (rows (λ i. rows (recordBytesAt file path i) (arrays file)) i) (rows (recordBytesAt file path i) a) (recordBytesAt file path i a)
-      ∙ ap (λ (l : List ℕ). rows (λ i. rows (recordBytesAt file path i) (arrays file)) i ++ l) (rows-more (recordBytesAt file path i) a)
-
-  done-step : (i : ℕ) → doneAt file path i (arrays file) ≡ doneAt file path (i + 1) 0
-  unfolding rows
-  done-step i = rows-more (λ i. rows (recordBytesAt file path i) (arrays file)) i ∙ sym (append-nil (rows (λ i. rows (recordBytesAt file path i) (arrays file)) (i + 1)))
-
-  pub done-all : doneAt file path (steps path) 0 ≡ recordsBytes (runRecords file path)
-  unfolding rows
-  done-all = append-nil (rows (λ i. rows (recordBytesAt file path i) (arrays file)) (steps path)) ∙ sym (records-bytes file path)
-
-  -- the next record has room
-  pub room : {i a size : ℕ} → i < steps path → a < arrays file → length (recordsBytes (runRecords file path)) ≤ size
-      → length (doneAt file path i a) + length (recordBytesAt file path i a) ≤ size
-  room {i} {a} in-i in-a fits =
-      omega (
-        arith,
-        length-append (rows (λ i. rows (recordBytesAt file path i) (arrays file)) i) (rows (recordBytesAt file path i) a),
-        rows-fit (recordBytesAt file path i) (arrays file) a in-a,
-        rows-fit (λ i. rows (recordBytesAt file path i) (arrays file)) (steps path) i in-i,
-        ap length (records-bytes file path),
-      )
-
--- ---- one turn
-
--- before array a is served at index i of the path
-pub record Walking (file path old : List ℕ) (at i a : ℕ) (states : List State) (out : List ℕ) : Type 0 where
-  pub on-path : i ≤ steps path
-  pub in-arrays : a < arrays file
-  pub at-end : i ≡ steps path → a ≡ 0
-  pub states-are : Served file path i a states
-  pub out-is : out ≡ wrote old (doneAt file path i a)
-  pub place : at ≡ length (doneAt file path i a)
-
-module _ {file path old : List ℕ} {at i a : ℕ} {states : List State} {out : List ℕ} (w : Walking file path old at i a states out) where
-  -- the turn is made: a record of `size` bytes behind what was written, and the array's next state
-  pub turned : {size : ℕ} {new : State} {ys : List ℕ} → i < steps path → arrays file ≤ 8
-      → size ≡ length (recordBytesAt file path i a) → ys ≡ wrote (partFrom out at) (recordBytesAt file path i a) → new ≡ stateAfter file path a (suc i)
-      → Walking file path old (at + size) (i + cond (eqb (a + 1) (arrays file)) 1 0) (cond (eqb (a + 1) (arrays file)) 0 (a + 1)) (set states a new)
-      (take at out ++ (ys ++ drop (length out - at) (drop at out)))
-  turned {size} {new} {ys} in-i few long wrote-r is = go (eqb (a + 1) (arrays file)) refl
-    where
-      served : Served file path i (a + 1) (set states a new)
-      served = serve (w .states-are) (w .in-arrays) few is
-
-      written : take at out ++ (ys ++ drop (length out - at) (drop at out)) ≡ wrote old (doneAt file path i (a + 1))
-      written =
-          write-more old (doneAt file path i a) out (recordBytesAt file path i a) ys at (w .place) (w .out-is) wrote-r
-          ∙ ap (wrote old) (done-more file path i a)
-
-      placed : at + size ≡ length (doneAt file path i (a + 1))
-      placed =
-          ap₂ _+_ (w .place) long ∙ sym (length-append (doneAt file path i a) (recordBytesAt file path i a)) ∙ ap length (done-more file path i a)
-
-      go : (t : Bool) → eqb (a + 1) (arrays file) ≡ t
-          → Walking file path old (at + size) (i + cond t 1 0) (cond t 0 (a + 1)) (set states a new) (take at out ++ (ys ++ drop (length out - at) (drop at out)))
-      go true e =
-          let full = eqb-true (a + 1) (arrays file) e in
-          let over : doneAt file path i (a + 1) ≡ doneAt file path (i + 1) 0 = ap (doneAt file path i) full ∙ done-step file path i in
-          record {
-            on-path = omega arith;
-            in-arrays = omega (arith, w .in-arrays);
-            at-end = λ _. refl;
-            states-are = subst (λ (n : ℕ). Served file path n 0 (set states a new)) (sym (add-one i)) (all-served served full);
-            out-is = written ∙ ap (wrote old) over;
-            place = placed ∙ ap length over;
-          }
-      go false e =
-          let open' = eqb-false (a + 1) (arrays file) e in
-          let same : i ≡ i + 0 = omega arith in
-          record {
-            on-path = omega arith;
-            in-arrays = omega (arith, w .in-arrays, open');
-            at-end = λ f. absurd (omega arith);
-            states-are = subst (λ (n : ℕ). Served file path n (a + 1) (set states a new)) same served;
-            out-is = written ∙ ap (λ (n : ℕ). wrote old (doneAt file path n (a + 1))) same;
-            place = placed ∙ ap (λ (n : ℕ). length (doneAt file path n (a + 1))) same;
-          }
-
--- ---- the state after a visit
-
-module _ (file path : List ℕ) (well : WellFormed file) (accepted : pathCheck file path ≡ Passed) {i a : ℕ} (in-i : i < steps path) (in-a : a < arrays file) where
-  pub visits : {x : Action} {s : State} → steps path ≤ 4096 → x ≡ event file a (vertexAt path i) → s ≡ stateAfter file path a i → Visits x s
-  visits {x} {s} short e f = record {
-    current = subst Current (sym f) (fits .current);
-    few-copies = omega (arith, ap (λ (s : State). s .copies) f, fits .copies);
-    at-reference = λ r. subst (λ (s : State). s .current < 16) (sym f) (reference-below file path well accepted i a in-i in-a (subst (λ (x : Action). T (isReference x)) e r));
-    at-remap = λ t g. subst (λ (x : Action). versionOf x < 16) (sym e ∙ g) (event-below well in-a (vertexAt path i));
-  }
-    where
-      fits : Fits (stateAfter file path a i) i
-      fits = state-fits file path well accepted a i in-a (omega arith)
-
--- the definition's next state, from what the code has
-pub visited-is : (file path : List ℕ) (i a : ℕ) {step letter keep : ℕ} {r : ArrayRecord} {x : Action} {s t n : State} {ends : Bool}
-    → r ≡ arrayOf file a → x ≡ event file a (vertexAt path i) → letter ≡ letterByte (useOf file a (vertexAt path i)) → keep ≡ keptOf file a (vertexAt path i)
-    → step ≡ i + 1 → s ≡ stateAfter file path a i → ends ≡ eqb (vertexAt path i) (exit file)
-    → t ≡ visited r x (useOfByte letter) keep step s → n ≡ left r ends t → n ≡ stateAfter file path a (suc i)
-unfolding stateAfter
-visited-is file path i a e1 e2 e3 e4 e5 e6 e7 e8 e9 = e9 ∙ rw (e8, e1, e2, e3, letter-use, e4, e5, e6, e7)
-
--- ---- the loop ends
-
-pub falls : (n i a : ℕ) (t : Bool) → i < n → a < 8 → (n - (i + cond t 1 0)) * 8 + (8 - cond t 0 (a + 1)) < (n - i) * 8 + (8 - a)
-falls n i a true in-i in-a = omega arith
-falls n i a false in-i in-a = omega arith
-
-pub at-most-one : (t : Bool) → cond t 1 0 ≤ 1
-at-most-one true = omega arith
-at-most-one false = omega arith
-
-module _ {file path old : List ℕ} {at i a : ℕ} {states : List State} {out : List ℕ} (w : Walking file path old at i a states out) (ends : steps path ≤ i) where
+module _ {file path old : List ℕ} {at i : ℕ} {states : List State} {versions stamps out : List ℕ}
+    (w : Walking file path old at i states versions stamps out) (ends : steps path ≤ i) where
   over : i ≡ steps path
   over = omega (arith, w .on-path)
 
   pub all-written : out ≡ wrote old (recordsBytes (runRecords file path))
-  all-written = w .out-is ∙ ap (wrote old) (ap₂ (doneAt file path) over (w .at-end over) ∙ done-all file path)
+  all-written = w .out-is ∙ ap (wrote old) (ap (doneAt file path) over ∙ sym (records-bytes file path))
 
-  pub last-states : (b : ℕ) → b < arrays file → stateOf states b ≡ stateAfter file path b (steps path)
-  last-states b in-b =
-      w .states-are .state-is b in-b ∙ ap (λ (t : Bool). stateAfter file path b (cond t (suc i) i)) (le-ltb b a (omega (arith, w .at-end over)))
-      ∙ ap (stateAfter file path b) over
+  pub last-entries : (b : ℕ) → b < arrays file → entryBytes (stateOf states b) ≡ entryBytes (stateAfter file path b (steps path))
+  last-entries b in-b =
+      sym (entry-same (getD stamps b 0) (stateOf states b)) ∙ ap entryBytes (w .held .stand b in-b .is) ∙ ap (λ (n : ℕ). entryBytes (stateAfter file path b n)) over
+
+-- the definition's next state, from what the code has
+pub relabelled-is : (file : List ℕ) (v b : ℕ) (states : List State) (stamps : List ℕ) {letter keep : ℕ} {r : ArrayRecord} {x : Action} {s t n : State} {ends : Bool}
+    → r ≡ arrayOf file b → x ≡ event file b v → letter ≡ letterByte (useOf file b v) → keep ≡ keptOf file b v
+    → s ≡ settled (getD stamps b 0) (stateOf states b) → ends ≡ eqb v (exit file)
+    → t ≡ relabelled r x (useOfByte letter) keep s → n ≡ left r ends t → n ≡ relabelledAt file v states stamps b
+unfolding relabelledAt
+relabelled-is file v b states stamps e1 e2 e3 e4 e5 e6 e7 e8 = e8 ∙ rw (e7, e1, e2, e3, letter-use, e4, e5, e6)

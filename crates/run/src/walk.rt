@@ -1,4 +1,4 @@
-// Following the path: one array after the other at each step, a record for each reference (document 01, "Run").
+// Following the path: at each step the references of all arrays, a record for each, and then the labels (document 01, "Run").
 use crate::path;
 use crate::record;
 use crate::record::Record;
@@ -11,36 +11,44 @@ use routine::array::ArrayRecord;
 use routine::header::Header;
 use state::State;
 ghost use mathlib.Core.Path.{_≡_};
-ghost use mathlib.Core.Bool.{cond};
-ghost use Prim.Native.Nat.{ℕ, _+_, _≤_, _<_};
-ghost use lib.Dec.{eqb};
-ghost use lib.ListN.{length};
+ghost use Prim.Native.Nat.{ℕ, _≤_, _<_};
+ghost use lib.ListN.{length, getD};
+ghost use Rattle.labels.specs.Events.{event};
 ghost use Rattle.labels.specs.Routines.{ReadAs};
 ghost use Rattle.routine.specs.Arrays.{arrayOf};
-ghost use Rattle.routine.specs.Layout.{arrays};
+ghost use Rattle.routine.specs.Layout.{arrays, vertices};
 ghost use Rattle.routine.specs.declared.refusal.Verdict.the-variants.{Passed};
+ghost use Rattle.state.specs.Current.{settled};
+ghost use Rattle.state.specs.Start.{started};
+ghost use Rattle.state.specs.Vertex.{Visits};
 ghost use Rattle.run.specs.Paths.{steps, pathCheck};
 ghost use Rattle.run.specs.Records.{recordOf, recordsAt};
-ghost use Rattle.run.specs.Report.{stateOf, recordBytes, recordsBytes, reportBytes};
-ghost use Rattle.state.specs.Start.{started};
-ghost use Rattle.state.specs.States.{stampOf};
+ghost use Rattle.run.specs.Report.{entryBytes, stateOf, recordsBytes, reportBytes};
 ghost use Rattle.run.specs.Run.{stateAfter, runRecords};
-ghost use Rattle.state.specs.Vertex.{Visits};
-ghost use Rattle.run.specs.Walks.{Tabled};
+ghost use Rattle.run.specs.Walks.{Tabled, Held, rowBytes, Referred, relabelledAt};
 ghost use Rattle.words.specs.Tables.{wrote};
 
-// The states before the first step.
-fn start_all(file: &[u8], h: Header) -> [State; ArrayRecord::MAX]
+// The states before the first step, with the current versions and their stamps.
+fn start_all(
+    file: &[u8],
+    h: Header,
+    versions: &mut [u8; ArrayRecord::MAX],
+    stamps: &mut [u16; ArrayRecord::MAX],
+) -> [State; ArrayRecord::MAX]
     requires { ⌜ ReadAs (now file) h ⌝ }
-    ensures { λ r. ⌜ ((a : ℕ) → a < arrays (now (file .entry)) → stateOf r a ≡ started (arrayOf (now (file .entry)) a)) ⌝ }
-    ensures { λ r. ⌜ length r ≡ 8 ⌝ }
+    requires { ⌜ length (now versions) ≡ 8 ⌝ }
+    requires { ⌜ length (now stamps) ≡ 8 ⌝ }
+    ensures { λ r. ⌜ Held (λ a. started (arrayOf (now (file .entry)) a)) (arrays (now (file .entry))) r (now (versions .exit)) (now (stamps .exit)) ⌝ }
 {
     let none = state::empty(0);
     let mut states = [none; ArrayRecord::MAX];
     let m = h.arrays;
     let mut a = 0;
     while a < m {
-        states[a] = state::start(array::record_of(file, a));
+        let s = state::start(array::record_of(file, a));
+        versions[a] = s.current;
+        stamps[a] = state::current_stamp(s);
+        states[a] = s;
         a += 1;
     }
     states
@@ -78,31 +86,17 @@ fn made(x: Access, step: u16, array: u8, version: u8, stamp: u16) -> Record
     }
 }
 
-// Writes the record of a reference.
-fn put_reference(x: Access, step: usize, a: usize, s: State, out: &mut [u8])
-    requires { ⌜ s .current < 16 ⌝ }
-    requires { ⌜ (step ≤ 4096) × (a < 8) ⌝ }
-    requires { ⌜ 10 ≤ length (now out) ⌝ }
-    ensures { λ _. ⌜ now (out .exit) ≡ wrote (now (out .entry)) (recordBytes (recordOf x step a (s .current) (stampOf s (s .current)))) ⌝ }
-{
-    let version = s.current;
-    let at = version as usize;
-    let stamp = s.stamps[at];
-    record::write(out, made(x, step as u16, a as u8, version, stamp));
-}
-
 // Writes the record of an event, if it is a reference, and returns how many bytes that is.
-fn put(x: Action, step: usize, a: usize, s: State, out: &mut [u8]) -> usize
-    requires { ⌜ Visits x s ⌝ }
+fn put(x: Action, step: usize, a: usize, version: u8, stamp: u16, out: &mut [u8]) -> usize
     requires { ⌜ (step ≤ 4096) × (a < 8) ⌝ }
-    requires { ⌜ length (recordsBytes (recordsAt x step a (s .current) (stampOf s (s .current)))) ≤ length (now out) ⌝ }
-    ensures { λ r. ⌜ r ≡ length (recordsBytes (recordsAt x step a (s .current) (stampOf s (s .current)))) ⌝ }
-    ensures { λ _. ⌜ now (out .exit) ≡ wrote (now (out .entry)) (recordsBytes (recordsAt x step a (s .current) (stampOf s (s .current)))) ⌝ }
+    requires { ⌜ length (recordsBytes (recordsAt x step a version stamp)) ≤ length (now out) ⌝ }
+    ensures { λ r. ⌜ r ≡ length (recordsBytes (recordsAt x step a version stamp)) ⌝ }
+    ensures { λ _. ⌜ now (out .exit) ≡ wrote (now (out .entry)) (recordsBytes (recordsAt x step a version stamp)) ⌝ }
 {
     match x {
         Action::Nothing => 0,
         Action::Reference(access) => {
-            put_reference(access, step, a, s, out);
+            record::write(out, made(access, step as u16, a as u8, version, stamp));
             Record::SIZE
         }
         Action::Remap(_) => 0,
@@ -110,27 +104,82 @@ fn put(x: Action, step: usize, a: usize, s: State, out: &mut [u8]) -> usize
     }
 }
 
-// 1 if the last array has been served, else 0.
-fn carry(next: usize, m: usize) -> usize
-    ensures { λ r. ⌜ r ≡ cond (eqb next m) 1 0 ⌝ }
-{
-    if next == m {
-        return 1;
-    }
-    0
+// What the references of a vertex leave: the bytes written, and whether the vertex has a label.
+struct Row {
+    bytes: usize,
+    labels: bool,
 }
 
-// The array after that: the first again once all have been served.
-fn wrap(next: usize, m: usize) -> usize
-    ensures { λ r. ⌜ r ≡ cond (eqb next m) 0 next ⌝ }
+// The references of vertex v: their records, and the stamps of the current copies.
+fn refer(
+    file: &[u8],
+    h: Header,
+    v: usize,
+    step: usize,
+    versions: &[u8; ArrayRecord::MAX],
+    stamps: &mut [u16; ArrayRecord::MAX],
+    out: &mut [u8],
+) -> Row
+    requires { ⌜ ReadAs (now file) h ⌝ }
+    requires { ⌜ (v < vertices (now file)) × (step ≤ 4096) ⌝ }
+    requires { ⌜ length (now stamps) ≡ 8 ⌝ }
+    requires { ⌜ length (rowBytes (now file) v step (now versions) (now stamps) (arrays (now file))) ≤ length (now out) ⌝ }
+    ensures { λ r. ⌜ Referred (now (file .entry)) v step (now (versions .entry)) (now (stamps .entry)) (now (out .entry)) (arrays (now (file .entry))) (r .bytes) (r .labels) (now (stamps .exit)) (now (out .exit)) ⌝ }
 {
-    if next == m {
-        return 0;
+    let m = h.arrays;
+    let mut bytes = 0;
+    let mut labels = false;
+    let mut a = 0;
+    while a < m {
+        let x = event::at(file, h, array::record_of(file, a), a, v);
+        bytes += put(x, step, a, versions[a], stamps[a], &mut out[bytes..]);
+        stamps[a] = state::stamp_after(x, step as u16, stamps[a]);
+        labels = labels | event::is_label(x);
+        a += 1;
     }
-    next
+    Row { bytes, labels }
 }
 
-// Follows the path and writes the records at the front of what is lent; returns the last states.
+// The labels of vertex v, and the exit.
+fn relabel(
+    file: &[u8],
+    h: Header,
+    v: usize,
+    letters: &[u8],
+    kept: &[u16],
+    states: [State; ArrayRecord::MAX],
+    versions: &mut [u8; ArrayRecord::MAX],
+    stamps: &mut [u16; ArrayRecord::MAX],
+) -> [State; ArrayRecord::MAX]
+    requires { ⌜ ReadAs (now file) h ⌝ }
+    requires { ⌜ v < vertices (now file) ⌝ }
+    requires { ⌜ Tabled (now file) (now letters) (now kept) ⌝ }
+    requires { ⌜ length states ≡ 8 ⌝ }
+    requires { ⌜ length (now versions) ≡ 8 ⌝ }
+    requires { ⌜ length (now stamps) ≡ 8 ⌝ }
+    requires { ⌜ ((b : ℕ) → b < arrays (now file) → Visits (event (now file) b v) (settled (getD (now stamps) b 0) (stateOf states b))) ⌝ }
+    ensures { λ r. ⌜ Held (relabelledAt (now (file .entry)) v states (now (stamps .entry))) (arrays (now (file .entry))) r (now (versions .exit)) (now (stamps .exit)) ⌝ }
+{
+    let mut new = states;
+    let m = h.arrays;
+    let mut a = 0;
+    while a < m {
+        let r = array::record_of(file, a);
+        let x = event::at(file, h, r, a, v);
+        let place = a * h.vertices + v;
+        let s = state::settled(new[a], stamps[a]);
+        let t = state::relabelled(s, r, x, letters[place], kept[place]);
+        let u = state::leave(t, r, v == h.vertices - 1);
+        versions[a] = u.current;
+        stamps[a] = state::current_stamp(u);
+        new[a] = u;
+        a += 1;
+    }
+    new
+}
+
+// Follows the path and writes the records at the front of what is lent; returns the last states. The stamps of their current copies stand
+// beside them, and no entry shows a stamp.
 fn follow(
     file: &[u8],
     h: Header,
@@ -143,28 +192,33 @@ fn follow(
     requires { ⌜ pathCheck (now file) (now path) ≡ Passed ⌝ }
     requires { ⌜ Tabled (now file) (now letters) (now kept) ⌝ }
     requires { ⌜ length (recordsBytes (runRecords (now file) (now path))) ≤ length (now out) ⌝ }
-    ensures { λ r. ⌜ ((a : ℕ) → a < arrays (now (file .entry)) → stateOf r a ≡ stateAfter (now (file .entry)) (now (path .entry)) a (steps (now (path .entry)))) ⌝ }
+    ensures { λ r. ⌜ ((a : ℕ) → a < arrays (now (file .entry)) → entryBytes (stateOf r a) ≡ entryBytes (stateAfter (now (file .entry)) (now (path .entry)) a (steps (now (path .entry))))) ⌝ }
     ensures { λ _. ⌜ now (out .exit) ≡ wrote (now (out .entry)) (recordsBytes (runRecords (now (file .entry)) (now (path .entry)))) ⌝ }
 {
-    let mut states = start_all(file, h);
+    let mut versions = [0u8; ArrayRecord::MAX];
+    let mut stamps = [0u16; ArrayRecord::MAX];
+    let mut states = start_all(file, h, &mut versions, &mut stamps);
     let n = path::count(path);
-    let m = h.arrays;
     let mut at = 0;
     let mut i = 0;
-    let mut a = 0;
     while i < n {
         let v = path::vertex(path, i);
-        let r = array::record_of(file, a);
-        let x = event::at(file, h, r, a, v);
-        let s = states[a];
-        let step = i + 1;
-        at += put(x, step, a, s, &mut out[at..]);
-        let place = a * h.vertices + v;
-        let t = state::visit(s, r, x, letters[place], kept[place], step as u16);
-        states[a] = state::leave(t, r, v == h.vertices - 1);
-        let next = a + 1;
-        i += carry(next, m);
-        a = wrap(next, m);
+        let row = refer(file, h, v, i + 1, &versions, &mut stamps, &mut out[at..]);
+        at += row.bytes;
+        if row.labels | (v == h.vertices - 1) {
+            let next = relabel(
+                file,
+                h,
+                v,
+                letters,
+                kept,
+                states,
+                &mut versions,
+                &mut stamps,
+            );
+            states = next;
+        }
+        i += 1;
     }
     states
 }

@@ -1,4 +1,5 @@
 pub mod Cases
+pub mod Current
 pub mod Fits
 pub mod Labels
 pub mod Lent

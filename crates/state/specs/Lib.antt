@@ -1,4 +1,5 @@
 pub mod Cleaning
+pub mod Current
 pub mod Exit
 pub mod Fits
 pub mod Moves

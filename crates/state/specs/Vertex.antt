@@ -2,9 +2,7 @@
 -- Assumes nothing.
 use mathlib.Core.Path.{_≡_}
 use Prim.Native.Nat.{ℕ, _<_}
-use lib.Dec.{T}
 use Rattle.labels.specs.declared.Use.{Use}
-use Rattle.routine.specs.Actions.{isReference}
 use Rattle.routine.specs.declared.action.Action.{Action}
 use Rattle.routine.specs.declared.action.Action.the-variants.{Nothing, Reference, Remap, Unknown}
 use Rattle.routine.specs.declared.array.ArrayRecord.{ArrayRecord}
@@ -27,9 +25,16 @@ visited r (Reference x) u keep step s = referenced x step s
 visited r (Remap t) u keep step s = labelled r u t keep s
 visited r Unknown u keep step s = s
 
--- an array's state before an event: fields and versions within their limits, a current version at a reference
+-- what a label does at a vertex, and nothing else
+abbrev pub relabelled : ArrayRecord → Action → Use → ℕ → State → State
+unfolding labelled
+relabelled r Nothing u keep s = s
+relabelled r (Reference x) u keep s = s
+relabelled r (Remap t) u keep s = labelled r u t keep s
+relabelled r Unknown u keep s = s
+
+-- an array's state before an event: fields and versions within their limits
 pub record Visits (x : Action) (s : State) : Type 0 where
   pub current : Current s
   pub few-copies : s .copies < 65535
-  pub at-reference : T (isReference x) → s .current < 16
   pub at-remap : (t : ℕ) → x ≡ Remap t → t < 16

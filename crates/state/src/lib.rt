@@ -10,12 +10,12 @@ ghost use Prim.Native.Nat.{_+_, _<_};
 ghost use lib.ListN.{set};
 ghost use Rattle.labels.specs.Letters.{useOfByte};
 ghost use Rattle.state.specs.Cleaning.{currentSet, callers, cleared, cleaned};
+ghost use Rattle.state.specs.Current.{currentStamp, settled, stampBy};
 ghost use Rattle.state.specs.Exit.{left};
 ghost use Rattle.state.specs.Moves.{moves, isD, copies, targetStamp, moved};
-ghost use Rattle.state.specs.References.{referenced};
 ghost use Rattle.state.specs.Start.{started};
 ghost use Rattle.state.specs.States.{hasCurrent, emptied, Current};
-ghost use Rattle.state.specs.Vertex.{visited, Visits};
+ghost use Rattle.state.specs.Vertex.{relabelled, Visits};
 ghost use Rattle.sets.specs.Sets.{has};
 
 // The current version, or 255 for none; the set of live versions; a stamp for each version; the copies counted.
@@ -192,34 +192,6 @@ impl State {
             copies: self.copies,
         }
     }
-
-    // A define or modify gives the current version the step number as its stamp.
-    pub fn referenced(self, x: Access, step: u16) -> State
-        requires { ⌜ self .current < 16 ⌝ }
-        ensures { λ r. ⌜ r ≡ referenced x step self ⌝ }
-    {
-        let at = self.current as usize;
-        match x {
-            Access::Read => self,
-            Access::Define => given(self, at, step),
-            Access::Modify => given(self, at, step),
-        }
-    }
-}
-
-// A stamp given to one version.
-fn given(s: State, at: usize, step: u16) -> State
-    requires { ⌜ at < 16 ⌝ }
-    ensures { λ r. ⌜ r ≡ record { current = s .current; live = s .live; stamps = set (s .stamps) at step; copies = s .copies } ⌝ }
-{
-    let old = s.stamps;
-    let stamps = with(old, at, step);
-    State {
-        current: s.current,
-        live: s.live,
-        stamps,
-        copies: s.copies,
-    }
 }
 
 // The first if `b` holds, else the second.
@@ -232,8 +204,8 @@ fn choose(b: bool, x: u16, y: u16) -> u16
     y
 }
 
-// The stamps with x as that of one version. Each is written anew: to write one alone, and then read all of them as parts of a state, would
-// make every step wait for the store.
+// The stamps with x as that of one version. All sixteen are written: one alone, read back at once as part of the whole, would hold up the
+// copy of the state.
 fn with(stamps: [u16; 16], at: usize, x: u16) -> [u16; 16]
     requires { ⌜ at < 16 ⌝ }
     ensures { λ r. ⌜ r ≡ set stamps at x ⌝ }
@@ -303,15 +275,64 @@ pub fn stepped(s: State, letter: u8, t: u8, keep: u16, callers: u16) -> State
     next
 }
 
-// One array at one vertex, by its event, letter and kept set.
-pub fn visit(s: State, r: ArrayRecord, x: Action, letter: u8, keep: u16, step: u16) -> State
+// The stamp of the current copy, 0 if there is none.
+pub fn current_stamp(s: State) -> u16
+    requires { ⌜ Current s ⌝ }
+    ensures { λ r. ⌜ r ≡ currentStamp s ⌝ }
+{
+    let current = s.has_current();
+    if !current {
+        return 0;
+    }
+    let at = s.current as usize;
+    s.stamps[at]
+}
+
+// The state with this stamp in its current copy.
+pub fn settled(s: State, stamp: u16) -> State
+    requires { ⌜ Current s ⌝ }
+    ensures { λ r. ⌜ r ≡ settled stamp s ⌝ }
+{
+    let current = s.has_current();
+    if !current {
+        return s;
+    }
+    let at = s.current as usize;
+    let old = s.stamps;
+    let stamps = with(old, at, stamp);
+    State {
+        current: s.current,
+        live: s.live,
+        stamps,
+        copies: s.copies,
+    }
+}
+
+// The stamp of the current copy after an event that is no label: a define or modify gives the step number.
+pub fn stamp_after(x: Action, step: u16, stamp: u16) -> u16
+    ensures { λ r. ⌜ r ≡ stampBy x step stamp ⌝ }
+{
+    match x {
+        Action::Nothing => stamp,
+        Action::Reference(access) => match access {
+            Access::Read => stamp,
+            Access::Define => step,
+            Access::Modify => step,
+        },
+        Action::Remap(_) => stamp,
+        Action::Unknown => stamp,
+    }
+}
+
+// One array at one vertex, by its event, letter and kept set, if it is a label.
+pub fn relabelled(s: State, r: ArrayRecord, x: Action, letter: u8, keep: u16) -> State
     requires { ⌜ r .initial < 16 ⌝ }
     requires { ⌜ Visits x s ⌝ }
-    ensures { λ n. ⌜ n ≡ visited r x (useOfByte letter) keep step s ⌝ }
+    ensures { λ n. ⌜ n ≡ relabelled r x (useOfByte letter) keep s ⌝ }
 {
     match x {
         Action::Nothing => s,
-        Action::Reference(access) => s.referenced(access, step),
+        Action::Reference(_) => s,
         Action::Remap(t) => stepped(s, letter, t, keep, callers_of(r)),
         Action::Unknown => s,
     }

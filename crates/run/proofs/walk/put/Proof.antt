@@ -1,18 +1,16 @@
 -- `walk::put` meets its contract: a reference has one record, any other event none.
 -- Assumes nothing.
-use mathlib.Core.Path.{_≡_, sym, ap, subst, _∙_}
+use mathlib.Core.Path.{_≡_, sym, ap, _∙_}
 use mathlib.Core.List.{List, append-nil}
 use Prim.Native.Nat.{ℕ}
 use native.Mathlib.Omega.{arith}
-use lib.Dec.{T}
 use lib.ListN.{length}
-use Rattle.routine.specs.Actions.{isReference}
 use Rattle.routine.specs.declared.action.Access.{Access}
 use Rattle.routine.specs.declared.action.Action.{Action}
 use Rattle.routine.specs.declared.action.Action.the-variants.{Reference}
+use Rattle.run.specs.declared.record.Record.{Record}
 use Rattle.run.specs.Records.{recordOf, recordsAt}
 use Rattle.run.specs.Report.{recordBytes, recordsBytes}
-use Rattle.state.specs.States.{stampOf}
 use Rattle.words.specs.Tables.{wrote}
 use borrow.Author.Needs.{needs}
 use Rattle.run.proofs.walk.put.Statement.{statement}
@@ -32,12 +30,20 @@ enum-told c = search needs
 enum-known-x : tie.Need-enum-known-x
 enum-known-x c = search needs
 
-put-reference-requires : tie.Need-put-reference-requires
-put-reference-requires c κs =
-    let p = c .before .before .before .before .before .pre in
-    let g = c .before .before .before .before .before .args in
-    let e = c .before .before .x .given .1 in
-    (p .0 .at-reference (subst (λ (y : Action). T (isReference y)) (sym e) tt), (p .1 .0, omega (arith, ten (g .step) (g .a) (g .s .current) (stampOf (g .s) (g .s .current)) e, p .1 .1)))
+cast-made : tie.Need-cast-made
+cast-made c = search needs
+
+cast-made-2 : tie.Need-cast-made-2
+cast-made-2 c = search needs
+
+made-requires : tie.Need-made-requires
+made-requires c κs = search needs
+
+write-requires : tie.Need-write-requires
+write-requires c κs =
+    let s = c .before .before .before .before .before .before in
+    let g = s .args in
+    omega (arith, ten (g .step) (g .a) (g .version) (g .stamp) (c .before .before .before .x .given .1), s .pre .1)
 
 enum-told-2 : tie.Need-enum-told-2
 enum-told-2 c = search needs
@@ -53,10 +59,14 @@ same-length c = search needs
 
 returns-2 : tie.Need-returns-2
 returns-2 c =
-    let s = c .before .before .before .before .before .before .before .before in
+    let w = c .before .before in
+    let s = w .before .before .before .before .before .before .before in
     let g = s .args in
-    let e = c .before .before .before .before .before .x .given .1 in
-    (sym (ten (g .step) (g .a) (g .s .current) (stampOf (g .s) (g .s .current)) e), c .before .before .put-reference .ensures ∙ ap (λ (r : List ℕ). wrote (s .args .out .now) r) (one (g .step) (g .a) (g .s .current) (stampOf (g .s) (g .s .current)) e))
+    let e = w .before .before .before .before .x .given .1 in (
+      sym (ten (g .step) (g .a) (g .version) (g .stamp) e),
+      w .write .ensures ∙ ap (λ (r : Record). wrote (g .out .now) (recordBytes r)) (w .before .made .ensures)
+          ∙ ap (λ (r : List ℕ). wrote (g .out .now) r) (one (g .step) (g .a) (g .version) (g .stamp) e),
+    )
 
 returns-3 : tie.Need-returns-3
 returns-3 c = search needs
@@ -70,7 +80,10 @@ put-spec =
     (tie.spec
     enum-told
     enum-known-x
-    put-reference-requires
+    cast-made
+    cast-made-2
+    made-requires
+    write-requires
     enum-told-2
     enum-told-3
     returns

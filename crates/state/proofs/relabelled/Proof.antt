@@ -1,0 +1,56 @@
+-- `relabelled` meets its contract, event by event.
+-- Assumes nothing.
+use mathlib.Core.Path.{sym, ap, _∙_}
+use Prim.Native.Nat.{ℕ}
+use borrow.Author.Needs.{needs}
+use Rattle.labels.specs.Letters.{useOfByte}
+use Rattle.routine.specs.declared.action.Action.{Action}
+use Rattle.state.specs.Cleaning.{cleaned}
+use Rattle.state.specs.Moves.{moved}
+use Rattle.state.specs.Vertex.{labelled, relabelled}
+use Rattle.state.proofs.relabelled.Statement.{statement}
+use Rattle.state.proofs.relabelled.Tie as tie
+
+enum-told : tie.Need-enum-told
+enum-told c = search needs
+
+enum-told-2 : tie.Need-enum-told-2
+enum-told-2 c = search needs
+
+enum-known-x : tie.Need-enum-known-x
+enum-known-x c = search needs
+
+callers-of-requires : tie.Need-callers-of-requires
+callers-of-requires c κs = search needs
+
+stepped-requires : tie.Need-stepped-requires
+stepped-requires c κs =
+    let p = c .before .before .before .before .pre .1 in
+    (p .at-remap _ (c .before .before .x .given .1), (p .current, p .few-copies))
+
+enum-told-3 : tie.Need-enum-told-3
+enum-told-3 c = search needs
+
+returns : tie.Need-returns
+unfolding labelled
+returns c = cc
+
+returns-2 : tie.Need-returns-2
+unfolding labelled
+returns-2 c = cc
+
+returns-3 : tie.Need-returns-3
+unfolding labelled
+returns-3 c =
+    let s = c .before .before .before .before .before .args in
+    c .stepped .ensures ∙ ap (λ (own : ℕ). cleaned own (s .keep) (moved (useOfByte (s .letter)) (c .before .before .before .x .given .0 .0) (s .s))) (c .before .callers-of .ensures)
+    ∙ ap (λ (y : Action). relabelled (s .r) y (useOfByte (s .letter)) (s .keep) (s .s)) (sym (c .before .before .before .x .given .1))
+
+returns-4 : tie.Need-returns-4
+unfolding labelled
+returns-4 c = cc
+
+pub relabelled-spec : {M : Type 1} → statement M
+relabelled-spec =
+    tie.close
+    (tie.spec enum-told enum-told-2 enum-known-x callers-of-requires stepped-requires enum-told-3 returns returns-2 returns-3 returns-4)
