@@ -19,7 +19,7 @@ use lib.Seq.{map-set-same, set-getD}
 use Rattle.sets.specs.Sets.{bit, has}
 use Rattle.sets.proofs.Laws.{bit-lt, bit-or, bit-and, has-zero, same}
 use Rattle.flow.specs.Paths.{last, next, edgeCount}
-use Rattle.flow.specs.Solver.{Leads, Holds, near, far, turn, handed, relaxed, swept, rounds, solution, Ends, Altered, Advanced, Solved}
+use Rattle.flow.specs.Solver.{Leads, Holds, near, far, turn, falls, handed, relaxed, swept, rounds, solution, Ends, Altered, Advanced, Solved}
 use Rattle.flow.proofs.Tests.{member-or, member-and}
 use Rattle.flow.proofs.Paths.{extend}
 use Rattle.flow.proofs.Rounds.{turn-lt, turn-turn, near-lt, at-set, or-le, swept-keeps, rounds-keeps, swept-length, rounds-length}
@@ -107,15 +107,15 @@ module _ (gives passes s : List ℕ) where
         complete false brought v u t (handed-iff u k .1 (inr (brought (e .place) u w (e .listed) (e .enters) (e .leaves) h, p)))
 
 module _ (es : List ℕ) (along : Bool) (gives passes : List ℕ) where
-  -- edge i taken, the first j edges of a round taken, a whole round, and r rounds over the empty sets of n vertices
+  -- edge i taken, the first j edges of a round taken by falling or rising number, a whole round, and r rounds over the empty sets of n vertices
   abbrev taken : List ℕ → ℕ → List ℕ
   taken s i = relaxed es along gives passes s i
 
-  abbrev part : List ℕ → ℕ → List ℕ
-  part s j = swept es along gives passes s j
+  abbrev part : Bool → List ℕ → ℕ → List ℕ
+  part falling s j = swept es along falling gives passes s j
 
-  abbrev pub round : List ℕ → List ℕ
-  round s = swept es along gives passes s (edgeCount es)
+  abbrev pub round : Bool → List ℕ → List ℕ
+  round falling s = swept es along falling gives passes s (edgeCount es)
 
   abbrev pub after : ℕ → ℕ → List ℕ
   after n r = rounds es along gives passes (replicate n 0) r
@@ -210,45 +210,53 @@ module _ (es : List ℕ) (along : Bool) (gives passes : List ℕ) where
 
     module _ (n : ℕ) (ends : Ends es n) where
       -- the first j edges left the lane as it was, and none was about to bring k; or they raised the number of ones, and some edge was about to
-      abbrev Calm : List ℕ → ℕ → Type 0
-      Calm s j =
-          (lane (part s j) ≡ lane s) × (ones k (part s j) ≡ ones k s)
-          × ((i : ℕ) → i < j → gap s (turn es along i) ≡ 0)
+      abbrev Calm : Bool → List ℕ → ℕ → Type 0
+      Calm falling s j =
+          (lane (part falling s j) ≡ lane s) × (ones k (part falling s j) ≡ ones k s)
+          × ((i : ℕ) → i < j → gap s (turn es falling i) ≡ 0)
 
-      abbrev Raised : List ℕ → ℕ → Type 0
-      Raised s j = (ones k s < ones k (part s j)) × (Closed s → ⊥)
+      abbrev Raised : Bool → List ℕ → ℕ → Type 0
+      Raised falling s j = (ones k s < ones k (part falling s j)) × (Closed s → ⊥)
 
-      sweep : (s : List ℕ) → length s ≡ n → (j : ℕ) → j ≤ edgeCount es → Calm s j ⊎ Raised s j
+      sweep : (falling : Bool) (s : List ℕ) → length s ≡ n → (j : ℕ) → j ≤ edgeCount es → Calm falling s j ⊎ Raised falling s j
       unfolding swept
-      sweep s e zero l = inl (refl, refl, λ i h. absurd (omega arith))
-      sweep s e (suc j) l = ⊎-elim (λ c. calm c (gap t g) refl) (λ r. inr (omega (arith, more, r .0), r .1)) (sweep s e j (le-of-lt l))
+      sweep falling s e zero l = inl (refl, refl, λ i h. absurd (omega arith))
+      sweep falling s e (suc j) l = ⊎-elim (λ c. calm c (gap t g) refl) (λ r. inr (omega (arith, more, r .0), r .1)) (sweep falling s e j (le-of-lt l))
         where
           t : List ℕ
-          t = part s j
+          t = part falling s j
 
           g : ℕ
-          g = turn es along j
+          g = turn es falling j
 
           more : ones k (taken t g) ≡ ones k t + gap t g
-          more = ones-relaxed t g (omega (arith, swept-length es along gives passes s j (le-of-lt l), near-lt ends along g (turn-lt es along j l)))
+          more = ones-relaxed t g (omega (arith, swept-length es along gives passes falling s j (le-of-lt l), near-lt ends along g (turn-lt es falling j l)))
 
-          calm : Calm s j → (d : ℕ) → gap t g ≡ d → Calm s (suc j) ⊎ Raised s (suc j)
+          calm : Calm falling s j → (d : ℕ) → gap t g ≡ d → Calm falling s (suc j) ⊎ Raised falling s (suc j)
           calm c zero q =
               inl (
                 lane-relaxed t g q ∙ c .0,
                 omega (arith, more, c .1),
-                λ i h. ⊎-elim (λ now. subst (λ (x : ℕ). gap s (turn es along x) ≡ 0) (sym now) (sym (gap-same t s (c .0) g) ∙ q)) (c .2 i) (eq-or-lt-of-le (le-of-suc-le-suc h)),
+                λ i h. ⊎-elim (λ now. subst (λ (x : ℕ). gap s (turn es falling x) ≡ 0) (sym now) (sym (gap-same t s (c .0) g) ∙ q)) (c .2 i) (eq-or-lt-of-le (le-of-suc-le-suc h)),
               )
-          calm c (suc d) q = inr (omega (arith, more, c .1), λ closed. omega (arith, closed g (turn-lt es along j l), gap-same t s (c .0) g))
+          calm c (suc d) q = inr (omega (arith, more, c .1), λ closed. omega (arith, closed g (turn-lt es falling j l), gap-same t s (c .0) g))
+
+      -- a whole round that left the lane as it was
+      calm-closed : (falling : Bool) (s : List ℕ) → Calm falling s (edgeCount es) → Closed s
+      calm-closed falling s c i h = subst (λ (x : ℕ). gap s x ≡ 0) (turn-turn es falling i h) (c .2 (turn es falling i) (turn-lt es falling i h))
+
+      -- a round that alters no set: the lane is closed
+      rest-closed : (falling : Bool) (s : List ℕ) → length s ≡ n → round falling s ≡ s → Closed s
+      rest-closed falling s e same = ⊎-elim (calm-closed falling s) (λ d. absurd (omega (arith, d .0, ap (ones k) same))) (sweep falling s e (edgeCount es) (le-refl (edgeCount es)))
 
       -- after r rounds the lane is closed or has r ones
       progress : (r : ℕ) → Closed (after n r) ⊎ (r ≤ ones k (after n r))
       unfolding rounds
       progress zero = inr zero-le
       progress (suc r) = ⊎-elim
-          (λ c. inl (λ i h. gap-same (round s) s (c .0) i ∙ subst (λ (x : ℕ). gap s x ≡ 0) (turn-turn es along i h) (c .2 (turn es along i) (turn-lt es along i h))))
+          (λ c. inl (λ i h. gap-same (round (falls along r) s) s (c .0) i ∙ calm-closed (falls along r) s c i h))
           (λ d. ⊎-elim (λ closed. absurd (d .1 closed)) (λ few. inr (omega (arith, d .0))) (progress r))
-          (sweep s (after-length n r) (edgeCount es) (le-refl (edgeCount es)))
+          (sweep (falls along r) s (after-length n r) (edgeCount es) (le-refl (edgeCount es)))
         where
           s : List ℕ
           s = after n r
@@ -275,16 +283,23 @@ module _ (es : List ℕ) (along : Bool) (gives passes : List ℕ) where
           λ h. complete gives passes s es k along (brought k s (closed k n ends)) v (h .giver) (h .way) (handed-iff gives passes s (h .giver) k .1 (inl (h .given))),
         )
 
+    -- closed sets stay as they are
+    still : (s : List ℕ) → ((k : ℕ) → Closed k s) → (falling : Bool) → round falling s ≡ s
+    still s closed falling =
+        swept-keeps es along gives passes (λ t. t ≡ s)
+        (λ t i l e. ap (λ (x : List ℕ). taken x i) e ∙ ap (set s (near es along i)) (or-subset _ _ (λ k. closed k i l)) ∙ set-getD s (near es along i) 0)
+        falling s refl (edgeCount es) (le-refl (edgeCount es))
+
     -- further rounds alter no set
     pub further : (r : ℕ) → n ≤ r → rounds es along gives passes (replicate n 0) r ≡ solution es along gives passes n
     unfolding solution
-    further = le-ind (λ r. after n r ≡ after n n) refl (λ r h e. ap round e ∙ still)
-      where
-        still : round (after n n) ≡ after n n
-        still = swept-keeps es along gives passes (λ t. t ≡ after n n)
-            (λ t i l e. ap (λ (x : List ℕ). taken x i) e
-            ∙ ap (set (after n n) (near es along i)) (or-subset _ _ (λ k. closed k n ends i l)) ∙ set-getD (after n n) (near es along i) 0)
-            (after n n) refl (edgeCount es) (le-refl (edgeCount es))
+    further = le-ind (λ r. after n r ≡ after n n) refl (λ r h e. ap (round (falls along r)) e ∙ still (after n n) (λ k. closed k n ends) (falls along r))
+
+    -- where a round altered none, no later one does
+    pub rest : (r : ℕ) → after n (suc r) ≡ after n r → (m : ℕ) → r ≤ m → after n m ≡ after n r
+    unfolding rounds
+    rest r same = le-ind (λ m. after n m ≡ after n r) refl
+        (λ m h e. ap (round (falls along m)) e ∙ still (after n r) (λ k. rest-closed k n ends (falls along r) (after n r) (after-length n r) same) (falls along m))
 
   -- ---- going on until a round alters nothing
 
@@ -300,10 +315,10 @@ module _ (es : List ℕ) (along : Bool) (gives passes : List ℕ) where
     going-none t e = record { sets = e; most = zero-le; altered = λ j h. absurd (omega arith) }
 
     -- one more, and whether it altered a set
-    module _ (ends : Ends es n) (t u : List ℕ) (b : Bool) (r : ℕ) (g : Going t r) (a : Advanced (round t) t b u) where
+    module _ (ends : Ends es n) (t u : List ℕ) (b f : Bool) (r : ℕ) (g : Going t r) (way : f ≡ falls along r) (a : Advanced (round f t) t b u) where
       made : u ≡ after n (suc r)
       unfolding rounds
-      made = a .sets ∙ ap round (g .sets)
+      made = a .sets ∙ ap₂ round way (g .sets)
 
       pub going-more : b ≡ true → Going u (r + 1)
       going-more did =
@@ -322,7 +337,7 @@ module _ (es : List ℕ) (along : Bool) (gives passes : List ℕ) where
           let same : after n (suc r) ≡ after n r = sym made ∙ old in
           let back : r ≡ r + 1 - 1 = omega arith in
           record {
-            sets = old ∙ sym (le-ind (λ m. after n m ≡ after n r) refl (λ m h e. ap round e ∙ same) n (g .most));
+            sets = old ∙ sym (rest n ends r same n (g .most));
             counted = record {
               some = omega arith;
               most = omega (arith, g .most);

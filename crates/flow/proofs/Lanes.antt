@@ -7,7 +7,7 @@ use Prim.Native.Nat.{ℕ, zero, suc}
 use lib.Bits.{bitAnd, bitOr}
 use lib.ListN.{getD, set, replicate, List·getD-map}
 use Rattle.flow.specs.Paths.{edgeCount}
-use Rattle.flow.specs.Solver.{near, far, turn, handed, relaxed, swept, rounds, solution}
+use Rattle.flow.specs.Solver.{near, far, turn, falls, handed, relaxed, swept, rounds, solution}
 
 module _ (f : ℕ → ℕ) (f-zero : f 0 ≡ 0) (f-or : (a b : ℕ) → f (bitOr a b) ≡ bitOr (f a) (f b)) (f-and : (a b : ℕ) → f (bitAnd a b) ≡ bitAnd (f a) (f b)) where
   map-at : (s : List ℕ) (v : ℕ) → f (getD s v 0) ≡ getD (map f s) v 0
@@ -31,19 +31,19 @@ module _ (f : ℕ → ℕ) (f-zero : f 0 ≡ 0) (f-or : (a b : ℕ) → f (bitOr
         map-set s (near es along i) _
         ∙ ap (set (map f s) (near es along i)) (f-or _ _ ∙ ap₂ bitOr (map-at s (near es along i)) (map-handed s (far es along i)))
 
-    map-swept : (s : List ℕ) (j : ℕ) → map f (swept es along gives passes s j) ≡ swept es along (map f gives) (map f passes) (map f s) j
+    map-swept : (falling : Bool) (s : List ℕ) (j : ℕ) → map f (swept es along falling gives passes s j) ≡ swept es along falling (map f gives) (map f passes) (map f s) j
     unfolding swept
-    map-swept s zero = refl
-    map-swept s (suc j) =
-        map-relaxed (swept es along gives passes s j) (turn es along j)
-        ∙ ap (λ (l : List ℕ). relaxed es along (map f gives) (map f passes) l (turn es along j)) (map-swept s j)
+    map-swept falling s zero = refl
+    map-swept falling s (suc j) =
+        map-relaxed (swept es along falling gives passes s j) (turn es falling j)
+        ∙ ap (λ (l : List ℕ). relaxed es along (map f gives) (map f passes) l (turn es falling j)) (map-swept falling s j)
 
     map-rounds : (s : List ℕ) (r : ℕ) → map f (rounds es along gives passes s r) ≡ rounds es along (map f gives) (map f passes) (map f s) r
     unfolding rounds
     map-rounds s zero = refl
     map-rounds s (suc r) =
-        map-swept (rounds es along gives passes s r) (edgeCount es)
-        ∙ ap (λ (l : List ℕ). swept es along (map f gives) (map f passes) l (edgeCount es)) (map-rounds s r)
+        map-swept (falls along r) (rounds es along gives passes s r) (edgeCount es)
+        ∙ ap (λ (l : List ℕ). swept es along (falls along r) (map f gives) (map f passes) l (edgeCount es)) (map-rounds s r)
 
     pub map-solution : (n : ℕ) → map f (solution es along gives passes n) ≡ solution es along (map f gives) (map f passes) n
     unfolding solution

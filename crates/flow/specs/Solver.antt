@@ -3,10 +3,10 @@
 -- A set is a mask. No definition here names its width.
 -- Assumes nothing.
 use mathlib.Core.Path.{_≡_}
-use mathlib.Core.Bool.{Bool, true, false, cond}
+use mathlib.Core.Bool.{Bool, true, false, not, _&&_, cond}
 use mathlib.Core.List.{List}
-use Prim.Native.Nat.{ℕ, zero, suc, _+_, _-_, _≤_, _<_}
-use lib.Dec.{T}
+use Prim.Native.Nat.{ℕ, zero, suc, _+_, _-_, _%_, _≤_, _<_}
+use lib.Dec.{T, eqb, ltb}
 use lib.Bits.{bitAnd, bitOr}
 use lib.ListN.{length, getD, set, replicate}
 use Rattle.sets.specs.Sets.{has}
@@ -33,9 +33,14 @@ near es along i = cond along (edgeFrom es i) (edgeTo es i)
 abbrev pub far : List ℕ → Bool → ℕ → ℕ
 far es along i = cond along (edgeTo es i) (edgeFrom es i)
 
--- the edge that a round takes as its j-th: falling along the edges, rising against them, as facts travel
+-- the edge that a round takes as its j-th, by falling or by rising number
 abbrev pub turn : List ℕ → Bool → ℕ → ℕ
-turn es along j = cond along (edgeCount es - 1 - j) j
+turn es falling j = cond falling (edgeCount es - 1 - j) j
+
+-- whether round r goes by falling number: along the edges, not against them, as facts travel where edges lead to higher numbers;
+-- from the third round on, every second round goes the other way
+unfoldable pub falls : Bool → ℕ → Bool
+falls along r = cond (ltb 1 r && eqb (r % 2) 0) (not along) along
 
 -- what the far end hands on: what it gives, and what it holds and passes
 abbrev pub handed : List ℕ → List ℕ → List ℕ → ℕ → ℕ
@@ -47,15 +52,15 @@ relaxed es along gives passes sets i =
     set sets (near es along i) (bitOr (getD sets (near es along i) 0) (handed gives passes sets (far es along i)))
 
 -- the first j edges of a round taken
-unfoldable pub swept : List ℕ → Bool → List ℕ → List ℕ → List ℕ → ℕ → List ℕ
-swept es along gives passes sets zero = sets
-swept es along gives passes sets (suc j) = relaxed es along gives passes (swept es along gives passes sets j) (turn es along j)
+unfoldable pub swept : List ℕ → Bool → Bool → List ℕ → List ℕ → List ℕ → ℕ → List ℕ
+swept es along falling gives passes sets zero = sets
+swept es along falling gives passes sets (suc j) = relaxed es along gives passes (swept es along falling gives passes sets j) (turn es falling j)
 
 -- r whole rounds
 unfoldable pub rounds : List ℕ → Bool → List ℕ → List ℕ → List ℕ → ℕ → List ℕ
-unfolding swept
+unfolding swept falls
 rounds es along gives passes sets zero = sets
-rounds es along gives passes sets (suc r) = swept es along gives passes (rounds es along gives passes sets r) (edgeCount es)
+rounds es along gives passes sets (suc r) = swept es along (falls along r) gives passes (rounds es along gives passes sets r) (edgeCount es)
 
 -- the sets of n vertices: from empty sets, as many rounds as vertices
 unfoldable pub solution : List ℕ → Bool → List ℕ → List ℕ → ℕ → List ℕ

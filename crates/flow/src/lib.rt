@@ -5,7 +5,7 @@ ghost use mathlib.Core.Bool.{cond};
 ghost use Prim.Native.Nat.{_<_};
 ghost use lib.ListN.{length, replicate};
 ghost use Rattle.flow.specs.Paths.{edgeCount};
-ghost use Rattle.flow.specs.Solver.{relaxed, swept, Tables, Advanced, Solved};
+ghost use Rattle.flow.specs.Solver.{relaxed, swept, falls, Tables, Advanced, Solved};
 
 // Empties every set.
 fn clear(sets: &mut [u64])
@@ -50,24 +50,45 @@ fn relax(
     let passed = passes[far];
     let old = sets[near];
     let new = old | (given | (held & passed));
+    if old == new {
+        return false;
+    }
     sets[near] = new;
-    old != new
+    true
 }
 
-// Takes every edge once, in the order in which facts travel. Says whether a set was altered.
-fn round(edges: &[u8], along: bool, gives: &[u64], passes: &[u64], sets: &mut [u64]) -> bool
+// Takes every edge once, by falling or by rising number. Says whether a set was altered.
+fn round(
+    edges: &[u8],
+    along: bool,
+    falling: bool,
+    gives: &[u64],
+    passes: &[u64],
+    sets: &mut [u64],
+) -> bool
     requires { ⌜ Tables (now edges) (now gives) (now passes) (now sets) ⌝ }
     ensures { λ r. ⌜ Advanced
-        (swept (now (edges .entry)) along (now (gives .entry)) (now (passes .entry)) (now (sets .entry)) (edgeCount (now (edges .entry))))
+        (swept (now (edges .entry)) along falling (now (gives .entry)) (now (passes .entry)) (now (sets .entry)) (edgeCount (now (edges .entry))))
         (now (sets .entry)) r (now (sets .exit)) ⌝ }
 {
     let count = edges.len() / 4;
     let mut changed = false;
     for j in 0..count {
-        let i = pick(along, count - 1 - j, j);
+        let i = pick(falling, count - 1 - j, j);
         changed = relax(edges, along, gives, passes, sets, i) | changed;
     }
     changed
+}
+
+// Whether round r goes by falling number.
+fn falls(along: bool, r: usize) -> bool
+    ensures { λ b. ⌜ b ≡ falls along r ⌝ }
+{
+    let back = (r > 1) & (r % 2 == 0);
+    if back {
+        return !along;
+    }
+    along
 }
 
 // Fills in the sets of all vertices, one for each entry of `sets`, and returns the number of rounds. The last round alters no set.
@@ -79,7 +100,7 @@ pub fn solve(edges: &[u8], along: bool, gives: &[u64], passes: &[u64], sets: &mu
 {
     clear(sets);
     let mut r: usize = 0;
-    while round(edges, along, gives, passes, sets) {
+    while round(edges, along, falls(along, r), gives, passes, sets) {
         r += 1;
     }
     r + 1

@@ -6,7 +6,7 @@ use Prim.Native.Nat.{ℕ, _<_}
 use native.Mathlib.Omega.{arith}
 use borrow.Author.Needs.{needs}
 use lib.ListN.{length}
-use Rattle.flow.proofs.Rounds.{advance}
+use Rattle.flow.proofs.Rounds.{rests, advances}
 use Rattle.flow.proofs.relax.Statement.{statement}
 use Rattle.flow.proofs.relax.Tie as tie
 
@@ -70,25 +70,36 @@ mul-old c = omega (arith, within (c .before .before .before))
 slice-read-old : tie.Need-slice-read-old
 slice-read-old c = omega (arith, within (c .before .before .before .before))
 
+returns : tie.Need-returns
+returns c =
+    let p = c .before .before .before .before .before in
+    let a = p .before .before .before .before .before .before .before .before .args in
+    let from = p .before .before .before .at .ensures in
+    let to = p .before .before .at2 .ensures in
+    rests (a .edges .now) (a .along) (a .gives .now) (a .passes .now) (a .sets .now) (a .i) (p .before .pick .result) (p .pick2 .result)
+    (p .before .pick .ensures ∙ ap₂ (cond (a .along)) from to)
+    (p .pick2 .ensures ∙ ap₂ (cond (a .along)) to from)
+    (c .if1 .taken)
+
 mul-sets : tie.Need-mul-sets
-mul-sets c = omega (arith, within (c .before .before .before .before))
+mul-sets c = omega (arith, within (c .before .before .before .before .before))
 
 slice-write-sets : tie.Need-slice-write-sets
-slice-write-sets c = omega (arith, within (c .before .before .before .before))
+slice-write-sets c = omega (arith, within (c .before .before .before .before .before))
 
 same-length : tie.Need-same-length
 same-length c = search needs
 
-returns : tie.Need-returns
-returns c =
-    let p = c .before .before .before .before in
+returns-2 : tie.Need-returns-2
+returns-2 c =
+    let p = c .before .before .before .before .before in
     let a = p .before .before .before .before .before .before .before .before .args in
     let from = p .before .before .before .at .ensures in
     let to = p .before .before .at2 .ensures in
-    advance (a .edges .now) (a .along) (a .gives .now) (a .passes .now) (a .sets .now) (a .i) (p .before .pick .result) (p .pick2 .result)
+    advances (a .edges .now) (a .along) (a .gives .now) (a .passes .now) (a .sets .now) (a .i) (p .before .pick .result) (p .pick2 .result)
     (p .before .pick .ensures ∙ ap₂ (cond (a .along)) from to)
     (p .pick2 .ensures ∙ ap₂ (cond (a .along)) to from)
-    (within p .0)
+    (within p .0) (c .if1 .left)
 
 pub relax-spec : {M : Type 1} → statement M
 relax-spec =
@@ -109,7 +120,8 @@ relax-spec =
     shared-slice-read-passed
     mul-old
     slice-read-old
+    returns
     mul-sets
     slice-write-sets
     same-length
-    returns)
+    returns-2)

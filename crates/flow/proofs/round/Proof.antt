@@ -13,17 +13,17 @@ use Rattle.flow.proofs.round.Statement.{statement}
 use Rattle.flow.proofs.round.Tie as tie
 
 abbrev Inv-loop : tie.InvT-loop
-Inv-loop edges along gives passes sets₀ count changed₀ j₀ sets changed j =
-    (sets ≡ swept edges along gives passes sets₀ j) × (j ≤ count) × Altered changed sets₀ sets
+Inv-loop edges along falling gives passes sets₀ count changed₀ j₀ sets changed j =
+    (sets ≡ swept edges along falling gives passes sets₀ j) × (j ≤ count) × Altered changed sets₀ sets
 
 abbrev μ-loop : tie.MeasureT-loop
-μ-loop edges along gives passes sets₀ count changed₀ j₀ sets changed j = count - j
+μ-loop edges along falling gives passes sets₀ count changed₀ j₀ sets changed j = count - j
 
 -- there are as many sets as at the start
 sets-length : (c : tie.At-loop Inv-loop μ-loop) → length (c .loop .sets) ≡ length (c .before .before .before .before .before .args .sets .now)
 sets-length c =
     let a = c .before .before .before .before .before .args in
-    ap length (c .loop .inv .0) ∙ swept-length (a .edges .now) (a .along) (a .gives .now) (a .passes .now) (a .sets .now) (c .loop .j) (c .loop .inv .1)
+    ap length (c .loop .inv .0) ∙ swept-length (a .edges .now) (a .along) (a .gives .now) (a .passes .now) (a .falling) (a .sets .now) (c .loop .j) (c .loop .inv .1)
 
 loop-holds : tie.Need-loop-holds Inv-loop μ-loop
 unfolding swept
@@ -43,7 +43,7 @@ relax-requires c κs =
     let l = c .before .before .before in
     let s = l .before .before .before .before .before in (
       tables _ _ _ (s .args .sets .now) _ (s .pre) (sets-length l),
-      rw (c .before .pick .ensures) (turn-lt (s .args .edges .now) (s .args .along) (l .loop .j) (c .before .before .loop-test .taken)),
+      rw (c .before .pick .ensures) (turn-lt (s .args .edges .now) (s .args .falling) (l .loop .j) (c .before .before .loop-test .taken)),
     )
 
 add-j : tie.Need-add-j Inv-loop μ-loop
@@ -57,7 +57,7 @@ loop-again c =
     let l = c .before .before .before .before .before .before in
     let a = l .before .before .before .before .before .args in
     let x = c .before .before .relax in
-    let n = swept-more (a .edges .now) (a .along) (a .gives .now) (a .passes .now) (x .result) (l .loop .changed)
+    let n = swept-more (a .edges .now) (a .along) (a .gives .now) (a .passes .now) (a .falling) (x .result) (l .loop .changed)
     (a .sets .now) (l .loop .sets) (x .last .1 .1 .1 .1 .0) (c .before .before .before .before .pick .result) (l .loop .j)
     (c .before .before .before .before .before .loop-test .taken) (l .loop .inv .0) (l .loop .inv .2)
     (c .before .before .before .before .pick .ensures) (x .ensures) in

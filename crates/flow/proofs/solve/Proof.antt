@@ -35,9 +35,12 @@ loop-holds c =
     let a = c .before .before .before .before .before .before .before .before .args in
     going-none (a .edges .now) (a .along) (a .gives .now) (a .passes .now) _ _ (c .before .before .clear .ensures ∙ ap (λ (n : ℕ). replicate n 0) (sym (vertices (c .before .before))))
 
+falls-requires : tie.Need-falls-requires Inv-loop μ-loop
+falls-requires c κs = search needs
+
 round-requires : tie.Need-round-requires Inv-loop μ-loop
 round-requires c κs =
-    let l = c .before in
+    let l = c .before .before in
     let s = l .before .before .before .before .before .before .before .before .before in
     let a = s .args in
     tables _ _ _ (a .sets .now) _ (s .pre)
@@ -48,10 +51,10 @@ add-r c = omega arith
 
 loop-again : tie.Need-loop-again Inv-loop μ-loop
 loop-again c =
-    let l = c .before .before .before .before .before in
+    let l = c .before .before .before .before .before .before in
     let a = l .before .before .before .before .before .before .before .before .before .args in
     let x = c .before .before .before .round in
-    going-more (a .edges .now) (a .along) (a .gives .now) (a .passes .now) _ (within l) (l .loop .sets) (x .last .1 .1 .1 .1 .0) _ (l .loop .r) (l .loop .inv) (x .ensures) (c .if1 .taken)
+    going-more (a .edges .now) (a .along) (a .gives .now) (a .passes .now) _ (within l) (l .loop .sets) (x .last .1 .1 .1 .1 .1 .0) _ _ (l .loop .r) (l .loop .inv) (c .before .before .before .before .before .falls .ensures) (x .ensures) (c .if1 .taken)
 
 loop-less : tie.Need-loop-less Inv-loop μ-loop
 loop-less c = omega (arith, loop-again c .most)
@@ -61,15 +64,15 @@ add-result c = omega arith
 
 returns : tie.Need-returns Inv-loop μ-loop
 returns c =
-    let l = c .before .before .before .before .before in
+    let l = c .before .before .before .before .before .before in
     let a = l .before .before .before .before .before .before .before .before .before .args in
     let x = c .before .before .before .round in
-    subst (λ (n : ℕ). Solved (a .edges .now) (a .along) (a .gives .now) (a .passes .now) n (l .loop .r + 1) (x .last .1 .1 .1 .1 .0)) (vertices (l .before .before .before))
-    (going-stops (a .edges .now) (a .along) (a .gives .now) (a .passes .now) _ (within l) (l .loop .sets) (x .last .1 .1 .1 .1 .0) _ (l .loop .r) (l .loop .inv) (x .ensures) (c .if1 .left))
+    subst (λ (n : ℕ). Solved (a .edges .now) (a .along) (a .gives .now) (a .passes .now) n (l .loop .r + 1) (x .last .1 .1 .1 .1 .1 .0)) (vertices (l .before .before .before))
+    (going-stops (a .edges .now) (a .along) (a .gives .now) (a .passes .now) _ (within l) (l .loop .sets) (x .last .1 .1 .1 .1 .1 .0) _ _ (l .loop .r) (l .loop .inv) (c .before .before .before .before .before .falls .ensures) (x .ensures) (c .if1 .left))
 
 same-length : tie.Need-same-length Inv-loop μ-loop
 same-length c =
-    let a = c .before .before .before .before .before .before .before .before .before .before .before .before .before .before .args in
+    let a = c .before .before .before .before .before .before .before .before .before .before .before .before .before .before .before .args in
     ap length (returns c .sets) ∙ solution-length (a .edges .now) (a .along) (a .gives .now) (a .passes .now) _
 
 pub solve-spec : {M : Type 1} → statement M
@@ -80,6 +83,7 @@ solve-spec =
     μ-loop
     clear-requires
     loop-holds
+    falls-requires
     round-requires
     add-r
     loop-less
