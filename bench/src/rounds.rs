@@ -1,6 +1,7 @@
 //! How many rounds over the edges each pass of the planner takes, the last one, which alters
 //! nothing, included. A round takes the edges in place: those of a pass along them from the
-//! last to the first, those of a pass against them from the first to the last.
+//! last to the first, those of a pass against them from the first to the last; from the third
+//! round on, every second round goes the other way.
 
 use std::fmt;
 
@@ -85,13 +86,19 @@ fn solve(
     } else {
         edges.to_vec()
     };
+    let the_other_way: Vec<(usize, usize)> = far_and_near.iter().rev().copied().collect();
     let mut sets = vec![0; vertices];
     let mut rounds = 0;
     let mut altered = true;
     while altered {
         altered = false;
+        let turned = rounds > 1 && rounds % 2 == 0;
         rounds += 1;
-        for &(far, near) in &far_and_near {
+        for &(far, near) in if turned {
+            &the_other_way
+        } else {
+            &far_and_near
+        } {
             let handed = gives[far] | sets[far] & passes[far];
             altered |= handed & !sets[near] != 0;
             sets[near] |= handed;

@@ -20,7 +20,7 @@ use Rattle.words.specs.Tables.{table, rows}
 use Rattle.labels.proofs.Rows.{rows-ext}
 
 -- an entry of a lane
-pub lane-at : (w j : ℕ) (words : List ℕ) (v : ℕ) → getD (map (lane w j) words) v 0 ≡ lane w j (getD words v 0)
+lane-at : (w j : ℕ) (words : List ℕ) (v : ℕ) → getD (map (lane w j) words) v 0 ≡ lane w j (getD words v 0)
 lane-at w j words v = ap (getD (map (lane w j) words) v) (sym (lane-zero w j)) ∙ List·getD-map (lane w j) words v 0
 
 -- a lane is a table if their entries agree

@@ -1,11 +1,9 @@
 -- The table of an array's letters gives each vertex its letter; by event and letter a label is kept.
 -- Assumes nothing.
-use mathlib.Core.Path.{_≡_, refl, sym, ap, _∙_}
+use mathlib.Core.Path.{_≡_, refl, ap, _∙_}
 use mathlib.Core.Bool.{Bool, not, _&&_}
 use mathlib.Core.List.{List}
 use Prim.Native.Nat.{ℕ, _+_, _*_, _≤_, _<_}
-use native.Mathlib.Nat.{mul-le-mul-right}
-use native.Mathlib.Omega.{arith}
 use lib.ListN.{length, getD}
 use Rattle.labels.specs.Events.{event}
 use Rattle.labels.specs.Letters.{letterByte, useOfByte, letterTable}
@@ -17,9 +15,9 @@ use Rattle.routine.specs.Actions.{isRemap}
 use Rattle.routine.specs.Layout.{arrays, vertices}
 use Rattle.routine.specs.declared.action.Action.{Action}
 use Rattle.routine.specs.declared.header.Header.{Header}
-use Rattle.words.proofs.Tables.{table-at, rows-length}
+use Rattle.words.proofs.Tables.{table-at}
 use Rattle.words.specs.Tables.{rows}
-use Rattle.labels.proofs.Bounds.{letters-length, entries}
+use Rattle.labels.proofs.Bounds.{letters-length}
 use Rattle.labels.proofs.Rows.{part, rows-inside, rows-row}
 
 pub letter-use : (u : Use) → useOfByte (letterByte u) ≡ u

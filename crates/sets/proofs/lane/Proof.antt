@@ -1,7 +1,6 @@
 -- `sets::lane` meets its contract: the shift brings the lane down.
 -- Assumes nothing.
 use mathlib.Core.Path.{refl}
-use Prim.Native.Nat.{_*_, _/_, _^_}
 use native.Mathlib.Nat.{mod-lt}
 use borrow.Author.Needs.{needs}
 use lib.Dec.{lit<}
@@ -19,7 +18,7 @@ shr-result : tie.Need-shr-result
 shr-result c = search needs
 
 cast-result-2 : tie.Need-cast-result-2
-cast-result-2 c = record { fits = mod-lt (c .args .word / 2 ^ (16 * c .args .j)) (lit< tt) }
+cast-result-2 c = record { fits = mod-lt _ (lit< tt) }
 
 returns : tie.Need-returns
 unfolding lane

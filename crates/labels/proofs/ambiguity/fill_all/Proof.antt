@@ -1,6 +1,5 @@
 -- `ambiguity::fill_all` meets its contract: one row after the other, in both tables.
 -- Assumes nothing.
-use mathlib.Core.Path.{_≡_}
 use Rattle.labels.specs.Ambiguity.{arriveGives, arrivePasses}
 use Prim.Native.Nat.{_+_, _-_, _*_, _≤_, _<_}
 use native.Mathlib.Omega.{arith}

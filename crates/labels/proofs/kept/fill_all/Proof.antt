@@ -1,6 +1,5 @@
 -- `kept::fill_all` meets its contract: one row after the other, in both tables.
 -- Assumes nothing.
-use mathlib.Core.Path.{_≡_}
 use mathlib.Core.Bool.{cond}
 use Rattle.labels.specs.Events.{everyVersion}
 use Rattle.labels.specs.Kept.{leavingSet, passesKept}

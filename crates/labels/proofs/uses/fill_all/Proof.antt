@@ -1,6 +1,5 @@
 -- `uses::fill_all` meets its contract: one row after the other, in both tables.
 -- Assumes nothing.
-use mathlib.Core.Path.{_≡_}
 use Rattle.labels.specs.Events.{event}
 use Rattle.labels.specs.Uses.{useGives, usePasses}
 use Prim.Native.Nat.{_+_, _-_, _*_, _≤_, _<_}
