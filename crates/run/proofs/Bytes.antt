@@ -33,11 +33,12 @@ rows-same f g zero same = refl
 rows-same f g (suc n) same = ap₂ _++_ (rows-same f g n (λ i h. same i (omega arith))) (same n (omega arith))
 
 pub entries-of :
-    (file path : List ℕ) (states : List State)
-    → ((a : ℕ) → a < arrays file → entryBytes (stateOf states a) ≡ entryBytes (stateAfter file path a (steps path)))
+    (file path : List ℕ) (states : List State) → ((a : ℕ) → a < arrays file → stateOf states a ≡ stateAfter file path a (steps path))
     → entriesOf states (arrays file) ≡ entries file path
 unfolding entries
-entries-of file path states = rows-same (λ a. entryBytes (stateOf states a)) (λ a. entryBytes (stateAfter file path a (steps path))) (arrays file)
+entries-of file path states is =
+    rows-same (λ a. entryBytes (stateOf states a)) (λ a. entryBytes (stateAfter file path a (steps path))) (arrays file)
+    (λ a h. ap entryBytes (is a h))
 
 -- ---- records
 

@@ -79,6 +79,28 @@ untouched-more {a} {states₀} {states} {stamps₀} {stamps} s stamp u = record 
   stamps-same = λ b h. getD-set-other stamps a b stamp 0 (λ e. omega arith) ∙ u .stamps-same b (omega arith);
 }
 
+-- the first a states have the stamps of their current copies in them, the others are as they were
+pub record Settling (stamps : List ℕ) (old : List State) (a : ℕ) (new : List State) : Type 0 where
+  pub sized : length new ≡ 8
+  pub done : (b : ℕ) → b < a → stateOf new b ≡ settled (getD stamps b 0) (stateOf old b)
+  pub rest : (b : ℕ) → a ≤ b → stateOf new b ≡ stateOf old b
+
+pub settling-more : {stamps : List ℕ} {old new : List State} {a : ℕ} {s : State} → Settling stamps old a new → a < 8
+    → s ≡ settled (getD stamps a 0) (stateOf new a) → Settling stamps old (a + 1) (set new a s)
+settling-more {stamps} {old} {new} {a} {s} h in-a is = record {
+  sized = length-set new a s ∙ h .sized;
+  done = λ b in-b. go b in-b (eqb b a) refl;
+  rest = λ b over. getD-set-other new a b s _ (λ e. omega arith) ∙ h .rest b (omega arith);
+}
+  where
+    go : (b : ℕ) → b < a + 1 → (t : Bool) → eqb b a ≡ t → stateOf (set new a s) b ≡ settled (getD stamps b 0) (stateOf old b)
+    go b in-b true e =
+        rw (eqb-true b a e)
+        (getD-set-same new a s _ (omega (arith, h .sized)) ∙ is ∙ ap (settled (getD stamps a 0)) (h .rest a (omega arith)))
+    go b in-b false e =
+        let ne = eqb-false b a e in
+        getD-set-other new a b s _ ne ∙ h .done b (omega (arith, ne))
+
 -- ---- references
 
 pub referred-none : (file : List ℕ) (v step : ℕ) (versions before old : List ℕ) → length before ≡ 8 → Referred file v step versions before old 0 0 false before old

@@ -1,7 +1,7 @@
 -- References at a vertex and on a path, counted one by one; both are few. The vertices of an accepted path are vertices of the routine.
 -- Assumes nothing.
 use mathlib.Core.Path.{_≡_, refl, sym, ap}
-use mathlib.Core.Bool.{Bool, true, false, cond}
+use mathlib.Core.Bool.{cond}
 use mathlib.Core.List.{List}
 use Prim.Native.Nat.{ℕ, zero, suc, _+_, _*_, _≤_, _<_}
 use native.Mathlib.Numerals.{add-one}
@@ -14,11 +14,8 @@ use Rattle.routine.specs.Reader.{WellFormed}
 use Rattle.routine.proofs.WellFormed.{edge-limits}
 use Rattle.run.specs.Paths.{steps, vertexAt}
 use Rattle.run.specs.Report.{referencesAmong, referencesAt, referencesOn}
+use Rattle.words.proofs.Tables.{at-most-one}
 use Rattle.run.proofs.Rules.Paths.{Walk}
-
-at-most-one : (b : Bool) → cond b 1 0 ≤ 1
-at-most-one true = omega arith
-at-most-one false = omega arith
 
 module _ (file : List ℕ) (v : ℕ) where
   pub among-none : referencesAmong file v 0 ≡ 0

@@ -27,14 +27,13 @@ use Rattle.state.specs.Current.{settled}
 use Rattle.state.specs.Exit.{left}
 use Rattle.state.specs.Fits.{Fits}
 use Rattle.state.specs.Start.{started}
-use Rattle.state.specs.States.{nothing, hasCurrent, stampOf}
+use Rattle.state.specs.States.{nothing, stampOf, Current}
 use Rattle.state.specs.Vertex.{labelled, visited, relabelled, Visits}
 use Rattle.state.specs.declared.State.{State}
-use Rattle.state.proofs.Cases.{at-cond}
-use Rattle.state.proofs.Current.{settled-current, settled-copies, seen-is, visited-is, no-label}
+use Rattle.state.proofs.Current.{settled-current, settled-copies, settled-before, seen-is, visited-is, no-label}
 use Rattle.run.specs.Paths.{steps, vertexAt, pathCheck}
 use Rattle.run.specs.Records.{recordsAt}
-use Rattle.run.specs.Report.{entryBytes, stateOf, recordsBytes}
+use Rattle.run.specs.Report.{stateOf, recordsBytes}
 use Rattle.run.specs.Run.{stateAfter, runRecords}
 use Rattle.run.specs.Walks.{Held, rowBytes, Referred, relabelledAt}
 use Rattle.run.proofs.Bytes.{recordBytesAt, records-bytes, rows-same}
@@ -189,9 +188,6 @@ module _ (file path : List ℕ) (well : WellFormed file) (accepted : pathCheck f
 
 -- ---- the path ends
 
-entry-same : (stamp : ℕ) (s : State) → entryBytes (settled stamp s) ≡ entryBytes s
-entry-same stamp s = at-cond (λ (r : State). entryBytes r ≡ entryBytes s) (hasCurrent s) (λ _. refl) (λ _. refl)
-
 module _ {file path old : List ℕ} {at i : ℕ} {states : List State} {versions stamps out : List ℕ}
     (w : Walking file path old at i states versions stamps out) (ends : steps path ≤ i) where
   over : i ≡ steps path
@@ -200,9 +196,13 @@ module _ {file path old : List ℕ} {at i : ℕ} {states : List State} {versions
   pub all-written : out ≡ wrote old (recordsBytes (runRecords file path))
   all-written = w .out-is ∙ ap (wrote old) (ap (doneAt file path) over ∙ sym (records-bytes file path))
 
-  pub last-entries : (b : ℕ) → b < arrays file → entryBytes (stateOf states b) ≡ entryBytes (stateAfter file path b (steps path))
-  last-entries b in-b =
-      sym (entry-same (getD stamps b 0) (stateOf states b)) ∙ ap entryBytes (w .held .stand b in-b .is) ∙ ap (λ (n : ℕ). entryBytes (stateAfter file path b n)) over
+  pub last-states : (b : ℕ) → b < arrays file → settled (getD stamps b 0) (stateOf states b) ≡ stateAfter file path b (steps path)
+  last-states b in-b = w .held .stand b in-b .is ∙ ap (stateAfter file path b) over
+
+  pub last-current : WellFormed file → pathCheck file path ≡ Passed → (b : ℕ) → b < arrays file → Current (stateOf states b)
+  last-current well accepted b in-b =
+      settled-before (getD stamps b 0) (stateOf states b)
+      (subst Current (sym (w .held .stand b in-b .is)) (state-fits file path well accepted b i in-b (w .on-path) .current))
 
 -- the definition's next state, from what the code has
 pub relabelled-is : (file : List ℕ) (v b : ℕ) (states : List State) (stamps : List ℕ) {letter keep : ℕ} {r : ArrayRecord} {x : Action} {s t n : State} {ends : Bool}

@@ -2,9 +2,9 @@
 -- every remapping, ends with out and inout home and right, and copies no more often.
 -- Assumes nothing.
 use mathlib.Core.Path.{_≡_}
-use mathlib.Core.List.{List, [], _∷_, _++_}
+use mathlib.Core.List.{List}
 use mathlib.Core.Option.{some}
-use Prim.Native.Nat.{ℕ, zero, suc, _-_, _≤_, _<_}
+use Prim.Native.Nat.{ℕ, _-_, _≤_, _<_}
 use lib.Dec.{T}
 use Rattle.labels.specs.Events.{exit, kind, initial, event, isLabel, version}
 use Rattle.labels.specs.Reaching.{lastVersion}
@@ -14,11 +14,7 @@ use Rattle.run.specs.Machine.{machineAfter, machineRecords}
 use Rattle.run.specs.Paths.{steps, vertexAt}
 use Rattle.state.specs.States.{stampOf}
 use Rattle.run.specs.Run.{stateAfter, runRecords, stampsCopied}
-
--- the first n vertices of the path
-unfoldable pub before : List ℕ → ℕ → List ℕ
-before path zero = []
-before path (suc n) = before path n ++ (vertexAt path n ∷ [])
+use Rattle.words.specs.Tables.{table}
 
 -- out and inout arguments
 abbrev pub IsHome : List ℕ → List ℕ → ℕ → Type 0
@@ -32,7 +28,7 @@ pub record Demand3 (file path : List ℕ) : Type 0 where
   -- the version used at a reference is the one that the source names there: that of the array's last label before it on the path
   pub source-names :
       (i a : ℕ) → i < steps path → a < arrays file → T (isReference (event file a (vertexAt path i)))
-      → lastVersion (isLabel file a) (version file a) (before path i) ≡ some (stateAfter file path a i .current)
+      → lastVersion (isLabel file a) (version file a) (table (vertexAt path) i) ≡ some (stateAfter file path a i .current)
   -- where the path ends at the exit, out and inout are current in their initial version, with the machine's last stamp
   pub ends-home :
       (a : ℕ) → a < arrays file → vertexAt path (steps path - 1) ≡ exit file → 2 ≤ kind file a → IsHome file path a

@@ -20,10 +20,11 @@ ghost use Rattle.routine.specs.Layout.{arrays, vertices};
 ghost use Rattle.routine.specs.declared.refusal.Verdict.the-variants.{Passed};
 ghost use Rattle.state.specs.Current.{settled};
 ghost use Rattle.state.specs.Start.{started};
+ghost use Rattle.state.specs.States.{Current};
 ghost use Rattle.state.specs.Vertex.{Visits};
 ghost use Rattle.run.specs.Paths.{steps, pathCheck};
 ghost use Rattle.run.specs.Records.{recordOf, recordsAt};
-ghost use Rattle.run.specs.Report.{entryBytes, stateOf, recordsBytes, reportBytes};
+ghost use Rattle.run.specs.Report.{stateOf, recordsBytes, reportBytes};
 ghost use Rattle.run.specs.Run.{stateAfter, runRecords};
 ghost use Rattle.run.specs.Walks.{Tabled, Held, rowBytes, Referred, relabelledAt};
 ghost use Rattle.words.specs.Tables.{wrote};
@@ -178,8 +179,28 @@ fn relabel(
     new
 }
 
-// Follows the path and writes the records at the front of what is lent; returns the last states. The stamps of their current copies stand
-// beside them, and no entry shows a stamp.
+// The states with the stamps of their current copies in them.
+fn settle_all(
+    states: [State; ArrayRecord::MAX],
+    m: usize,
+    stamps: [u16; ArrayRecord::MAX],
+) -> [State; ArrayRecord::MAX]
+    requires { ⌜ m ≤ 8 ⌝ }
+    requires { ⌜ length states ≡ 8 ⌝ }
+    requires { ⌜ length stamps ≡ 8 ⌝ }
+    requires { ⌜ ((b : ℕ) → b < m → Current (stateOf states b)) ⌝ }
+    ensures { λ r. ⌜ ((b : ℕ) → b < m → stateOf r b ≡ settled (getD stamps b 0) (stateOf states b)) ⌝ }
+{
+    let mut new = states;
+    let mut a = 0;
+    while a < m {
+        new[a] = state::settled(new[a], stamps[a]);
+        a += 1;
+    }
+    new
+}
+
+// Follows the path and writes the records at the front of what is lent; returns the last states.
 fn follow(
     file: &[u8],
     h: Header,
@@ -192,7 +213,7 @@ fn follow(
     requires { ⌜ pathCheck (now file) (now path) ≡ Passed ⌝ }
     requires { ⌜ Tabled (now file) (now letters) (now kept) ⌝ }
     requires { ⌜ length (recordsBytes (runRecords (now file) (now path))) ≤ length (now out) ⌝ }
-    ensures { λ r. ⌜ ((a : ℕ) → a < arrays (now (file .entry)) → entryBytes (stateOf r a) ≡ entryBytes (stateAfter (now (file .entry)) (now (path .entry)) a (steps (now (path .entry))))) ⌝ }
+    ensures { λ r. ⌜ ((a : ℕ) → a < arrays (now (file .entry)) → stateOf r a ≡ stateAfter (now (file .entry)) (now (path .entry)) a (steps (now (path .entry)))) ⌝ }
     ensures { λ _. ⌜ now (out .exit) ≡ wrote (now (out .entry)) (recordsBytes (runRecords (now (file .entry)) (now (path .entry)))) ⌝ }
 {
     let mut versions = [0u8; ArrayRecord::MAX];
@@ -220,7 +241,7 @@ fn follow(
         }
         i += 1;
     }
-    states
+    settle_all(states, h.arrays, stamps)
 }
 
 // Writes the report.

@@ -21,7 +21,7 @@ use Rattle.routine.specs.declared.action.Action.the-variants.{Nothing, Referenc
 use Rattle.routine.specs.declared.array.ArrayRecord.{ArrayRecord}
 use Rattle.run.specs.declared.record.Record.{Record}
 use Rattle.state.specs.declared.State.{State}
-use Rattle.run.specs.Demand.{before, IsHome, Demand3}
+use Rattle.run.specs.Demand.{IsHome, Demand3}
 use Rattle.state.specs.Fits.{Fits}
 use Rattle.run.specs.Machine.{Machine, machineStep, machineAfter, machineRecords}
 use Rattle.run.specs.Paths.{steps, vertexAt, pathCheck}
@@ -35,6 +35,7 @@ use Rattle.state.proofs.Cases.{at-cond}
 use Rattle.run.proofs.Rules.Invariant.{Sound}
 use Rattle.run.proofs.Rules.Paths.{Walk, walk}
 use Rattle.run.proofs.Rules.Planned.{planOf, sound}
+use Rattle.words.specs.Tables.{table}
 
 -- ---- records of two runs that agree at every step and array
 
@@ -107,18 +108,18 @@ module _ {file path : List ℕ} (walk : Walk file path) (a : ℕ) where
     entered = begins sound follows
 
     -- the last label's version is held
-    last-held : (i : ℕ) → lastVersion (isLabel file a) (version file a) (before path (suc i)) ≡ some (machineAfter file path a (suc i) .held)
-    unfolding before machineAfter version
+    last-held : (i : ℕ) → lastVersion (isLabel file a) (version file a) (table (vertexAt path) (suc i)) ≡ some (machineAfter file path a (suc i) .held)
+    unfolding machineAfter version
     last-held zero = rw entered
     last-held (suc i) =
         let v = vertexAt path (suc i) in
-        last-snoc _ _ (before path (suc i)) v
+        last-snoc _ _ (table (vertexAt path) (suc i)) v
         ∙ ap (λ (o : Option ℕ). orLast o (cond (isLabel file a v) (some (version file a v)) none)) (last-held i)
         ∙ last-step (event file a v) (suc i + 1) (machineAfter file path a (suc i))
 
     -- and a reference uses it
     names : (i : ℕ) → i < steps path → T (isReference (event file a (vertexAt path i)))
-        → lastVersion (isLabel file a) (version file a) (before path i) ≡ some (stateAfter file path a i .current)
+        → lastVersion (isLabel file a) (version file a) (table (vertexAt path) i) ≡ some (stateAfter file path a i .current)
     names zero h g = absurd (rw entered at g)
     names (suc i) h g = last-held i ∙ ap some (sym (used-at sound follows (suc i) h g))
 

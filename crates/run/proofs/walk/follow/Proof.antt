@@ -19,7 +19,7 @@ use Rattle.run.specs.Walks.{Held, rowBytes, Referred, relabelledAt}
 use Rattle.run.proofs.Held.{held-eq, neither}
 use Rattle.run.proofs.References.{within-vertices}
 use Rattle.run.proofs.Rules.Paths.{Walk, walk}
-use Rattle.run.proofs.Walking.{Walking, begins, doneAt, room, row-is, visits-after, held-on, held-labelled, steps-on, all-written, last-entries}
+use Rattle.run.proofs.Walking.{Walking, begins, doneAt, room, row-is, visits-after, held-on, held-labelled, steps-on, all-written, last-states, last-current}
 use Rattle.words.proofs.Written.{partFrom, wrote-length, part-length}
 use Rattle.run.proofs.walk.follow.Statement.{statement}
 use Rattle.run.proofs.walk.follow.Tie as tie
@@ -177,17 +177,33 @@ loop-again c =
     (held-on (file t) (path t) well accepted (in-i t) short (g .inv .held) (referred r) (no .0) (sym ends ∙ no .1)))
     (c .if1 .came))
 
+-- the path has been followed
+module _ (c : tie.After-loop Inv-loop μ-loop) where
+  abbrev begun : tie.Start Inv-loop μ-loop
+  begun = c .before .before .before .before .before .before .before .before .before .before .before
+
+  over : steps (begun .args .path .now) ≤ c .before .loop .i
+  over = omega (arith, c .before .before .count .ensures)
+
+settle-all-requires : tie.Need-settle-all-requires Inv-loop μ-loop
+settle-all-requires c κs =
+    let w = c .before .loop .inv in
+    let heads = begun c .pre .0 .heads in
+    let well = begun c .pre .0 .well in
+    (omega (arith, heads .arrays-are, well .laid .limits .few-arrays), (w .held .states-sized, (w .held .stamps-sized, λ b in-b. last-current w (over c) well (begun c .pre .1 .0) b (omega (arith, heads .arrays-are)))))
+
 same-length : tie.Need-same-length Inv-loop μ-loop
 same-length c =
-    let s = c .before .before .before .before .before .before .before .before .before .before .before in
-    let e : steps (s .args .path .now) ≤ c .before .loop .i = omega (arith, c .before .before .count .ensures) in
-    ap length (all-written (c .before .loop .inv) e) ∙ wrote-length (s .args .out .now) (recordsBytes (runRecords (s .args .file .now) (s .args .path .now))) (s .pre .1 .1 .1)
+    let s = begun (c .before) in
+    ap length (all-written (c .before .before .loop .inv) (over (c .before)))
+    ∙ wrote-length (s .args .out .now) (recordsBytes (runRecords (s .args .file .now) (s .args .path .now))) (s .pre .1 .1 .1)
 
 returns : tie.Need-returns Inv-loop μ-loop
 returns c =
-    let w = c .before .loop .inv in
-    let e : steps (c .before .before .before .before .before .before .before .before .before .before .before .args .path .now) ≤ c .before .loop .i = omega (arith, c .before .before .count .ensures) in
-    (last-entries w e, all-written w e)
+    let w = c .before .before .loop .inv in
+    let e = over (c .before) in
+    let heads = begun (c .before) .pre .0 .heads in
+    (λ a in-a. c .settle-all .ensures a (omega (arith, heads .arrays-are)) ∙ last-states w e a in-a, all-written w e)
 
 pub follow-spec : {M : Type 1} → statement M
 follow-spec =
@@ -210,5 +226,6 @@ follow-spec =
     add-i
     loop-less
     loop-again
+    settle-all-requires
     same-length
     returns)
