@@ -1,13 +1,13 @@
 // The label rules of document 01: for each label its use, leaving version, reaching set and kept set; and refusals 20 and 21.
 // One pass of the solver for each rule; the tables have an entry for each array and vertex.
-pub mod ambiguity;
+mod ambiguity;
 pub mod checks;
 pub mod event;
-pub mod kept;
+mod kept;
 mod pass;
-pub mod reaching;
+mod reaching;
 pub mod tables;
-pub mod uses;
+mod uses;
 
 ghost use mathlib.Core.Path.{_≡_};
 ghost use Rattle.labels.specs.Letters.{letterByte, useOfByte};

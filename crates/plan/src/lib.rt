@@ -1,7 +1,7 @@
 // The plan of document 01: its bytes, and the call that writes them.
-pub mod contents;
-pub mod label;
-pub mod writer;
+mod contents;
+mod label;
+mod writer;
 
 use labels::checks;
 use labels::tables;

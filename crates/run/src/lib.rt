@@ -1,8 +1,8 @@
 // The runner of document 01: a path through a planned routine, its report, and the call that writes it.
-pub mod path;
+mod path;
 pub mod record;
-pub mod report;
-pub mod walk;
+mod report;
+mod walk;
 
 use labels::checks;
 use labels::tables;

@@ -1,4 +1,4 @@
-// The report: its length, and the entries of the arrays (document 01, "Plan and report").
+// The report: its length, the entries of the arrays, and the records (document 01, "Plan and report").
 use crate::path;
 use crate::record::Record;
 use labels::event;
@@ -17,7 +17,7 @@ ghost use Rattle.routine.specs.Layout.{arrays, vertices};
 ghost use Rattle.routine.specs.Reader.{WellFormed};
 ghost use Rattle.routine.specs.declared.refusal.Verdict.the-variants.{Passed};
 ghost use Rattle.run.specs.Paths.{steps, pathCheck};
-ghost use Rattle.run.specs.Report.{entryBytes, entriesOf, referencesAt, referencesOn, reportLength};
+ghost use Rattle.run.specs.Report.{entryBytes, entriesOf, recordBytes, referencesAt, referencesOn, reportLength};
 ghost use Rattle.words.specs.Tables.{table, wrote};
 
 // Bytes of an array's entry.
@@ -122,4 +122,21 @@ pub fn write_entries(states: [State; ArrayRecord::MAX], m: usize, out: &mut [u8]
         write_entry(&mut out[at..], states[a]);
         a += 1;
     }
+}
+
+// Writes a record at the front of what is lent.
+pub fn write_record(out: &mut [u8], r: Record)
+    requires { ⌜ 10 ≤ length (now out) ⌝ }
+    ensures { λ _. ⌜ now (out .exit) ≡ wrote (now (out .entry)) (recordBytes r) ⌝ }
+{
+    out[0] = (r.step % 256) as u8;
+    out[1] = (r.step / 256) as u8;
+    out[2] = r.array;
+    out[3] = r.version;
+    out[4] = r.kind;
+    out[5] = 0;
+    out[6] = (r.seen % 256) as u8;
+    out[7] = (r.seen / 256) as u8;
+    out[8] = (r.new % 256) as u8;
+    out[9] = (r.new / 256) as u8;
 }

@@ -1,6 +1,5 @@
 // Following the path: at each step the references of all arrays, a record for each, and then the labels (document 01, "Run").
 use crate::path;
-use crate::record;
 use crate::record::Record;
 use crate::report;
 use labels::event;
@@ -97,7 +96,7 @@ fn put(x: Action, step: usize, a: usize, version: u8, stamp: u16, out: &mut [u8]
     match x {
         Action::Nothing => 0,
         Action::Reference(access) => {
-            record::write(out, made(access, step as u16, a as u8, version, stamp));
+            report::write_record(out, made(access, step as u16, a as u8, version, stamp));
             Record::SIZE
         }
         Action::Remap(_) => 0,

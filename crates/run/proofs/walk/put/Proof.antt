@@ -39,8 +39,8 @@ cast-made-2 c = search needs
 made-requires : tie.Need-made-requires
 made-requires c κs = search needs
 
-write-requires : tie.Need-write-requires
-write-requires c κs =
+write-record-requires : tie.Need-write-record-requires
+write-record-requires c κs =
     let s = c .before .before .before .before .before .before in
     let g = s .args in
     omega (arith, ten (g .step) (g .a) (g .version) (g .stamp) (c .before .before .before .x .given .1), s .pre .1)
@@ -64,7 +64,7 @@ returns-2 c =
     let g = s .args in
     let e = w .before .before .before .before .x .given .1 in (
       sym (ten (g .step) (g .a) (g .version) (g .stamp) e),
-      w .write .ensures ∙ ap (λ (r : Record). wrote (g .out .now) (recordBytes r)) (w .before .made .ensures)
+      w .write-record .ensures ∙ ap (λ (r : Record). wrote (g .out .now) (recordBytes r)) (w .before .made .ensures)
           ∙ ap (λ (r : List ℕ). wrote (g .out .now) r) (one (g .step) (g .a) (g .version) (g .stamp) e),
     )
 
@@ -83,7 +83,7 @@ put-spec =
     cast-made
     cast-made-2
     made-requires
-    write-requires
+    write-record-requires
     enum-told-2
     enum-told-3
     returns

@@ -1,12 +1,12 @@
--- `record::write` meets its contract: ten stores from the front.
+-- `report::write_record` meets its contract: ten stores from the front.
 -- Assumes nothing.
 use native.Mathlib.Omega.{arith}
 use borrow.Author.Needs.{needs}
 use lib.ListN.{length-set}
 use lib.Seq.{sets-eq}
 use Rattle.run.specs.Report.{recordBytes}
-use Rattle.run.proofs.record.write.Statement.{statement}
-use Rattle.run.proofs.record.write.Tie as tie
+use Rattle.run.proofs.report.write_record.Statement.{statement}
+use Rattle.run.proofs.report.write_record.Tie as tie
 
 cast-out : tie.Need-cast-out
 cast-out c = search needs
@@ -64,8 +64,8 @@ returns c =
     let s = c .before .before .before .before .before .before in
     sets-eq (recordBytes (s .args .r)) (s .args .out .now) 0 (s .pre)
 
-pub write-spec : {M : Type 1} → statement M
-write-spec =
+pub write-record-spec : {M : Type 1} → statement M
+write-record-spec =
     tie.close
     (tie.spec
     cast-out
