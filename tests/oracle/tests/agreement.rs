@@ -5,39 +5,26 @@ use oracle::generate::limits;
 use oracle::generate::rng::Rng;
 use oracle::generate::routines::{self, Size};
 use oracle::labels::fixpoint::Solved;
-use oracle::labels::{fixpoint, literal, search};
+use oracle::labels::{Label, fixpoint, literal, search};
+use oracle::outcome::Refusal;
 use oracle::routine::Routine;
 
 const SEED: u64 = 1;
 
-fn search_agrees(draft: &Draft) {
-    let file = draft.bytes();
-    let routine = Routine::parse(&file).unwrap();
-    assert_eq!(
-        fixpoint::refusal(&routine),
-        search::refusal(&routine),
-        "{draft:?}"
-    );
-    assert_eq!(
-        fixpoint::labels(&routine),
-        search::labels(&routine),
-        "{draft:?}"
-    );
-}
+/// A slower reading of the label rules: its refusal and its labels.
+type Reading = (
+    fn(&Routine) -> Option<Refusal>,
+    fn(&Routine) -> Vec<Vec<Option<Label>>>,
+);
 
-fn literal_agrees(draft: &Draft) {
+const SEARCH: Reading = (search::refusal, search::labels);
+const LITERAL: Reading = (literal::refusal, literal::labels);
+
+fn agrees(draft: &Draft, (refusal, labels): Reading) {
     let file = draft.bytes();
     let routine = Routine::parse(&file).unwrap();
-    assert_eq!(
-        fixpoint::refusal(&routine),
-        literal::refusal(&routine),
-        "{draft:?}"
-    );
-    assert_eq!(
-        fixpoint::labels(&routine),
-        literal::labels(&routine),
-        "{draft:?}"
-    );
+    assert_eq!(fixpoint::refusal(&routine), refusal(&routine), "{draft:?}");
+    assert_eq!(fixpoint::labels(&routine), labels(&routine), "{draft:?}");
 }
 
 #[test]
@@ -50,8 +37,8 @@ fn named_routines() {
         builder::t_without_read(),
         builder::u(),
     ] {
-        literal_agrees(&draft);
-        search_agrees(&draft);
+        agrees(&draft, LITERAL);
+        agrees(&draft, SEARCH);
     }
 }
 
@@ -59,7 +46,7 @@ fn named_routines() {
 fn all_routines_of_four_vertices() {
     let mut count = 0;
     for draft in routines::all_of_four_vertices() {
-        literal_agrees(&draft);
+        agrees(&draft, LITERAL);
         count += 1;
     }
     assert_eq!(count, 4 * 36 * 512);
@@ -80,8 +67,8 @@ fn small_graphs() {
         if rng.chance(50) {
             routines::make_acceptable(&mut rng, &mut draft);
         }
-        literal_agrees(&draft);
-        search_agrees(&draft);
+        agrees(&draft, LITERAL);
+        agrees(&draft, SEARCH);
     }
 }
 
@@ -98,7 +85,7 @@ fn small_programs() {
         if rng.chance(50) {
             routines::make_acceptable(&mut rng, &mut draft);
         }
-        literal_agrees(&draft);
+        agrees(&draft, LITERAL);
     }
 }
 
@@ -112,7 +99,7 @@ fn routines_of_any_size() {
             1 => routines::any_graph(&mut rng, size),
             _ => routines::accepted(&mut rng, size),
         };
-        search_agrees(&draft);
+        agrees(&draft, SEARCH);
     }
 }
 
@@ -144,6 +131,6 @@ fn tables_used_again() {
 #[test]
 fn routines_at_the_limits() {
     for draft in limits::at_limits(&mut Rng::new(SEED)) {
-        search_agrees(&draft);
+        agrees(&draft, SEARCH);
     }
 }
