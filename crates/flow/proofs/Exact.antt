@@ -1,4 +1,5 @@
--- The solver is exact: after as many rounds as vertices, the set of v holds k exactly if a path says so, and no further round alters a set.
+-- The solver is exact: after as many rounds as vertices, in any order of the edges, the set of v holds k exactly if a path says so, and no
+-- further round alters a set.
 -- Lane k is the sets' bits k. A round raises the number of ones in lane k, or lane k is closed and stays as it is.
 -- Assumes nothing.
 use mathlib.Core.Path.{_≡_, refl, sym, ap, ap₂, subst, _∙_}
@@ -7,22 +8,21 @@ use mathlib.Core.List.{List, [], _∷_, map}
 use mathlib.Core.Logic.{_↔_, Iff·rfl, _⊎_, inl, inr, ⊎-elim}
 use Prim.Native.Nat.{ℕ, zero, suc, _+_, _-_, _^_, _≤_, _<_, zero-le, min, max}
 use native.Mathlib.Nat.{le-refl, lt-of-le-of-lt, le-of-lt, le-of-suc-le-suc, eq-or-lt-of-le, pow-suc}
-use native.Mathlib.Decide.{le-ind, decLt}
-use native.Mathlib.Numerals.{add-one}
+use native.Mathlib.Decide.{le-ind}
 use native.Mathlib.Omega.{arith}
-use borrow.Author.Count.{below-more}
 use lib.Dec.{T, eqb, eqb→eq}
-use lib.Bits.{bitOr, and-le-l, or-lt}
-use lib.Pow.{pow-pos}
-use lib.ListN.{length, getD, set, replicate, length-replicate, List·getD-map}
-use lib.Seq.{map-set-same, set-getD}
+use lib.Bits.{bitOr, or-add-and, and-le-l, and-le-r, or-lt}
+use lib.Pow.{pow-pos, pow-lt}
+use lib.ListN.{length, getD, set, replicate, length-replicate, length-set, List·getD-map}
+use lib.Seq.{map-set-same, set-getD, ext-getD}
 use Rattle.sets.specs.Sets.{bit, has}
 use Rattle.sets.proofs.Laws.{bit-lt, bit-or, bit-and, has-zero, same}
+use Rattle.flow.specs.Order.{Order, natural}
 use Rattle.flow.specs.Paths.{last, next, edgeCount}
-use Rattle.flow.specs.Solver.{Leads, Holds, near, far, turn, falls, handed, relaxed, swept, rounds, solution, Ends, Altered, Advanced, Solved}
+use Rattle.flow.specs.Solver.{Leads, Holds, near, far, turn, handed, relaxed, swept, rounds, solution, Ends}
 use Rattle.flow.proofs.Tests.{member-or, member-and}
 use Rattle.flow.proofs.Paths.{extend}
-use Rattle.flow.proofs.Rounds.{turn-lt, turn-turn, near-lt, at-set, or-le, swept-keeps, rounds-keeps, swept-length, rounds-length}
+use Rattle.flow.proofs.Rounds.{natural-order, turn-lt, when, when-lt, turn-when, near-lt, at-set, swept-keeps, rounds-keeps}
 
 -- ---- masks
 
@@ -40,17 +40,36 @@ width : (m : ℕ) → m < 2 ^ m
 width zero = omega arith
 width (suc m) = omega (arith, pow-suc 2 m, width m)
 
+-- a mask is no smaller for a union
+pub or-le : (a b : ℕ) → a ≤ bitOr a b
+or-le a b = omega (arith, or-add-and a b, and-le-r a b)
+
 -- a union with a subset
-or-subset : (a b : ℕ) → ((k : ℕ) → bit b k - bit a k ≡ 0) → bitOr a b ≡ a
+pub or-subset : (a b : ℕ) → ((k : ℕ) → bit b k - bit a k ≡ 0) → bitOr a b ≡ a
 unfolding has
 or-subset a b h =
     same (bitOr a b) (bitOr a b) a (width (bitOr a b)) (omega (arith, width (bitOr a b), or-le a b))
     (λ k _. ap (λ (x : ℕ). eqb x 1) (let e : bit (bitOr a b) k ≡ bit a k = omega (arith, or-gap a b k, h k) in e))
 
+-- tests that pass together are the same
+together : (x y : Bool) → (T x → T y) → (T y → T x) → x ≡ y
+together true true h k = refl
+together true false h k = absurd (h tt)
+together false true h k = absurd (k tt)
+together false false h k = refl
+
+-- masks with the same members are the same
+alike : (a b : ℕ) → ((k : ℕ) → T (has a k) → T (has b k)) → ((k : ℕ) → T (has b k) → T (has a k)) → a ≡ b
+alike a b to from =
+    same (suc (a + b)) a b
+    (omega (arith, width a, pow-lt {i = a} {j = suc (a + b)} (omega arith)))
+    (omega (arith, width b, pow-lt {i = b} {j = suc (a + b)} (omega arith)))
+    (λ k _. together (has a k) (has b k) (to k) (from k))
+
 -- ---- lists of masks
 
 -- a cleared list has 0 everywhere
-cleared : (n v : ℕ) → _≡_ {A = ℕ} (getD (replicate n 0) v 0) 0
+pub cleared : (n v : ℕ) → _≡_ {A = ℕ} (getD (replicate n 0) v 0) 0
 cleared zero v = refl
 cleared (suc n) zero = refl
 cleared (suc n) (suc v) = cleared n v
@@ -106,37 +125,36 @@ module _ (gives passes s : List ℕ) where
     complete false brought v w (next {u} e p t) h =
         complete false brought v u t (handed-iff u k .1 (inr (brought (e .place) u w (e .listed) (e .enters) (e .leaves) h, p)))
 
-module _ (es : List ℕ) (along : Bool) (gives passes : List ℕ) where
-  -- edge i taken, the first j edges of a round taken by falling or rising number, a whole round, and r rounds over the empty sets of n vertices
+module _ (es : List ℕ) (along : Bool) (gives passes : List ℕ) {order : List ℕ} (ord : Order (edgeCount es) order) where
+  -- edge i taken, the first j edges of a round taken, a whole round, and r rounds over the empty sets of n vertices
   abbrev taken : List ℕ → ℕ → List ℕ
   taken s i = relaxed es along gives passes s i
 
-  abbrev part : Bool → List ℕ → ℕ → List ℕ
-  part falling s j = swept es along falling gives passes s j
+  abbrev part : List ℕ → ℕ → List ℕ
+  part s j = swept (relaxed es along gives passes) order along s j
 
-  abbrev pub round : Bool → List ℕ → List ℕ
-  round falling s = swept es along falling gives passes s (edgeCount es)
+  abbrev round : List ℕ → List ℕ
+  round s = part s (length order)
 
   abbrev pub after : ℕ → ℕ → List ℕ
-  after n r = rounds es along gives passes (replicate n 0) r
+  after n r = rounds (relaxed es along gives passes) order along (replicate n 0) r
 
   -- ---- sizes
 
+  part-length : (s : List ℕ) (j : ℕ) → j ≤ length order → length (part s j) ≡ length s
+  part-length s = swept-keeps ord along (relaxed es along gives passes) (λ t. length t ≡ length s) (λ t i h e. simp length-set e) s refl
+
   -- there is a set for each vertex
   pub after-length : (n r : ℕ) → length (after n r) ≡ n
-  after-length n r = rounds-length es along gives passes (replicate n 0) r ∙ length-replicate n 0
-
-  pub solution-length : (n : ℕ) → length (solution es along gives passes n) ≡ n
-  unfolding solution
-  solution-length n = after-length n n
+  after-length n =
+      rounds-keeps ord along (relaxed es along gives passes) (λ t. length t ≡ n) (λ t i h e. simp length-set e) (replicate n 0) (length-replicate n 0)
 
   -- sets of any width stay within it
-  pub solution-fits : (w n : ℕ) → ((u : ℕ) → getD gives u 0 < 2 ^ w) → (u : ℕ) → getD (solution es along gives passes n) u 0 < 2 ^ w
-  unfolding solution
-  solution-fits w n small =
-      rounds-keeps es along gives passes (λ s. (u : ℕ) → getD s u 0 < 2 ^ w)
+  after-fits : (w n r : ℕ) → ((u : ℕ) → getD gives u 0 < 2 ^ w) → (u : ℕ) → getD (after n r) u 0 < 2 ^ w
+  after-fits w n r small =
+      rounds-keeps ord along (relaxed es along gives passes) (λ s. (u : ℕ) → getD s u 0 < 2 ^ w)
       (λ s i _ h u. at-set (λ v x. x < 2 ^ w) s _ _ u (or-lt w _ _ (h _) (or-lt w _ _ (small _) (lt-of-le-of-lt (and-le-l _ _) (h (far es along i))))) (h u))
-      (replicate n 0) (λ u. simp cleared (pow-pos w)) n
+      (replicate n 0) (λ u. simp cleared (pow-pos w)) r
 
   -- ---- soundness: every member has a path
 
@@ -152,12 +170,11 @@ module _ (es : List ℕ) (along : Bool) (gives passes : List ℕ) where
       (λ g. let o = ih (far es along i) k (g .0) in record { giver = o .giver; way = leads-more es p i l along (o .giver) (g .1) (o .way); given = o .given })
       (handed-iff gives passes s (far es along i) k .0 h)
 
-  sound : (n : ℕ) → Sound (solution es along gives passes n)
-  unfolding solution
+  sound : (n r : ℕ) → Sound (after n r)
   sound n =
-      rounds-keeps es along gives passes Sound
+      rounds-keeps ord along (relaxed es along gives passes) Sound
       (λ s i l ih v k. at-set (λ u m. T (has m k) → Holds es along gives passes u k) s _ _ v (λ h. ⊎-elim (ih _ k) (sound-handed s ih i k l) (member-or _ _ k Iff·rfl Iff·rfl .0 h)) (ih v k))
-      (replicate n 0) (λ v k. simp (cleared, has-zero) (λ h. absurd h)) n
+      (replicate n 0) (λ v k. simp (cleared, has-zero) (λ h. absurd h))
 
   -- ---- lanes: each is closed after as many rounds as vertices
 
@@ -210,60 +227,53 @@ module _ (es : List ℕ) (along : Bool) (gives passes : List ℕ) where
 
     module _ (n : ℕ) (ends : Ends es n) where
       -- the first j edges left the lane as it was, and none was about to bring k; or they raised the number of ones, and some edge was about to
-      abbrev Calm : Bool → List ℕ → ℕ → Type 0
-      Calm falling s j =
-          (lane (part falling s j) ≡ lane s) × (ones k (part falling s j) ≡ ones k s)
-          × ((i : ℕ) → i < j → gap s (turn es falling i) ≡ 0)
+      abbrev Calm : List ℕ → ℕ → Type 0
+      Calm s j = (lane (part s j) ≡ lane s) × (ones k (part s j) ≡ ones k s) × ((i : ℕ) → i < j → gap s (turn order along i) ≡ 0)
 
-      abbrev Raised : Bool → List ℕ → ℕ → Type 0
-      Raised falling s j = (ones k s < ones k (part falling s j)) × (Closed s → ⊥)
+      abbrev Raised : List ℕ → ℕ → Type 0
+      Raised s j = (ones k s < ones k (part s j)) × (Closed s → ⊥)
 
-      sweep : (falling : Bool) (s : List ℕ) → length s ≡ n → (j : ℕ) → j ≤ edgeCount es → Calm falling s j ⊎ Raised falling s j
+      sweep : (s : List ℕ) → length s ≡ n → (j : ℕ) → j ≤ length order → Calm s j ⊎ Raised s j
       unfolding swept
-      sweep falling s e zero l = inl (refl, refl, λ i h. absurd (omega arith))
-      sweep falling s e (suc j) l = ⊎-elim (λ c. calm c (gap t g) refl) (λ r. inr (omega (arith, more, r .0), r .1)) (sweep falling s e j (le-of-lt l))
+      sweep s e zero l = inl (refl, refl, λ i h. absurd (omega arith))
+      sweep s e (suc j) l = ⊎-elim (λ c. calm c (gap t g) refl) (λ r. inr (omega (arith, more, r .0), r .1)) (sweep s e j (le-of-lt l))
         where
           t : List ℕ
-          t = part falling s j
+          t = part s j
 
           g : ℕ
-          g = turn es falling j
+          g = turn order along j
 
           more : ones k (taken t g) ≡ ones k t + gap t g
-          more = ones-relaxed t g (omega (arith, swept-length es along gives passes falling s j (le-of-lt l), near-lt ends along g (turn-lt es falling j l)))
+          more = ones-relaxed t g (omega (arith, part-length s j (le-of-lt l), near-lt ends along g (turn-lt ord along j l)))
 
-          calm : Calm falling s j → (d : ℕ) → gap t g ≡ d → Calm falling s (suc j) ⊎ Raised falling s (suc j)
+          calm : Calm s j → (d : ℕ) → gap t g ≡ d → Calm s (suc j) ⊎ Raised s (suc j)
           calm c zero q =
               inl (
                 lane-relaxed t g q ∙ c .0,
                 omega (arith, more, c .1),
-                λ i h. ⊎-elim (λ now. subst (λ (x : ℕ). gap s (turn es falling x) ≡ 0) (sym now) (sym (gap-same t s (c .0) g) ∙ q)) (c .2 i) (eq-or-lt-of-le (le-of-suc-le-suc h)),
+                λ i h. ⊎-elim (λ now. subst (λ (x : ℕ). gap s (turn order along x) ≡ 0) (sym now) (sym (gap-same t s (c .0) g) ∙ q)) (c .2 i) (eq-or-lt-of-le (le-of-suc-le-suc h)),
               )
-          calm c (suc d) q = inr (omega (arith, more, c .1), λ closed. omega (arith, closed g (turn-lt es falling j l), gap-same t s (c .0) g))
+          calm c (suc d) q = inr (omega (arith, more, c .1), λ closed. omega (arith, closed g (turn-lt ord along j l), gap-same t s (c .0) g))
 
       -- a whole round that left the lane as it was
-      calm-closed : (falling : Bool) (s : List ℕ) → Calm falling s (edgeCount es) → Closed s
-      calm-closed falling s c i h = subst (λ (x : ℕ). gap s x ≡ 0) (turn-turn es falling i h) (c .2 (turn es falling i) (turn-lt es falling i h))
-
-      -- a round that alters no set: the lane is closed
-      rest-closed : (falling : Bool) (s : List ℕ) → length s ≡ n → round falling s ≡ s → Closed s
-      rest-closed falling s e same = ⊎-elim (calm-closed falling s) (λ d. absurd (omega (arith, d .0, ap (ones k) same))) (sweep falling s e (edgeCount es) (le-refl (edgeCount es)))
+      calm-closed : (s : List ℕ) → Calm s (length order) → Closed s
+      calm-closed s c i h = subst (λ (x : ℕ). gap s x ≡ 0) (turn-when ord along i h) (c .2 (when ord along i h) (when-lt ord along i h))
 
       -- after r rounds the lane is closed or has r ones
       progress : (r : ℕ) → Closed (after n r) ⊎ (r ≤ ones k (after n r))
       unfolding rounds
       progress zero = inr zero-le
       progress (suc r) = ⊎-elim
-          (λ c. inl (λ i h. gap-same (round (falls along r) s) s (c .0) i ∙ calm-closed (falls along r) s c i h))
+          (λ c. inl (λ i h. gap-same (round s) s (c .0) i ∙ calm-closed s c i h))
           (λ d. ⊎-elim (λ closed. absurd (d .1 closed)) (λ few. inr (omega (arith, d .0))) (progress r))
-          (sweep (falls along r) s (after-length n r) (edgeCount es) (le-refl (edgeCount es)))
+          (sweep s (after-length n r) (length order) (le-refl (length order)))
         where
           s : List ℕ
           s = after n r
 
       -- with a one for each vertex it is closed too
-      closed : Closed (solution es along gives passes n)
-      unfolding solution
+      closed : Closed (after n n)
       closed = ⊎-elim (λ c. c)
           (λ all i h. omega (
             arith,
@@ -272,76 +282,51 @@ module _ (es : List ℕ) (along : Bool) (gives passes : List ℕ) where
           ))
           (progress n)
 
-  -- ---- the theorems
-
   module _ (n : ℕ) (ends : Ends es n) where
     -- the set of v holds k exactly if a path of one edge or more from v, through vertices that pass k, arrives at a vertex that gives k
-    pub exact : (v k : ℕ) → T (has (getD (solution es along gives passes n) v 0) k) ↔ Holds es along gives passes v k
-    exact v k =
-        let s = solution es along gives passes n in (
-          sound n v k,
+    exactly : (v k : ℕ) → T (has (getD (after n n) v 0) k) ↔ Holds es along gives passes v k
+    exactly v k =
+        let s = after n n in (
+          sound n n v k,
           λ h. complete gives passes s es k along (brought k s (closed k n ends)) v (h .giver) (h .way) (handed-iff gives passes s (h .giver) k .1 (inl (h .given))),
         )
 
     -- closed sets stay as they are
-    still : (s : List ℕ) → ((k : ℕ) → Closed k s) → (falling : Bool) → round falling s ≡ s
-    still s closed falling =
-        swept-keeps es along gives passes (λ t. t ≡ s)
+    still : (s : List ℕ) → ((k : ℕ) → Closed k s) → round s ≡ s
+    still s closed =
+        swept-keeps ord along (relaxed es along gives passes) (λ t. t ≡ s)
         (λ t i l e. ap (λ (x : List ℕ). taken x i) e ∙ ap (set s (near es along i)) (or-subset _ _ (λ k. closed k i l)) ∙ set-getD s (near es along i) 0)
-        falling s refl (edgeCount es) (le-refl (edgeCount es))
+        s refl (length order) (le-refl (length order))
 
     -- further rounds alter no set
-    pub further : (r : ℕ) → n ≤ r → rounds es along gives passes (replicate n 0) r ≡ solution es along gives passes n
+    further : (r : ℕ) → n ≤ r → after n r ≡ after n n
+    unfolding rounds
+    further = le-ind (λ r. after n r ≡ after n n) refl (λ r h e. ap round e ∙ still (after n n) (λ k. closed k n ends))
+
+-- ---- the theorems
+
+module _ (es : List ℕ) (along : Bool) (gives passes : List ℕ) (n : ℕ) where
+  pub solution-length : length (solution es along gives passes n) ≡ n
+  unfolding solution
+  solution-length = after-length es along gives passes (natural-order (edgeCount es)) n n
+
+  -- sets of any width stay within it
+  pub solution-fits : (w : ℕ) → ((u : ℕ) → getD gives u 0 < 2 ^ w) → (u : ℕ) → getD (solution es along gives passes n) u 0 < 2 ^ w
+  unfolding solution
+  solution-fits w = after-fits es along gives passes (natural-order (edgeCount es)) w n n
+
+  module _ (ends : Ends es n) where
+    -- the set of v holds k exactly if a path of one edge or more from v, through vertices that pass k, arrives at a vertex that gives k
+    pub exact : (v k : ℕ) → T (has (getD (solution es along gives passes n) v 0) k) ↔ Holds es along gives passes v k
     unfolding solution
-    further = le-ind (λ r. after n r ≡ after n n) refl (λ r h e. ap (round (falls along r)) e ∙ still (after n n) (λ k. closed k n ends) (falls along r))
+    exact = exactly es along gives passes (natural-order (edgeCount es)) n ends
 
-    -- where a round altered none, no later one does
-    pub rest : (r : ℕ) → after n (suc r) ≡ after n r → (m : ℕ) → r ≤ m → after n m ≡ after n r
-    unfolding rounds
-    rest r same = le-ind (λ m. after n m ≡ after n r) refl
-        (λ m h e. ap (round (falls along m)) e ∙ still (after n r) (λ k. rest-closed k n ends (falls along r) (after n r) (after-length n r) same) (falls along m))
-
-  -- ---- going on until a round alters nothing
-
-  module _ (n : ℕ) where
-    -- r rounds, each of which altered a set
-    pub record Going (t : List ℕ) (r : ℕ) : Type 0 where
-      pub sets : t ≡ after n r
-      pub most : r ≤ n
-      pub altered : (j : ℕ) → j < r → after n (suc j) ≡ after n j → ⊥
-
-    pub going-none : (t : List ℕ) → t ≡ replicate n 0 → Going t 0
-    unfolding rounds
-    going-none t e = record { sets = e; most = zero-le; altered = λ j h. absurd (omega arith) }
-
-    -- one more, and whether it altered a set
-    module _ (ends : Ends es n) (t u : List ℕ) (b f : Bool) (r : ℕ) (g : Going t r) (way : f ≡ falls along r) (a : Advanced (round f t) t b u) where
-      made : u ≡ after n (suc r)
-      unfolding rounds
-      made = a .sets ∙ ap₂ round way (g .sets)
-
-      pub going-more : b ≡ true → Going u (r + 1)
-      going-more did =
-          let new : after n (suc r) ≡ after n r → ⊥ = λ same. subst (λ (x : Bool). Altered x t u) did (a .told) (made ∙ same ∙ sym (g .sets)) in
-          record {
-            sets = made ∙ ap (after n) (sym (add-one r));
-            most = elim (decLt r n) [ yes l ↦ omega arith | no l ↦ absurd (new (further n ends (suc r) (omega arith) ∙ sym (further n ends r (omega arith)))) ];
-            altered = below-more (λ j. after n (suc j) ≡ after n j → ⊥) r (g .altered) new;
-          }
-
-      -- where it altered none, no later one would
-      pub going-stops : b ≡ false → Solved es along gives passes n (r + 1) u
-      unfolding solution
-      going-stops none =
-          let old : u ≡ after n r = subst (λ (x : Bool). Altered x t u) none (a .told) ∙ g .sets in
-          let same : after n (suc r) ≡ after n r = sym made ∙ old in
-          let back : r ≡ r + 1 - 1 = omega arith in
-          record {
-            sets = old ∙ sym (rest n ends r same n (g .most));
-            counted = record {
-              some = omega arith;
-              most = omega (arith, g .most);
-              altered = λ j h. g .altered j (omega arith);
-              still = ap (after n) (add-one r) ∙ same ∙ ap (after n) back;
-            };
-          }
+    -- in any order of the edges, as many rounds as vertices or more give the same sets
+    module _ {order : List ℕ} (ord : Order (edgeCount es) order) where
+      pub ends-alike : (r : ℕ) → n ≤ r → after es along gives passes ord n r ≡ solution es along gives passes n
+      ends-alike r h =
+          further es along gives passes ord n ends r h
+          ∙ ext-getD 0 _ _ (after-length es along gives passes ord n n ∙ sym solution-length)
+          (λ v l. alike _ _
+            (λ k h. exact v k .1 (exactly es along gives passes ord n ends v k .0 h))
+            (λ k h. exactly es along gives passes ord n ends v k .1 (exact v k .0 h)))

@@ -2,4 +2,4 @@ pub mod Tests
 pub mod Paths
 pub mod Rounds
 pub mod Exact
-pub mod Lanes
+pub mod Rows

@@ -1,48 +1,101 @@
--- Laws of rounds: what every edge keeps, rounds keep; sets only grow; and how to tell whether a set was altered.
+-- Laws of rounds, by any step: what each step keeps, rounds keep; and what two tables have in common, they keep in common.
 -- Assumes nothing.
 use mathlib.Core.Path.{_≡_, refl, sym, ap, ap₂, subst, _∙_}
-use mathlib.Core.Bool.{Bool, true, false, _||_}
+use mathlib.Core.Bool.{Bool, true, false, cond}
 use mathlib.Core.List.{List, [], _∷_}
-use Prim.Native.Nat.{ℕ, zero, suc, _+_, _≤_, _<_}
-use native.Mathlib.Nat.{le-refl, le-trans, le-antisymm, le-of-lt}
-use native.Mathlib.Numerals.{add-one}
+use Prim.Native.Nat.{ℕ, zero, suc, _+_, _-_, _*_, _≤_, _<_}
+use native.Mathlib.Nat.{le-refl, le-of-lt}
 use native.Mathlib.Omega.{arith}
-use lib.Bits.{bitOr, or-add-and, and-le-r}
 use lib.ListN.{length, getD, set, length-set}
-use lib.Seq.{set-getD, getD-set-same, ext-getD}
+use Rattle.flow.specs.Order.{Order, natural}
 use Rattle.flow.specs.Paths.{edgeCount}
-use Rattle.flow.specs.Solver.{near, far, turn, falls, handed, relaxed, swept, rounds, Ends, Tables, Altered, Advanced}
+use Rattle.flow.specs.Solver.{near, far, turn, swept, rounds, Ends}
+use Rattle.words.specs.Words.{word}
+use Rattle.words.proofs.Tables.{table-length, table-at}
 
--- ---- edges and turns
+-- ---- turns
 
--- each turn takes an edge
-pub turn-lt : (es : List ℕ) (along : Bool) (j : ℕ) → j < edgeCount es → turn es along j < edgeCount es
-turn-lt es true j h = omega arith
-turn-lt es false j h = h
+-- the edges by their numbers are an order
+pub natural-order : (c : ℕ) → Order c (natural c)
+natural-order c = record {
+  size = table-length (λ i. i) c;
+  within = λ j h. subst (λ (x : ℕ). x < c) (sym (table-at (λ i. i) c j h)) h;
+  every = λ i h. record { place = i; listed = h; is = table-at (λ i. i) c i h };
+}
 
--- every edge has its turn
-pub turn-turn : (es : List ℕ) (along : Bool) (i : ℕ) → i < edgeCount es → turn es along (turn es along i) ≡ i
-turn-turn es true i h = omega arith
-turn-turn es false i h = refl
+module _ {c : ℕ} {order : List ℕ} (ord : Order c order) where
+  -- each turn takes an edge
+  pub turn-lt : (along : Bool) (j : ℕ) → j < length order → turn order along j < c
+  turn-lt true j h = ord .within _ (omega (arith, ord .size))
+  turn-lt false j h = ord .within j (omega (arith, ord .size))
+
+  -- when edge i is taken
+  abbrev pub when : (along : Bool) (i : ℕ) → i < c → ℕ
+  when true i h = length order - 1 - ord .every i h .place
+  when false i h = ord .every i h .place
+
+  pub when-lt : (along : Bool) (i : ℕ) (h : i < c) → when along i h < length order
+  when-lt true i h = omega (arith, ord .size, ord .every i h .listed)
+  when-lt false i h = omega (arith, ord .size, ord .every i h .listed)
+
+  -- every edge has its turn
+  pub turn-when : (along : Bool) (i : ℕ) (h : i < c) → turn order along (when along i h) ≡ i
+  turn-when true i h =
+      let back : length order - 1 - (length order - 1 - ord .every i h .place) ≡ ord .every i h .place = omega (arith, ord .size, ord .every i h .listed) in
+      ap (λ (x : ℕ). getD order x 0) back ∙ ord .every i h .is
+  turn-when false i h = ord .every i h .is
 
 -- the end whose set grows is a vertex
 pub near-lt : {es : List ℕ} {n : ℕ} → Ends es n → (along : Bool) (i : ℕ) → i < edgeCount es → near es along i < n
 near-lt ends true i h = ends .froms i h
 near-lt ends false i h = ends .tos i h
 
--- ---- what each edge keeps, rounds keep
+-- and so is the end that it grows from
+pub far-lt : {es : List ℕ} {n : ℕ} → Ends es n → (along : Bool) (i : ℕ) → i < edgeCount es → far es along i < n
+far-lt ends true i h = ends .tos i h
+far-lt ends false i h = ends .froms i h
 
-module _ (es : List ℕ) (along : Bool) (gives passes : List ℕ) (P : List ℕ → Type 0)
-    (step : (s : List ℕ) (i : ℕ) → i < edgeCount es → P s → P (relaxed es along gives passes s i)) where
-  pub swept-keeps : (falling : Bool) (s : List ℕ) → P s → (j : ℕ) → j ≤ edgeCount es → P (swept es along falling gives passes s j)
+-- where an edge's ends are read
+pub near-word : (es : List ℕ) (along : Bool) (i : ℕ) → word es (4 * i + cond along 0 2) ≡ near es along i
+near-word es true i = ap (word es) (let e : 4 * i + 0 ≡ 4 * i = omega arith in e)
+near-word es false i = refl
+
+pub far-word : (es : List ℕ) (along : Bool) (i : ℕ) → word es (4 * i + cond along 2 0) ≡ far es along i
+far-word es true i = refl
+far-word es false i = ap (word es) (let e : 4 * i + 0 ≡ 4 * i = omega arith in e)
+
+-- one of two numbers that are at most n
+pub pick-le : (b : Bool) {x y n r : ℕ} → r ≡ cond b x y → x ≤ n → y ≤ n → r ≤ n
+pick-le true e h k = omega arith
+pick-le false e h k = omega arith
+
+-- ---- what each step keeps, rounds keep
+
+module _ {c : ℕ} {order : List ℕ} (ord : Order c order) (along : Bool) (step : List ℕ → ℕ → List ℕ) (P : List ℕ → Type 0)
+    (keeps : (s : List ℕ) (i : ℕ) → i < c → P s → P (step s i)) where
+  pub swept-keeps : (s : List ℕ) → P s → (j : ℕ) → j ≤ length order → P (swept step order along s j)
   unfolding swept
-  swept-keeps falling s h zero l = h
-  swept-keeps falling s h (suc j) l = step (swept es along falling gives passes s j) (turn es falling j) (turn-lt es falling j l) (swept-keeps falling s h j (le-of-lt l))
+  swept-keeps s h zero l = h
+  swept-keeps s h (suc j) l = keeps (swept step order along s j) (turn order along j) (turn-lt ord along j l) (swept-keeps s h j (le-of-lt l))
 
-  pub rounds-keeps : (s : List ℕ) → P s → (r : ℕ) → P (rounds es along gives passes s r)
+  pub rounds-keeps : (s : List ℕ) → P s → (r : ℕ) → P (rounds step order along s r)
   unfolding rounds
   rounds-keeps s h zero = h
-  rounds-keeps s h (suc r) = swept-keeps (falls along r) (rounds es along gives passes s r) (rounds-keeps s h r) (edgeCount es) (le-refl (edgeCount es))
+  rounds-keeps s h (suc r) = swept-keeps (rounds step order along s r) (rounds-keeps s h r) (length order) (le-refl (length order))
+
+-- ---- two tables, by two steps
+
+module _ {c : ℕ} {order : List ℕ} (ord : Order c order) (along : Bool) (step other : List ℕ → ℕ → List ℕ) (P : List ℕ → List ℕ → Type 0)
+    (keeps : (s t : List ℕ) (i : ℕ) → i < c → P s t → P (step s i) (other t i)) where
+  swept-both : (s t : List ℕ) → P s t → (j : ℕ) → j ≤ length order → P (swept step order along s j) (swept other order along t j)
+  unfolding swept
+  swept-both s t h zero l = h
+  swept-both s t h (suc j) l = keeps _ _ (turn order along j) (turn-lt ord along j l) (swept-both s t h j (le-of-lt l))
+
+  pub rounds-both : (s t : List ℕ) → P s t → (r : ℕ) → P (rounds step order along s r) (rounds other order along t r)
+  unfolding rounds
+  rounds-both s t h zero = h
+  rounds-both s t h (suc r) = swept-both _ _ (rounds-both s t h r) (length order) (le-refl (length order))
 
 -- ---- lists
 
@@ -53,78 +106,3 @@ at-set Q (x ∷ s) zero m zero new old = new
 at-set Q (x ∷ s) zero m (suc v) new old = old
 at-set Q (x ∷ s) (suc i) m zero new old = old
 at-set Q (x ∷ s) (suc i) m (suc v) new old = at-set (λ u. Q (suc u)) s i m v new old
-
--- ---- lengths and growth
-
--- a mask is no smaller for a union
-pub or-le : (a b : ℕ) → a ≤ bitOr a b
-or-le a b = omega (arith, or-add-and a b, and-le-r a b)
-
--- each element is at most the other list's
-abbrev Below : List ℕ → List ℕ → Type 0
-Below s t = (v : ℕ) → getD s v 0 ≤ getD t v 0
-
-module _ (es : List ℕ) (along : Bool) (gives passes : List ℕ) where
-  -- rounds keep the number of sets
-  pub swept-length : (falling : Bool) (s : List ℕ) (j : ℕ) → j ≤ edgeCount es → length (swept es along falling gives passes s j) ≡ length s
-  swept-length falling s = swept-keeps es along gives passes (λ t. length t ≡ length s) (λ t i h e. simp length-set e) falling s refl
-
-  pub rounds-length : (s : List ℕ) (r : ℕ) → length (rounds es along gives passes s r) ≡ length s
-  rounds-length s = rounds-keeps es along gives passes (λ t. length t ≡ length s) (λ t i h e. simp length-set e) s refl
-
-  -- sets only grow
-  grows : (s : List ℕ) (i : ℕ) → Below s (relaxed es along gives passes s i)
-  grows s i v = at-set (λ u m. getD s u 0 ≤ m) s _ _ v (or-le _ _) (le-refl _)
-
-  swept-grows : (falling : Bool) (s : List ℕ) (j : ℕ) → j ≤ edgeCount es → Below s (swept es along falling gives passes s j)
-  swept-grows falling s = swept-keeps es along gives passes (Below s) (λ t i l h v. le-trans (h v) (grows t i v)) falling s (λ v. le-refl _)
-
--- ---- altered
-
--- of a list that grows twice: it was altered if either step altered it
-altered-or : (a b : Bool) (s t u : List ℕ) → length t ≡ length s → Below s t → Below t u → Altered a t u → Altered b s t → Altered (a || b) s u
-altered-or true b s t u e st tu h k =
-    λ same. h (same ∙ sym (ext-getD 0 t s e (λ v l. le-antisymm (subst (λ (x : List ℕ). getD t v 0 ≤ getD x v 0) same (tu v)) (st v))))
-altered-or false true s t u e st tu h k = λ same. k (sym h ∙ same)
-altered-or false false s t u e st tu h k = h ∙ k
-
--- ---- the steps of the code
-
-module _ (es : List ℕ) (along : Bool) (gives passes : List ℕ) where
-  -- one edge, whose ends are v and u
-  module _ (s : List ℕ) (i v u : ℕ) (e : v ≡ near es along i) (f : u ≡ far es along i) where
-    abbrev grown : ℕ
-    grown = bitOr (getD s v 0) (handed gives passes s u)
-
-    made : set s v grown ≡ relaxed es along gives passes s i
-    made = ap₂ (λ (x y : ℕ). set s x (bitOr (getD s x 0) (handed gives passes s y))) e f
-
-    -- its set holds what the far end hands on
-    pub rests : getD s v 0 ≡ grown → Advanced (relaxed es along gives passes s i) s false s
-    rests same = record { sets = sym (ap (set s v) (sym same) ∙ set-getD s v 0) ∙ made; told = refl }
-
-    -- its set grows
-    pub advances : v < length s → (getD s v 0 ≡ grown → ⊥) → Advanced (relaxed es along gives passes s i) s true (set s v grown)
-    advances h new = record { sets = made; told = λ same. new (sym (ap (λ (t : List ℕ). getD t v 0) same) ∙ getD-set-same s v grown 0 h) }
-
-  -- one more edge of a round: t is what the first j made, and u what edge i makes of it
-  pub swept-more : (falling a b : Bool) (s t u : List ℕ) (i j : ℕ) → j < edgeCount es → t ≡ swept es along falling gives passes s j → Altered b s t
-      → i ≡ turn es falling j → Advanced (relaxed es along gives passes t i) t a u
-      → (u ≡ swept es along falling gives passes s (j + 1)) × Altered (a || b) s u
-  unfolding swept
-  swept-more falling a b s t u i j l e h f n = (
-    n .sets ∙ ap₂ (relaxed es along gives passes) e f ∙ ap (swept es along falling gives passes s) (sym (add-one j)),
-    altered-or a b s t u
-        (ap length e ∙ swept-length es along gives passes falling s j (le-of-lt l))
-        (subst (Below s) (sym e) (swept-grows es along gives passes falling s j (le-of-lt l)))
-        (subst (Below t) (sym (n .sets)) (grows es along gives passes t i))
-        (n .told) h,
-  )
-
--- tables for sets are tables for as many others
-pub tables : (es gives passes s t : List ℕ) → Tables es gives passes s → length t ≡ length s → Tables es gives passes t
-tables es gives passes s t h e = record {
-  ends = subst (Ends es) (sym e) (h .ends);
-  gives-all = h .gives-all ∙ sym e;
-  passes-all = h .passes-all ∙ sym e;
-}

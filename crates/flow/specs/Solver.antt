@@ -3,13 +3,15 @@
 -- A set is a mask. No definition here names its width.
 -- Assumes nothing.
 use mathlib.Core.Path.{_≡_}
-use mathlib.Core.Bool.{Bool, true, false, not, _&&_, cond}
+use mathlib.Core.Bool.{Bool, true, false, cond}
 use mathlib.Core.List.{List}
-use Prim.Native.Nat.{ℕ, zero, suc, _+_, _-_, _%_, _≤_, _<_}
-use lib.Dec.{T, eqb, ltb}
+use Prim.Native.Nat.{ℕ, zero, suc, _+_, _-_, _*_, _/_, _≤_, _<_}
+use lib.Dec.{T}
 use lib.Bits.{bitAnd, bitOr}
 use lib.ListN.{length, getD, set, replicate}
-use Rattle.sets.specs.Sets.{has}
+use Rattle.sets.specs.Sets.{has, minus}
+use Rattle.words.specs.Tables.{table, withRow}
+use Rattle.flow.specs.Order.{Order, natural}
 use Rattle.flow.specs.Paths.{edgeCount, edgeFrom, edgeTo, Path}
 
 -- ---- by paths: what a set holds
@@ -33,14 +35,10 @@ near es along i = cond along (edgeFrom es i) (edgeTo es i)
 abbrev pub far : List ℕ → Bool → ℕ → ℕ
 far es along i = cond along (edgeTo es i) (edgeFrom es i)
 
--- the edge that a round takes as its j-th, by falling or by rising number
+-- the edge that a round takes as its j-th: those of a pass along the edges by falling place in the order, those of a pass against them by
+-- rising place, so that facts travel within a round
 abbrev pub turn : List ℕ → Bool → ℕ → ℕ
-turn es falling j = cond falling (edgeCount es - 1 - j) j
-
--- whether round r goes by falling number: along the edges, not against them, as facts travel where edges lead to higher numbers;
--- from the third round on, every second round goes the other way
-unfoldable pub falls : Bool → ℕ → Bool
-falls along r = cond (ltb 1 r && eqb (r % 2) 0) (not along) along
+turn order along j = getD order (cond along (length order - 1 - j) j) 0
 
 -- what the far end hands on: what it gives, and what it holds and passes
 abbrev pub handed : List ℕ → List ℕ → List ℕ → ℕ → ℕ
@@ -51,28 +49,49 @@ abbrev pub relaxed : List ℕ → Bool → List ℕ → List ℕ → List ℕ �
 relaxed es along gives passes sets i =
     set sets (near es along i) (bitOr (getD sets (near es along i) 0) (handed gives passes sets (far es along i)))
 
--- the first j edges of a round taken
-unfoldable pub swept : List ℕ → Bool → Bool → List ℕ → List ℕ → List ℕ → ℕ → List ℕ
-swept es along falling gives passes sets zero = sets
-swept es along falling gives passes sets (suc j) = relaxed es along gives passes (swept es along falling gives passes sets j) (turn es falling j)
+-- the first j edges of a round taken, each by a step
+unfoldable pub swept : (List ℕ → ℕ → List ℕ) → List ℕ → Bool → List ℕ → ℕ → List ℕ
+swept step order along sets zero = sets
+swept step order along sets (suc j) = step (swept step order along sets j) (turn order along j)
 
 -- r whole rounds
-unfoldable pub rounds : List ℕ → Bool → List ℕ → List ℕ → List ℕ → ℕ → List ℕ
-unfolding swept falls
-rounds es along gives passes sets zero = sets
-rounds es along gives passes sets (suc r) = swept es along (falls along r) gives passes (rounds es along gives passes sets r) (edgeCount es)
+unfoldable pub rounds : (List ℕ → ℕ → List ℕ) → List ℕ → Bool → List ℕ → ℕ → List ℕ
+unfolding swept
+rounds step order along sets zero = sets
+rounds step order along sets (suc r) = swept step order along (rounds step order along sets r) (length order)
 
 -- the sets of n vertices: from empty sets, as many rounds as vertices
 unfoldable pub solution : List ℕ → Bool → List ℕ → List ℕ → ℕ → List ℕ
 unfolding rounds
-solution es along gives passes n = rounds es along gives passes (replicate n 0) n
+solution es along gives passes n = rounds (relaxed es along gives passes) (natural (edgeCount es)) along (replicate n 0) n
+
+-- ---- eight tables in one: the set of vertex v in column a stands at 8 v + a
+
+abbrev pub column : List ℕ → ℕ → ℕ → List ℕ
+column sets n a = table (λ v. getD sets (8 * v + a) 0) n
+
+-- what the far end hands on in each column
+abbrev pub handedRow : List ℕ → List ℕ → List ℕ → ℕ → List ℕ
+handedRow gives passes sets u = table (λ a. handed gives passes sets (8 * u + a)) 8
+
+-- the sets of vertex v grown by the first m of a row
+abbrev pub grown : List ℕ → ℕ → List ℕ → ℕ → List ℕ
+grown sets v row m = withRow sets v (λ a. bitOr (getD sets (8 * v + a) 0) (getD row a 0)) m
+
+-- one edge taken in every column
+abbrev pub relaxedRow : List ℕ → Bool → List ℕ → List ℕ → List ℕ → ℕ → List ℕ
+relaxedRow es along gives passes sets i = grown sets (near es along i) (handedRow gives passes sets (far es along i)) 8
+
+-- r rounds from empty sets
+abbrev pub roundsRow : List ℕ → List ℕ → Bool → List ℕ → List ℕ → ℕ → ℕ → List ℕ
+roundsRow es order along gives passes n r = rounds (relaxedRow es along gives passes) order along (replicate (8 * n) 0) r
 
 -- ---- the number of rounds: every earlier round altered a set, the last none, and there are at most as many as vertices and one more
-pub record Rounds (es : List ℕ) (along : Bool) (gives passes : List ℕ) (n r : ℕ) : Type 0 where
+pub record Rounds (es order : List ℕ) (along : Bool) (gives passes : List ℕ) (n r : ℕ) : Type 0 where
   pub some : 0 < r
   pub most : r ≤ n + 1
-  pub altered : (j : ℕ) → suc j < r → rounds es along gives passes (replicate n 0) (suc j) ≡ rounds es along gives passes (replicate n 0) j → ⊥
-  pub still : rounds es along gives passes (replicate n 0) r ≡ rounds es along gives passes (replicate n 0) (r - 1)
+  pub altered : (j : ℕ) → suc j < r → roundsRow es order along gives passes n (suc j) ≡ roundsRow es order along gives passes n j → ⊥
+  pub still : roundsRow es order along gives passes n r ≡ roundsRow es order along gives passes n (r - 1)
 
 -- ---- edges whose ends are among n vertices
 pub record Ends (es : List ℕ) (n : ℕ) : Type 0 where
@@ -81,11 +100,25 @@ pub record Ends (es : List ℕ) (n : ℕ) : Type 0 where
 
 -- ---- what the functions state
 
--- tables of one entry for each vertex, over edges among these vertices
+-- rows of a table
+abbrev pub rowCount : List ℕ → ℕ
+rowCount sets = length sets / 8
+
+-- tables of whole rows, one for each vertex, over edges among these vertices
 pub record Tables (es gives passes sets : List ℕ) : Type 0 where
-  pub ends : Ends es (length sets)
+  pub ends : Ends es (rowCount sets)
+  pub whole : length sets ≡ 8 * rowCount sets
   pub gives-all : length gives ≡ length sets
   pub passes-all : length passes ≡ length sets
+
+-- a note of what rows were given, in each column, joined with what a row has that the sets of vertex v have not
+abbrev pub noted : List ℕ → List ℕ → ℕ → List ℕ → List ℕ
+noted note sets v row = table (λ a. bitOr (getD note a 0) (minus (getD row a 0) (getD sets (8 * v + a) 0))) 8
+
+-- all columns of a note in one mask
+unfoldable pub inAll : List ℕ → ℕ → ℕ
+inAll note zero = 0
+inAll note (suc a) = bitOr (inAll note a) (getD note a 0)
 
 -- whether the sets were altered
 abbrev pub Altered : Bool → List ℕ → List ℕ → Type 0
@@ -97,7 +130,8 @@ pub record Advanced (right before : List ℕ) (answer : Bool) (after : List ℕ)
   pub sets : after ≡ right
   pub told : Altered answer before after
 
--- the sets are the solution, and r is the number of rounds
-pub record Solved (es : List ℕ) (along : Bool) (gives passes : List ℕ) (n r : ℕ) (after : List ℕ) : Type 0 where
-  pub sets : after ≡ solution es along gives passes n
-  pub counted : Rounds es along gives passes n r
+-- each column is the solution for its column, and r is the number of rounds
+pub record Solved (es order : List ℕ) (along : Bool) (gives passes : List ℕ) (n r : ℕ) (after : List ℕ) : Type 0 where
+  pub size : length after ≡ 8 * n
+  pub sets : (a : ℕ) → a < 8 → column after n a ≡ solution es along (column gives n a) (column passes n a) n
+  pub counted : Rounds es order along gives passes n r

@@ -1,14 +1,20 @@
 // One solver on version sets over the edges of a routine: bit k is in the set of a vertex if a path from it, through vertices that
 // pass k, arrives at a vertex that gives k. It goes by rounds over the edges until a round alters no set.
+// A table has eight columns, one for each array that a routine may have: the set of vertex v in column a stands at 8 v + a.
 ghost use mathlib.Core.Path.{_≡_};
-ghost use mathlib.Core.Bool.{cond};
-ghost use Prim.Native.Nat.{_<_};
+ghost use mathlib.Core.Bool.{cond, not};
+ghost use Prim.Native.Nat.{_+_, _*_, _≤_, _<_};
+ghost use lib.Dec.{eqb};
 ghost use lib.ListN.{length, replicate};
+ghost use Rattle.flow.specs.Order.{Order};
 ghost use Rattle.flow.specs.Paths.{edgeCount};
-ghost use Rattle.flow.specs.Solver.{relaxed, swept, falls, Tables, Advanced, Solved};
+ghost use Rattle.flow.specs.Solver.{near, far, handedRow, grown, relaxedRow, swept, noted, inAll, rowCount, Tables, Advanced, Solved};
+
+// Columns of a table.
+pub const COLUMNS: usize = 8;
 
 // Empties every set.
-fn clear(sets: &mut [u64])
+fn clear(sets: &mut [u16])
     ensures { λ r. ⌜ now (sets .exit) ≡ replicate (length (now (sets .entry))) 0 ⌝ }
 {
     for v in 0..sets.len() {
@@ -26,81 +32,124 @@ fn pick(first: bool, a: usize, b: usize) -> usize
     b
 }
 
-// Takes edge i: its near end's set grows by what the far end hands on. Says whether the set was altered.
+// What vertex u hands on in each column: what it gives, and what it holds and passes.
+fn handed(gives: &[u16], passes: &[u16], sets: &[u16], u: usize) -> [u16; COLUMNS]
+    requires { ⌜ 8 * u + 8 ≤ length (now gives) ⌝ }
+    requires { ⌜ 8 * u + 8 ≤ length (now passes) ⌝ }
+    requires { ⌜ 8 * u + 8 ≤ length (now sets) ⌝ }
+    ensures { λ r. ⌜ r ≡ handedRow (now (gives .entry)) (now (passes .entry)) (now (sets .entry)) u ⌝ }
+{
+    let mut row = [0u16; COLUMNS];
+    let mut a: usize = 0;
+    while a < COLUMNS {
+        let at = COLUMNS * u + a;
+        row[a] = gives[at] | (sets[at] & passes[at]);
+        a += 1;
+    }
+    row
+}
+
+// The sets of vertex v grow by a row. Adds to a note what they did not have.
+fn join(sets: &mut [u16], v: usize, row: [u16; COLUMNS], note: [u16; COLUMNS]) -> [u16; COLUMNS]
+    requires { ⌜ 8 * v + 8 ≤ length (now sets) ⌝ }
+    requires { ⌜ length note ≡ 8 ⌝ }
+    ensures { λ r. ⌜ r ≡ noted note (now (sets .entry)) v row ⌝ }
+    ensures { λ _. ⌜ now (sets .exit) ≡ grown (now (sets .entry)) v row 8 ⌝ }
+{
+    let mut noted = note;
+    let mut a: usize = 0;
+    while a < COLUMNS {
+        let at = COLUMNS * v + a;
+        let held = sets[at];
+        let brought = row[a];
+        noted[a] = noted[a] | sets::difference(brought, held);
+        sets[at] = held | brought;
+        a += 1;
+    }
+    noted
+}
+
+// Takes edge i: its near end's sets grow by what the far end hands on. Adds to a note what they did not have.
 fn relax(
     edges: &[u8],
     along: bool,
-    gives: &[u64],
-    passes: &[u64],
-    sets: &mut [u64],
+    gives: &[u16],
+    passes: &[u16],
+    sets: &mut [u16],
     i: usize,
-) -> bool
+    note: [u16; COLUMNS],
+) -> [u16; COLUMNS]
     requires { ⌜ Tables (now edges) (now gives) (now passes) (now sets) ⌝ }
     requires { ⌜ i < edgeCount (now edges) ⌝ }
-    ensures { λ r. ⌜ Advanced
-        (relaxed (now (edges .entry)) along (now (gives .entry)) (now (passes .entry)) (now (sets .entry)) i)
-        (now (sets .entry)) r (now (sets .exit)) ⌝ }
+    requires { ⌜ length note ≡ 8 ⌝ }
+    ensures { λ r. ⌜ r ≡ noted note (now (sets .entry)) (near (now (edges .entry)) along i)
+        (handedRow (now (gives .entry)) (now (passes .entry)) (now (sets .entry)) (far (now (edges .entry)) along i)) ⌝ }
+    ensures { λ _. ⌜ now (sets .exit) ≡ relaxedRow (now (edges .entry)) along (now (gives .entry)) (now (passes .entry)) (now (sets .entry)) i ⌝ }
 {
-    let from = words::at(edges, 4 * i);
-    let to = words::at(edges, 4 * i + 2);
-    let near = pick(along, from, to);
-    let far = pick(along, to, from);
-    let given = gives[far];
-    let held = sets[far];
-    let passed = passes[far];
-    let old = sets[near];
-    let new = old | (given | (held & passed));
-    if old == new {
-        return false;
-    }
-    sets[near] = new;
-    true
+    let near = words::at(edges, 4 * i + pick(along, 0, 2));
+    let far = words::at(edges, 4 * i + pick(along, 2, 0));
+    let row = handed(gives, passes, sets, far);
+    join(sets, near, row, note)
 }
 
-// Takes every edge once, by falling or by rising number. Says whether a set was altered.
+// Whether a note has anything in it.
+fn any(note: [u16; COLUMNS]) -> bool
+    ensures { λ r. ⌜ r ≡ not (eqb (inAll note 8) 0) ⌝ }
+{
+    let mut all: u16 = 0;
+    let mut a: usize = 0;
+    while a < COLUMNS {
+        all = all | note[a];
+        a += 1;
+    }
+    all != 0
+}
+
+// Takes every edge once, by falling or by rising place in the order. Says whether a set was altered.
 fn round(
     edges: &[u8],
+    order: &[u16],
     along: bool,
-    falling: bool,
-    gives: &[u64],
-    passes: &[u64],
-    sets: &mut [u64],
+    gives: &[u16],
+    passes: &[u16],
+    sets: &mut [u16],
 ) -> bool
+    requires { ⌜ Order (edgeCount (now edges)) (now order) ⌝ }
     requires { ⌜ Tables (now edges) (now gives) (now passes) (now sets) ⌝ }
     ensures { λ r. ⌜ Advanced
-        (swept (now (edges .entry)) along falling (now (gives .entry)) (now (passes .entry)) (now (sets .entry)) (edgeCount (now (edges .entry))))
+        (swept (relaxedRow (now (edges .entry)) along (now (gives .entry)) (now (passes .entry)))
+            (now (order .entry)) along (now (sets .entry)) (length (now (order .entry))))
         (now (sets .entry)) r (now (sets .exit)) ⌝ }
 {
-    let count = edges.len() / 4;
-    let mut changed = false;
+    let count = order.len();
+    let mut note = [0u16; COLUMNS];
     for j in 0..count {
-        let i = pick(falling, count - 1 - j, j);
-        changed = relax(edges, along, gives, passes, sets, i) | changed;
+        let at = pick(along, count - 1 - j, j);
+        let i = order[at] as usize;
+        let noted = relax(edges, along, gives, passes, sets, i, note);
+        note = noted;
     }
-    changed
+    any(note)
 }
 
-// Whether round r goes by falling number.
-fn falls(along: bool, r: usize) -> bool
-    ensures { λ b. ⌜ b ≡ falls along r ⌝ }
-{
-    let back = (r > 1) & (r % 2 == 0);
-    if back {
-        return !along;
-    }
-    along
-}
-
-// Fills in the sets of all vertices, one for each entry of `sets`, and returns the number of rounds. The last round alters no set.
-pub fn solve(edges: &[u8], along: bool, gives: &[u64], passes: &[u64], sets: &mut [u64]) -> usize
+// Fills in the sets of all vertices in every column, and returns the number of rounds. The last round alters no set.
+pub fn solve(
+    edges: &[u8],
+    order: &[u16],
+    along: bool,
+    gives: &[u16],
+    passes: &[u16],
+    sets: &mut [u16],
+) -> usize
+    requires { ⌜ Order (edgeCount (now edges)) (now order) ⌝ }
     requires { ⌜ Tables (now edges) (now gives) (now passes) (now sets) ⌝ }
     ensures { λ r. ⌜ Solved
-        (now (edges .entry)) along (now (gives .entry)) (now (passes .entry)) (length (now (sets .entry)))
+        (now (edges .entry)) (now (order .entry)) along (now (gives .entry)) (now (passes .entry)) (rowCount (now (sets .entry)))
         r (now (sets .exit)) ⌝ }
 {
     clear(sets);
     let mut r: usize = 0;
-    while round(edges, along, falls(along, r), gives, passes, sets) {
+    while round(edges, order, along, gives, passes, sets) {
         r += 1;
     }
     r + 1

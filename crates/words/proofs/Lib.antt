@@ -1,3 +1,5 @@
+pub mod Fills
 pub mod Filling
+pub mod Rows
 pub mod Tables
 pub mod Written

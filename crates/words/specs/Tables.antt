@@ -1,8 +1,8 @@
 -- Lists built by counting, and a buffer that is written from its front.
 -- Assumes nothing.
 use mathlib.Core.List.{List, [], _∷_, _++_}
-use Prim.Native.Nat.{ℕ, zero, suc}
-use lib.ListN.{length, drop}
+use Prim.Native.Nat.{ℕ, zero, suc, _+_, _*_}
+use lib.ListN.{length, set, drop}
 
 -- a table of n numbers
 abbrev pub table : (ℕ → ℕ) → ℕ → List ℕ
@@ -13,6 +13,11 @@ table f (suc n) = table f n ++ (f n ∷ [])
 unfoldable pub rows : (ℕ → List ℕ) → ℕ → List ℕ
 rows row zero = []
 rows row (suc n) = rows row n ++ row n
+
+-- a table of eight columns, the entry of row v and column a at 8 v + a: row v with its first m entries replaced
+unfoldable pub withRow : List ℕ → ℕ → (ℕ → ℕ) → ℕ → List ℕ
+withRow s v f zero = s
+withRow s v f (suc a) = set (withRow s v f a) (8 * v + a) (f a)
 
 -- a buffer that held `old`, once `done` has been written at its front
 abbrev pub wrote : List ℕ → List ℕ → List ℕ

@@ -1,0 +1,290 @@
+-- Eight tables in one: each column goes its own way, and a note of what was added says whether a set was altered.
+-- Assumes nothing.
+use mathlib.Core.Path.{_≡_, refl, sym, ap, ap₂, subst, _∙_}
+use mathlib.Core.Bool.{Bool, true, false, not}
+use mathlib.Core.List.{List}
+use mathlib.Core.Logic.{⊎-elim}
+use Prim.Native.Nat.{ℕ, zero, suc, _+_, _-_, _*_, _/_, _%_, _≤_, _<_, zero-le}
+use native.Mathlib.Nat.{le-refl, le-trans, le-antisymm, le-of-lt, le-of-suc-le-suc, eq-or-lt-of-le}
+use native.Mathlib.Decide.{le-ind, decLt, ℕ-discrete}
+use native.Mathlib.Numerals.{add-one}
+use native.Mathlib.Omega.{arith}
+use borrow.Author.Count.{below-more}
+use lib.Bits.{bitAnd, bitOr, or-add-and, and-le-l, and-comm}
+use lib.Dec.{eqb, eqb·suc-zero}
+use lib.ListN.{length, getD, set, replicate, length-replicate, length-set}
+use lib.Seq.{set-getD, getD-set-same, getD-set-other, ext-getD}
+use Rattle.sets.specs.Sets.{bit, minus}
+use Rattle.sets.proofs.Laws.{bit-none, bit-minus}
+use Rattle.words.specs.Tables.{withRow}
+use Rattle.words.proofs.Rows.{row-length, row-other, row-at, row-still}
+use Rattle.words.proofs.Tables.{table-length, table-at}
+use Rattle.flow.specs.Order.{Order}
+use Rattle.flow.specs.Paths.{edgeCount}
+use Rattle.flow.specs.Solver.{near, far, turn, handed, relaxed, swept, rounds, solution, column, handedRow, grown, relaxedRow, roundsRow, Ends, rowCount, Tables, noted, inAll, Altered, Advanced, Solved}
+use Rattle.flow.proofs.Rounds.{turn-lt, near-lt, far-lt, swept-keeps, rounds-keeps, rounds-both}
+use Rattle.flow.proofs.Exact.{or-le, or-subset, cleared, after, after-length, ends-alike}
+
+-- ---- a row that grows
+
+-- what a set of the row grows to
+abbrev grows : List ℕ → ℕ → List ℕ → ℕ → ℕ
+grows s v row a = bitOr (getD s (8 * v + a) 0) (getD row a 0)
+
+pub grown-length : (s : List ℕ) (v : ℕ) (row : List ℕ) (m : ℕ) → length (grown s v row m) ≡ length s
+grown-length s v row = row-length s v (grows s v row)
+
+pub grown-at : (s : List ℕ) (v : ℕ) (row : List ℕ) (m a : ℕ) → a < m → 8 * v + m ≤ length s → getD (grown s v row m) (8 * v + a) 0 ≡ grows s v row a
+grown-at s v row = row-at s v (grows s v row)
+
+-- each element is at most the other list's
+abbrev Below : List ℕ → List ℕ → Type 0
+Below s t = (x : ℕ) → getD s x 0 ≤ getD t x 0
+
+below-grown : (s : List ℕ) (v : ℕ) (row : List ℕ) (m : ℕ) → 8 * v + m ≤ length s → Below s (grown s v row m)
+unfolding withRow
+below-grown s v row zero l x = le-refl _
+below-grown s v row (suc m) l x =
+    elim (ℕ-discrete x (8 * v + m)) [
+      yes e ↦ subst (λ (y : ℕ). getD s y 0 ≤ getD (grown s v row (suc m)) y 0) (sym e)
+          (subst (λ (y : ℕ). getD s (8 * v + m) 0 ≤ y) (sym (getD-set-same (grown s v row m) (8 * v + m) _ 0 (omega (arith, grown-length s v row m)))) (or-le _ _))
+    | no e ↦ subst (λ (y : ℕ). getD s x 0 ≤ y) (sym (getD-set-other (grown s v row m) (8 * v + m) x _ 0 e)) (below-grown s v row m (omega arith) x)
+    ]
+
+-- lists that grow no further than where they began
+squeezed : (s t u : List ℕ) → length t ≡ length s → Below s t → Below t u → u ≡ s → t ≡ s
+squeezed s t u e st tu same = ext-getD 0 t s e (λ x l. le-antisymm (subst (λ (y : List ℕ). getD t x 0 ≤ getD y x 0) same (tu x)) (st x))
+
+-- ---- columns
+
+module _ (n a : ℕ) (col : a < 8) where
+  -- a column is grown at its vertex
+  column-grown : (s : List ℕ) (v : ℕ) (row : List ℕ) → length s ≡ 8 * n → v < n
+      → column (grown s v row 8) n a ≡ set (column s n a) v (bitOr (getD (column s n a) v 0) (getD row a 0))
+  column-grown s v row size h =
+      ext-getD 0 _ _ (table-length _ n ∙ sym (length-set (column s n a) v _ ∙ table-length _ n))
+      (λ w l. let in-w : w < n = subst (λ (x : ℕ). w < x) (table-length (λ u. getD (grown s v row 8) (8 * u + a) 0) n) l in
+      table-at (λ u. getD (grown s v row 8) (8 * u + a) 0) n w in-w
+      ∙ elim (ℕ-discrete w v) [
+        yes e ↦ subst (λ (x : ℕ). getD (grown s v row 8) (8 * x + a) 0 ≡ getD (set (column s n a) v (bitOr (getD (column s n a) v 0) (getD row a 0))) x 0) (sym e)
+            (grown-at s v row 8 a col (omega arith)
+            ∙ ap (λ (x : ℕ). bitOr x (getD row a 0)) (sym (table-at (λ u. getD s (8 * u + a) 0) n v h))
+            ∙ sym (getD-set-same (column s n a) v _ 0 (subst (λ (x : ℕ). v < x) (sym (table-length (λ u. getD s (8 * u + a) 0) n)) h)))
+      | no e ↦ row-other s v (grows s v row) 8 (8 * w + a) (λ b lb eq. e (omega arith))
+            ∙ sym (table-at (λ u. getD s (8 * u + a) 0) n w in-w)
+            ∙ sym (getD-set-other (column s n a) v w _ 0 e)
+      ])
+
+  -- an edge is taken in a column as it is in a table
+  column-relaxed : (es : List ℕ) (along : Bool) (gives passes s : List ℕ) (i : ℕ) → Ends es n → i < edgeCount es → length s ≡ 8 * n
+      → column (relaxedRow es along gives passes s i) n a ≡ relaxed es along (column gives n a) (column passes n a) (column s n a) i
+  column-relaxed es along gives passes s i ends l size =
+      let u = far es along i in
+      let in-u = far-lt ends along i l in
+      column-grown s (near es along i) (handedRow gives passes s u) size (near-lt ends along i l)
+      ∙ ap (λ (x : ℕ). set (column s n a) (near es along i) (bitOr (getD (column s n a) (near es along i) 0) x))
+      (table-at (λ b. handed gives passes s (8 * u + b)) 8 a col
+      ∙ ap₂ bitOr (sym (table-at (λ w. getD gives (8 * w + a) 0) n u in-u))
+      (ap₂ bitAnd (sym (table-at (λ w. getD s (8 * w + a) 0) n u in-u)) (sym (table-at (λ w. getD passes (8 * w + a) 0) n u in-u))))
+
+  column-cleared : column (replicate (8 * n) 0) n a ≡ replicate n 0
+  column-cleared =
+      ext-getD 0 _ _ (table-length _ n ∙ sym (length-replicate n 0))
+      (λ v l. table-at (λ u. getD (replicate (8 * n) 0) (8 * u + a) 0) n v (subst (λ (x : ℕ). v < x) (table-length (λ u. getD (replicate (8 * n) 0) (8 * u + a) 0) n) l)
+      ∙ cleared (8 * n) (8 * v + a) ∙ sym (cleared n v))
+
+-- the columns of a table make it up
+columns-all : (n : ℕ) (s t : List ℕ) → length s ≡ 8 * n → length t ≡ 8 * n → ((a : ℕ) → a < 8 → column s n a ≡ column t n a) → s ≡ t
+columns-all n s t es et h =
+    ext-getD 0 s t (es ∙ sym et)
+    (λ x l. let row : x / 8 < n = omega arith in
+    let place : 8 * (x / 8) + x % 8 ≡ x = omega arith in
+    let cell : (q : List ℕ) → getD (column q n (x % 8)) (x / 8) 0 ≡ getD q x 0 =
+        λ q. table-at (λ v. getD q (8 * v + x % 8) 0) n (x / 8) row ∙ ap (λ (y : ℕ). getD q y 0) place in
+    sym (cell s) ∙ ap (λ (c : List ℕ). getD c (x / 8) 0) (h (x % 8) (omega arith)) ∙ cell t)
+
+-- ---- notes: nothing where the sets are as before, and something only where they are not
+
+pub record Notes (note before after : List ℕ) : Type 0 where
+  pub none : ((a : ℕ) → a < 8 → getD note a 0 ≡ 0) → after ≡ before
+  pub some : after ≡ before → (a : ℕ) → a < 8 → getD note a 0 ≡ 0
+
+pub notes-none : (s : List ℕ) → Notes (replicate 8 0) s s
+notes-none s = record { none = λ h. refl; some = λ e a l. cleared 8 a }
+
+-- a union is empty if both are
+or-none : (a b : ℕ) → bitOr a b ≡ 0 → (a ≡ 0) × (b ≡ 0)
+or-none a b e = (omega (arith, or-le a b), omega (arith, or-add-and a b, or-le a b, and-le-l a b))
+
+-- what a set lacks, and what it grows by
+lacks-none : (a b : ℕ) → minus b a ≡ 0 → bitOr a b ≡ a
+lacks-none a b e = or-subset a b (λ k. omega (arith, bit-minus b a k, ap (λ (m : ℕ). bit m k) e, bit-none k))
+
+lacks-some : (a b : ℕ) → bitOr a b ≡ a → minus b a ≡ 0
+unfolding minus
+lacks-some a b e = omega (arith, or-add-and a b, and-comm a b)
+
+module _ (note s t : List ℕ) (v : ℕ) (row : List ℕ) (fits : 8 * v + 8 ≤ length t) (size : length t ≡ length s) (st : Below s t) (h : Notes note s t) where
+  noted-at : (a : ℕ) → a < 8 → getD (noted note t v row) a 0 ≡ bitOr (getD note a 0) (minus (getD row a 0) (getD t (8 * v + a) 0))
+  noted-at a l = table-at (λ b. bitOr (getD note b 0) (minus (getD row b 0) (getD t (8 * v + b) 0))) 8 a l
+
+  -- one row more
+  notes-more : Notes (noted note t v row) s (grown t v row 8)
+  notes-more = record {
+    none = λ all.
+        let parts : (a : ℕ) → a < 8 → (getD note a 0 ≡ 0) × (minus (getD row a 0) (getD t (8 * v + a) 0) ≡ 0) =
+            λ a l. or-none (getD note a 0) (minus (getD row a 0) (getD t (8 * v + a) 0)) (sym (noted-at a l) ∙ all a l) in
+        row-still t v (grows t v row) 8 (λ a l. lacks-none _ _ (parts a l .1)) ∙ h .none (λ a l. parts a l .0);
+    some = λ same a l.
+        let old : t ≡ s = squeezed s t (grown t v row 8) size st (below-grown t v row 8 fits) same in
+        let still : grown t v row 8 ≡ t = same ∙ sym old in
+        noted-at a l
+        ∙ ap₂ bitOr (h .some old a l) (lacks-some _ _ (sym (grown-at t v row 8 a l fits) ∙ ap (λ (q : List ℕ). getD q (8 * v + a) 0) still));
+  }
+
+-- all columns of a note
+all-none : (note : List ℕ) (m : ℕ) → inAll note m ≡ 0 → (a : ℕ) → a < m → getD note a 0 ≡ 0
+unfolding inAll
+all-none note zero e a l = absurd (omega arith)
+all-none note (suc m) e a l =
+    let parts = or-none (inAll note m) (getD note m 0) e in
+    ⊎-elim (λ (q : a ≡ m). ap (λ (x : ℕ). getD note x 0) q ∙ parts .1) (λ (b : a < m). all-none note m (parts .0) a b) (eq-or-lt-of-le (le-of-suc-le-suc l))
+
+none-all : (note : List ℕ) (m : ℕ) → ((a : ℕ) → a < m → getD note a 0 ≡ 0) → inAll note m ≡ 0
+unfolding inAll
+none-all note zero h = refl
+none-all note (suc m) h = ap₂ bitOr (none-all note m (λ a l. h a (omega arith))) (h m (le-refl (suc m)))
+
+-- a note tells whether a set was altered
+pub tells : (note s t : List ℕ) (b : Bool) → Notes note s t → b ≡ not (eqb (inAll note 8) 0) → Altered b s t
+tells note s t b h e = subst (λ (x : Bool). Altered x s t) (sym e) (by (inAll note 8) refl)
+  where
+    by : (x : ℕ) → inAll note 8 ≡ x → Altered (not (eqb x 0)) s t
+    by zero q = h .none (all-none note 8 q)
+    by (suc x) q = subst (λ (y : Bool). Altered (not y) s t) (sym (eqb·suc-zero x)) (λ (same : t ≡ s). let none : inAll note 8 ≡ 0 = none-all note 8 (h .some same) in absurd (omega (arith, none)))
+
+-- ---- the steps of a round
+
+module _ (es : List ℕ) (along : Bool) (gives passes : List ℕ) where
+  abbrev step : List ℕ → ℕ → List ℕ
+  step s i = relaxedRow es along gives passes s i
+
+  module _ {order : List ℕ} (ord : Order (edgeCount es) order) where
+    pub swept-length : (s : List ℕ) (j : ℕ) → j ≤ length order → length (swept step order along s j) ≡ length s
+    swept-length s = swept-keeps ord along step (λ t. length t ≡ length s) (λ t i l e. grown-length t (near es along i) (handedRow gives passes t (far es along i)) 8 ∙ e) s refl
+
+    pub rounds-length : (s : List ℕ) (r : ℕ) → length (rounds step order along s r) ≡ length s
+    rounds-length s = rounds-keeps ord along step (λ t. length t ≡ length s) (λ t i l e. grown-length t (near es along i) (handedRow gives passes t (far es along i)) 8 ∙ e) s refl
+
+    -- the row of an edge's near end
+    near-fits : (s t : List ℕ) (i : ℕ) → Tables es gives passes s → length t ≡ length s → i < edgeCount es → 8 * near es along i + 8 ≤ length t
+    near-fits s t i h e l = omega (arith, near-lt (h .ends) along i l, h .whole)
+
+    swept-below : (s : List ℕ) → Tables es gives passes s → (j : ℕ) → j ≤ length order → (length (swept step order along s j) ≡ length s) × Below s (swept step order along s j)
+    swept-below s h =
+        swept-keeps ord along step (λ t. (length t ≡ length s) × Below s t)
+        (λ t i l b. (grown-length t (near es along i) (handedRow gives passes t (far es along i)) 8 ∙ b .0, λ x. le-trans (b .1 x) (below-grown t (near es along i) (handedRow gives passes t (far es along i)) 8 (near-fits s t i h (b .0) l) x)))
+        s (refl, λ x. le-refl _)
+
+    -- one more edge: t is what the first j made, and u what edge i makes of it
+    pub swept-more : (s t u note new : List ℕ) (i j : ℕ) → Tables es gives passes s → j < length order → t ≡ swept step order along s j → Notes note s t
+        → i ≡ turn order along j → u ≡ step t i → new ≡ noted note t (near es along i) (handedRow gives passes t (far es along i))
+        → (u ≡ swept step order along s (j + 1)) × (length new ≡ 8) × Notes new s u
+    unfolding swept
+    swept-more s t u note new i j h l e notes f made now =
+        let b = swept-below s h j (le-of-lt l) in
+        let listed : i < edgeCount es = subst (λ (x : ℕ). x < edgeCount es) (sym f) (turn-lt ord along j l) in
+        let size : length t ≡ length s = ap length e ∙ b .0 in (
+          made ∙ ap₂ step e f ∙ ap (swept step order along s) (sym (add-one j)),
+          ap length now ∙ table-length (λ a. bitOr (getD note a 0) (minus (getD (handedRow gives passes t (far es along i)) a 0) (getD t (8 * near es along i + a) 0))) 8,
+          subst (λ (q : List ℕ). Notes new s q) (sym made)
+              (subst (λ (q : List ℕ). Notes q s (step t i)) (sym now)
+              (notes-more note s t (near es along i) (handedRow gives passes t (far es along i)) (near-fits s t i h size listed) size (subst (Below s) (sym e) (b .1)) notes)),
+        )
+
+-- tables for sets are tables for as many others
+pub tables : (es gives passes s t : List ℕ) → Tables es gives passes s → length t ≡ length s → Tables es gives passes t
+tables es gives passes s t h e = record {
+  ends = subst (λ (x : ℕ). Ends es (x / 8)) (sym e) (h .ends);
+  whole = e ∙ h .whole ∙ ap (λ (x : ℕ). 8 * (x / 8)) (sym e);
+  gives-all = h .gives-all ∙ sym e;
+  passes-all = h .passes-all ∙ sym e;
+}
+
+-- ---- going on until a round alters nothing
+
+module _ (es order : List ℕ) (along : Bool) (gives passes : List ℕ) (n : ℕ) where
+  -- r rounds over the empty sets of n vertices
+  abbrev made : ℕ → List ℕ
+  made r = roundsRow es order along gives passes n r
+
+  -- r rounds, each of which altered a set
+  pub record Going (t : List ℕ) (r : ℕ) : Type 0 where
+    pub sets : t ≡ made r
+    pub most : r ≤ n
+    pub altered : (j : ℕ) → j < r → made (suc j) ≡ made j → ⊥
+
+  pub going-none : (t : List ℕ) → t ≡ replicate (8 * n) 0 → Going t 0
+  unfolding rounds
+  going-none t e = record { sets = e; most = zero-le; altered = λ j h. absurd (omega arith) }
+
+  -- where a round altered none, no later one does
+  rest : (r : ℕ) → made (suc r) ≡ made r → (m : ℕ) → r ≤ m → made m ≡ made r
+  unfolding rounds
+  rest r same = le-ind (λ m. made m ≡ made r) refl (λ m h e. ap (λ (s : List ℕ). swept (relaxedRow es along gives passes) order along s (length order)) e ∙ same)
+
+  module _ (ord : Order (edgeCount es) order) where
+    pub made-length : (r : ℕ) → length (made r) ≡ 8 * n
+    made-length r = rounds-length es along gives passes ord (replicate (8 * n) 0) r ∙ length-replicate (8 * n) 0
+
+  module _ (ord : Order (edgeCount es) order) (ends : Ends es n) where
+    -- each column goes its own way
+    column-made : (a : ℕ) → a < 8 → (r : ℕ) → column (made r) n a ≡ after es along (column gives n a) (column passes n a) ord n r
+    column-made a l r =
+        rounds-both ord along (relaxedRow es along gives passes) (relaxed es along (column gives n a) (column passes n a))
+        (λ s t. (length s ≡ 8 * n) × (column s n a ≡ t))
+        (λ s t i listed h. (
+          grown-length s (near es along i) (handedRow gives passes s (far es along i)) 8 ∙ h .0,
+          column-relaxed n a l es along gives passes s i ends listed (h .0) ∙ ap (λ (c : List ℕ). relaxed es along (column gives n a) (column passes n a) c i) (h .1),
+        ))
+        (replicate (8 * n) 0) (replicate n 0) (length-replicate (8 * n) 0, column-cleared n a l) r .1
+
+    column-ends : (a : ℕ) → a < 8 → (r : ℕ) → n ≤ r → column (made r) n a ≡ solution es along (column gives n a) (column passes n a) n
+    column-ends a l r h = column-made a l r ∙ ends-alike es along (column gives n a) (column passes n a) n ends ord r h
+
+    -- after as many rounds as vertices no set is altered
+    further : (r : ℕ) → n ≤ r → made (suc r) ≡ made r
+    further r h = columns-all n (made (suc r)) (made r) (made-length ord (suc r)) (made-length ord r) (λ a l. column-ends a l (suc r) (omega arith) ∙ sym (column-ends a l r h))
+
+    -- one more, and whether it altered a set
+    module _ (t u : List ℕ) (b : Bool) (r : ℕ) (g : Going t r) (x : Advanced (swept (relaxedRow es along gives passes) order along t (length order)) t b u) where
+      now-made : u ≡ made (suc r)
+      unfolding rounds
+      now-made = x .sets ∙ ap (λ (s : List ℕ). swept (relaxedRow es along gives passes) order along s (length order)) (g .sets)
+
+      pub going-more : b ≡ true → Going u (r + 1)
+      going-more did =
+          let new : made (suc r) ≡ made r → ⊥ = λ same. subst (λ (y : Bool). Altered y t u) did (x .told) (now-made ∙ same ∙ sym (g .sets)) in
+          record {
+            sets = now-made ∙ ap made (sym (add-one r));
+            most = elim (decLt r n) [ yes l ↦ omega arith | no l ↦ absurd (new (further r (omega arith))) ];
+            altered = below-more (λ j. made (suc j) ≡ made j → ⊥) r (g .altered) new;
+          }
+
+      -- where it altered none, no later one would
+      pub going-stops : b ≡ false → Solved es order along gives passes n (r + 1) u
+      going-stops none =
+          let old : u ≡ made r = subst (λ (y : Bool). Altered y t u) none (x .told) ∙ g .sets in
+          let same : made (suc r) ≡ made r = sym now-made ∙ old in
+          let all : made n ≡ made r = rest r same n (g .most) in
+          let back : r ≡ r + 1 - 1 = omega arith in
+          record {
+            size = ap length old ∙ made-length ord r;
+            sets = λ a l. ap (λ (s : List ℕ). column s n a) (old ∙ sym all) ∙ column-ends a l n (le-refl n);
+            counted = record {
+              some = omega arith;
+              most = omega (arith, g .most);
+              altered = λ j h. g .altered j (omega arith);
+              still = ap made (add-one r) ∙ same ∙ ap made back;
+            };
+          }

@@ -1,0 +1,85 @@
+-- `flow::handed` meets its contract: a row is filled in place.
+-- Assumes nothing.
+use mathlib.Core.Path.{refl}
+use Prim.Native.Nat.{_+_, _-_, _*_}
+use native.Mathlib.Omega.{arith}
+use borrow.Author.Needs.{needs}
+use Rattle.flow.specs.Solver.{handed}
+use Rattle.words.proofs.Fills.{Filling, begin, onward, finish}
+use Rattle.flow.proofs.handed.Statement.{statement}
+use Rattle.flow.proofs.handed.Tie as tie
+
+abbrev Inv-loop : tie.InvT-loop
+Inv-loop gives passes sets u row₀ a₀ row a = Filling (λ b. handed gives passes sets (8 * u + b)) 8 row₀ row a
+
+abbrev μ-loop : tie.MeasureT-loop
+μ-loop gives passes sets u row₀ a₀ row a = 8 - a
+
+loop-holds : tie.Need-loop-holds Inv-loop μ-loop
+loop-holds c = begin _ refl
+
+mul-at : tie.Need-mul-at Inv-loop μ-loop
+mul-at c = omega arith
+
+add-at : tie.Need-add-at Inv-loop μ-loop
+add-at c = omega arith
+
+mul-row : tie.Need-mul-row Inv-loop μ-loop
+mul-row c = omega arith
+
+shared-slice-read-row : tie.Need-shared-slice-read-row Inv-loop μ-loop
+shared-slice-read-row c = omega arith
+
+mul-row-2 : tie.Need-mul-row-2 Inv-loop μ-loop
+mul-row-2 c = omega arith
+
+shared-slice-read-row-2 : tie.Need-shared-slice-read-row-2 Inv-loop μ-loop
+shared-slice-read-row-2 c = omega arith
+
+mul-row-3 : tie.Need-mul-row-3 Inv-loop μ-loop
+mul-row-3 c = omega arith
+
+shared-slice-read-row-3 : tie.Need-shared-slice-read-row-3 Inv-loop μ-loop
+shared-slice-read-row-3 c = omega arith
+
+mul-row-4 : tie.Need-mul-row-4 Inv-loop μ-loop
+mul-row-4 c = omega arith
+
+array-write-row : tie.Need-array-write-row Inv-loop μ-loop
+array-write-row c = omega arith
+
+add-a : tie.Need-add-a Inv-loop μ-loop
+add-a c = omega arith
+
+loop-less : tie.Need-loop-less Inv-loop μ-loop
+loop-less c = omega arith
+
+loop-again : tie.Need-loop-again Inv-loop μ-loop
+loop-again c =
+    let l = c .before .before .before .before in
+    onward (l .loop .inv) (c .before .before .before .loop-test .taken) refl
+
+returns : tie.Need-returns Inv-loop μ-loop
+returns c = finish (c .before .loop .inv) (c .loop-test .left)
+
+pub handed-spec : {M : Type 1} → statement M
+handed-spec =
+    tie.close
+    (tie.spec
+    Inv-loop
+    μ-loop
+    loop-holds
+    mul-at
+    add-at
+    mul-row
+    shared-slice-read-row
+    mul-row-2
+    shared-slice-read-row-2
+    mul-row-3
+    shared-slice-read-row-3
+    mul-row-4
+    array-write-row
+    add-a
+    loop-less
+    loop-again
+    returns)

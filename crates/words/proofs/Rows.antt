@@ -1,0 +1,46 @@
+-- Laws of a row that is replaced in a table of eight columns.
+-- Assumes nothing.
+use mathlib.Core.Path.{_≡_, refl, sym, ap, ap₂, subst, _∙_}
+use mathlib.Core.List.{List}
+use mathlib.Core.Logic.{⊎-elim}
+use Prim.Native.Nat.{ℕ, zero, suc, _+_, _*_, _≤_, _<_}
+use native.Mathlib.Nat.{le-refl, le-of-suc-le-suc, eq-or-lt-of-le}
+use native.Mathlib.Numerals.{add-one}
+use native.Mathlib.Omega.{arith}
+use lib.ListN.{length, getD, set, length-set}
+use lib.Seq.{set-getD, getD-set-same, getD-set-other}
+use Rattle.words.specs.Tables.{withRow}
+
+module _ (s : List ℕ) (v : ℕ) (f : ℕ → ℕ) where
+  pub row-length : (m : ℕ) → length (withRow s v f m) ≡ length s
+  unfolding withRow
+  row-length zero = refl
+  row-length (suc m) = length-set (withRow s v f m) _ _ ∙ row-length m
+
+  -- one more entry
+  pub row-more : (m : ℕ) → set (withRow s v f m) (8 * v + m) (f m) ≡ withRow s v f (m + 1)
+  unfolding withRow
+  row-more m = ap (withRow s v f) (sym (add-one m))
+
+  -- outside of the row nothing changes
+  pub row-other : (m x : ℕ) → ((a : ℕ) → a < m → x ≡ 8 * v + a → ⊥) → getD (withRow s v f m) x 0 ≡ getD s x 0
+  unfolding withRow
+  row-other zero x h = refl
+  row-other (suc m) x h = getD-set-other (withRow s v f m) (8 * v + m) x _ 0 (h m (le-refl (suc m))) ∙ row-other m x (λ a l. h a (omega arith))
+
+  -- what was replaced
+  pub row-at : (m a : ℕ) → a < m → 8 * v + m ≤ length s → getD (withRow s v f m) (8 * v + a) 0 ≡ f a
+  unfolding withRow
+  row-at zero a h l = absurd (omega arith)
+  row-at (suc m) a h l =
+      ⊎-elim
+      (λ (e : a ≡ m). subst (λ (x : ℕ). getD (withRow s v f (suc m)) (8 * v + x) 0 ≡ f x) (sym e)
+      (getD-set-same (withRow s v f m) (8 * v + m) _ 0 (omega (arith, row-length m))))
+      (λ (b : a < m). getD-set-other (withRow s v f m) (8 * v + m) (8 * v + a) _ 0 (λ e. omega arith) ∙ row-at m a b (omega arith))
+      (eq-or-lt-of-le (le-of-suc-le-suc h))
+
+  -- entries replaced by themselves
+  pub row-still : (m : ℕ) → ((a : ℕ) → a < m → f a ≡ getD s (8 * v + a) 0) → withRow s v f m ≡ s
+  unfolding withRow
+  row-still zero h = refl
+  row-still (suc m) h = ap₂ (λ (t : List ℕ) (x : ℕ). set t (8 * v + m) x) (row-still m (λ a l. h a (omega arith))) (h m (le-refl (suc m))) ∙ set-getD s (8 * v + m) 0
