@@ -305,17 +305,17 @@ module _ (es : List ℕ) (along : Bool) (gives passes : List ℕ) {order : List 
 
 -- ---- the theorems
 
-module _ (es : List ℕ) (along : Bool) (gives passes : List ℕ) (n : ℕ) where
-  pub solution-length : length (solution es along gives passes n) ≡ n
+module _ (es : List ℕ) (along : Bool) (gives passes : List ℕ) where
+  pub solution-length : (n : ℕ) → length (solution es along gives passes n) ≡ n
   unfolding solution
-  solution-length = after-length es along gives passes (natural-order (edgeCount es)) n n
+  solution-length n = after-length es along gives passes (natural-order (edgeCount es)) n n
 
   -- sets of any width stay within it
-  pub solution-fits : (w : ℕ) → ((u : ℕ) → getD gives u 0 < 2 ^ w) → (u : ℕ) → getD (solution es along gives passes n) u 0 < 2 ^ w
+  pub solution-fits : (w n : ℕ) → ((u : ℕ) → getD gives u 0 < 2 ^ w) → (u : ℕ) → getD (solution es along gives passes n) u 0 < 2 ^ w
   unfolding solution
-  solution-fits w = after-fits es along gives passes (natural-order (edgeCount es)) w n n
+  solution-fits w n = after-fits es along gives passes (natural-order (edgeCount es)) w n n
 
-  module _ (ends : Ends es n) where
+  module _ (n : ℕ) (ends : Ends es n) where
     -- the set of v holds k exactly if a path of one edge or more from v, through vertices that pass k, arrives at a vertex that gives k
     pub exact : (v k : ℕ) → T (has (getD (solution es along gives passes n) v 0) k) ↔ Holds es along gives passes v k
     unfolding solution
@@ -326,7 +326,7 @@ module _ (es : List ℕ) (along : Bool) (gives passes : List ℕ) (n : ℕ) wher
       pub ends-alike : (r : ℕ) → n ≤ r → after es along gives passes ord n r ≡ solution es along gives passes n
       ends-alike r h =
           further es along gives passes ord n ends r h
-          ∙ ext-getD 0 _ _ (after-length es along gives passes ord n n ∙ sym solution-length)
+          ∙ ext-getD 0 _ _ (after-length es along gives passes ord n n ∙ sym (solution-length n))
           (λ v l. alike _ _
             (λ k h. exact v k .1 (exactly es along gives passes ord n ends v k .0 h))
             (λ k h. exactly es along gives passes ord n ends v k .1 (exact v k .0 h)))

@@ -1,24 +1,20 @@
--- The table of an array's letters gives each vertex its letter; by event and letter a label is kept.
+-- Letters as bytes, and by event and letter a label is kept.
 -- Assumes nothing.
-use mathlib.Core.Path.{_≡_, refl, ap, _∙_}
-use mathlib.Core.Bool.{Bool, not, _&&_}
+use mathlib.Core.Path.{_≡_, refl}
+use mathlib.Core.Bool.{Bool, true, false, not, _&&_, _||_, cond}
 use mathlib.Core.List.{List}
-use Prim.Native.Nat.{ℕ, _+_, _*_, _≤_, _<_}
-use lib.ListN.{length, getD}
+use Prim.Native.Nat.{ℕ}
+use native.Mathlib.Omega.{arith}
+use borrow.Author.Tests.{eqb-true}
+use lib.Dec.{eqb}
 use Rattle.labels.specs.Events.{event}
-use Rattle.labels.specs.Letters.{letterByte, useOfByte, letterTable}
-use Rattle.labels.specs.Routines.{ReadAs}
+use Rattle.labels.specs.Kept.{isNOrR}
+use Rattle.labels.specs.Letters.{letterByte, useOfByte}
 use Rattle.labels.specs.Uses.{useOf, isN, isKept}
 use Rattle.labels.specs.declared.Use.{Use}
 use Rattle.labels.specs.declared.Use.the-variants.{N, D, R, W}
 use Rattle.routine.specs.Actions.{isRemap}
-use Rattle.routine.specs.Layout.{arrays, vertices}
 use Rattle.routine.specs.declared.action.Action.{Action}
-use Rattle.routine.specs.declared.header.Header.{Header}
-use Rattle.words.proofs.Tables.{table-at}
-use Rattle.words.specs.Tables.{rows}
-use Rattle.labels.proofs.Bounds.{letters-length}
-use Rattle.labels.proofs.Rows.{part, rows-inside, rows-row}
 
 pub letter-use : (u : Use) → useOfByte (letterByte u) ≡ u
 letter-use N = refl
@@ -26,19 +22,25 @@ letter-use D = refl
 letter-use R = refl
 letter-use W = refl
 
-pub letter-at : (file : List ℕ) (a : ℕ) {letters : List ℕ} {v : ℕ} → letters ≡ letterTable file a → v < vertices file → useOfByte (getD letters v 0) ≡ useOf file a v
-unfolding letterTable
-letter-at file a {letters} {v} e h =
-    ap (λ (l : List ℕ). useOfByte (getD l v 0)) e
-    ∙ ap useOfByte (table-at (λ v. letterByte (useOf file a v)) (vertices file) v h) ∙ letter-use (useOf file a v)
+-- tests of a letter's byte
+pub not-n : (b : ℕ) → not (eqb b 78) ≡ not (isN (useOfByte b))
+not-n b = by (eqb b 78) (eqb b 68) (eqb b 82)
+  where
+    by : (n d r : Bool) → not n ≡ not (isN (cond n N (cond d D (cond r R W))))
+    by true d r = refl
+    by false true r = refl
+    by false false true = refl
+    by false false false = refl
 
--- the letters of all arrays, by the header
-module _ {file : List ℕ} {h : Header} (is : ReadAs file h) {letters : List ℕ} (e : letters ≡ rows (letterTable file) (arrays file)) where
-  pub letters-inside : {a : ℕ} → a < h .arrays → a * h .vertices + h .vertices ≤ length letters
-  letters-inside l = rows-inside is (letterTable file) (letters-length file) e l
-
-  pub letters-row : {a : ℕ} → a < h .arrays → part letters (a * h .vertices) (h .vertices) ≡ letterTable file a
-  letters-row l = rows-row is (letterTable file) (letters-length file) e l
+pub n-or-r : (b : ℕ) → (eqb b 78 || eqb b 82) ≡ isNOrR (useOfByte b)
+n-or-r b = by (eqb b 78) (eqb b 68) (eqb b 82) refl refl
+  where
+    by : (n d r : Bool) → eqb b 68 ≡ d → eqb b 82 ≡ r → (n || r) ≡ isNOrR (cond n N (cond d D (cond r R W)))
+    by true d r e f = refl
+    by false true true e f = absurd (omega (arith, eqb-true b 68 e, eqb-true b 82 f))
+    by false true false e f = refl
+    by false false true e f = refl
+    by false false false e f = refl
 
 -- a kept label, by its event and its letter
 pub kept-is : (file : List ℕ) (a v : ℕ) {x : Action} {u : Use} {k : Bool}

@@ -1,9 +1,6 @@
 pub mod Bounds
 pub mod Cells
-pub mod Entries
 pub mod Faults
-pub mod Fills
-pub mod Lanes
 pub mod Letters
-pub mod Rows
 pub mod Rules
+pub mod Steps

@@ -3,7 +3,8 @@
 use mathlib.Core.Path.{_≡_}
 use mathlib.Core.Bool.{Bool, not, _&&_}
 use mathlib.Core.List.{List}
-use Prim.Native.Nat.{ℕ, _<_}
+use Prim.Native.Nat.{ℕ, _*_, _<_}
+use lib.ListN.{length}
 use Rattle.routine.specs.Checks.{_andThen_, holds, firstFailed}
 use Rattle.routine.specs.Layout.{arrays, vertices}
 use Rattle.routine.specs.declared.refusal.Refusal.{Refusal}
@@ -12,7 +13,7 @@ use Rattle.routine.specs.declared.refusal.Verdict.{Verdict}
 use Rattle.routine.specs.declared.refusal.Verdict.the-variants.{Passed}
 use Rattle.labels.specs.Events.{kind, isIn, event, isWrite}
 use Rattle.labels.specs.Ambiguity.{isAmbiguous}
-use Rattle.labels.specs.Reaching.{reachedSets}
+use Rattle.labels.specs.Tables.{Reached}
 
 -- the first vertex, and there the first array, at which a fault stands
 unfoldable pub firstFault : (ℕ → ℕ → Bool) → (ℕ → ℕ → Refusal) → List ℕ → Verdict
@@ -47,7 +48,8 @@ unfoldable pub programmerCheck : List ℕ → Verdict
 unfolding check20 check21
 programmerCheck file = check20 file andThen check21 file
 
--- the answer, and where it passes the sets of reached vertices
+-- the answer, and where it passes the table of reached vertices
 pub record Checked (file : List ℕ) (answer : Verdict) (reached : List ℕ) : Type 0 where
   pub answers : answer ≡ programmerCheck file
-  pub reaches : answer ≡ Passed → reached ≡ reachedSets file
+  pub size : length reached ≡ 8 * vertices file
+  pub reaches : answer ≡ Passed → Reached file reached

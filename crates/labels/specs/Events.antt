@@ -66,6 +66,10 @@ versionOf (Reference r) = 0
 versionOf (Remap k) = k
 versionOf Unknown = 0
 
+-- as a set; empty if there is no label
+abbrev pub versionSet : Action → ℕ
+versionSet x = cond (isRemap x) (2 ^ versionOf x) 0
+
 unfoldable pub version : List ℕ → ℕ → ℕ → ℕ
 unfolding event
 version file a v = versionOf (event file a v)

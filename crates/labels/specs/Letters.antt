@@ -1,14 +1,10 @@
--- The letters of an array as bytes, one for each vertex: the table that the later passes, the plan and the run read.
+-- The letters as bytes: in the tables that the later passes, the plan and the run read.
 -- Assumes nothing.
 use mathlib.Core.Bool.{cond}
-use mathlib.Core.List.{List}
 use Prim.Native.Nat.{ℕ}
 use lib.Dec.{eqb}
-use Rattle.labels.specs.Uses.{useOf}
 use Rattle.labels.specs.declared.Use.{Use}
 use Rattle.labels.specs.declared.Use.the-variants.{N, D, R, W}
-use Rattle.routine.specs.Layout.{vertices}
-use Rattle.words.specs.Tables.{table}
 
 -- a letter in ASCII
 abbrev pub letterByte : Use → ℕ
@@ -20,7 +16,3 @@ letterByte W = 87
 -- and back
 abbrev pub useOfByte : ℕ → Use
 useOfByte b = cond (eqb b 78) N (cond (eqb b 68) D (cond (eqb b 82) R W))
-
-unfoldable pub letterTable : List ℕ → ℕ → List ℕ
-unfolding useOf
-letterTable file a = table (λ v. letterByte (useOf file a v)) (vertices file)

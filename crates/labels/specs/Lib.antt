@@ -3,8 +3,8 @@ pub mod Checks
 pub mod Events
 pub mod Kept
 pub mod Letters
-pub mod Passes
 pub mod Proper
 pub mod Reaching
 pub mod Routines
+pub mod Tables
 pub mod Uses

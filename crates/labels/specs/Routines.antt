@@ -3,6 +3,9 @@
 use mathlib.Core.Path.{_≡_}
 use mathlib.Core.List.{List}
 use Prim.Native.Nat.{ℕ, _<_}
+use Rattle.flow.specs.Order.{Order}
+use Rattle.flow.specs.Paths.{edgeCount}
+use Rattle.labels.specs.Events.{edgeBytes}
 use Rattle.routine.specs.Arrays.{arrayOf}
 use Rattle.routine.specs.Layout.{arrays}
 use Rattle.routine.specs.Reader.{Heads, WellFormed}
@@ -17,3 +20,7 @@ pub record OfArray (file : List ℕ) (h : Header) (a : ℕ) (r : ArrayRecord) : 
   pub read : ReadAs file h
   pub within : a < arrays file
   pub recorded : r ≡ arrayOf file a
+
+-- an order of the edges
+abbrev pub Edges : List ℕ → List ℕ → Type 0
+Edges file order = Order (edgeCount (edgeBytes file)) order

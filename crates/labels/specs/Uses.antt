@@ -90,6 +90,10 @@ usePasses (Reference Modify) = 0b1111
 usePasses (Remap k) = 0b0000
 usePasses Unknown = 0b1111
 
+-- the same by what is given
+abbrev pub passesBy : ℕ → ℕ
+passesBy gives = cond (eqb gives 0b0010) 0b0000 (cond (eqb gives 0b1001) 0b1101 0b1111)
+
 unfoldable pub useSets : List ℕ → ℕ → List ℕ
 unfolding solution event
 useSets file a =

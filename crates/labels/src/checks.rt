@@ -1,9 +1,5 @@
 // Refusals 20 and 21, first by vertex, then by array (document 01, "Who can cause a refusal").
-use crate::event;
-use crate::reaching;
 use crate::tables;
-use routine::action::Access;
-use routine::action::Action;
 use routine::array;
 use routine::header::Header;
 use routine::refusal::Refusal;
@@ -11,53 +7,38 @@ use routine::refusal::Verdict;
 ghost use mathlib.Core.Path.{_≡_};
 ghost use mathlib.Core.Bool.{not};
 ghost use Prim.Native.Nat.{_*_, _<_};
-ghost use lib.ListN.{length};
+ghost use lib.ListN.{length, getD};
 ghost use Rattle.labels.specs.Ambiguity.{arrivingSets, isAmbiguous};
 ghost use Rattle.labels.specs.Checks.{writesIn, check20, check21, Checked};
-ghost use Rattle.labels.specs.Events.{isWrite};
-ghost use Rattle.labels.specs.Routines.{ReadAs};
-ghost use Rattle.routine.specs.Actions.{isReference};
+ghost use Rattle.labels.specs.Routines.{ReadAs, Edges};
+ghost use Rattle.labels.specs.Tables.{Cells, Versions, UseGives};
 ghost use Rattle.routine.specs.Checks.{holds, firstFailed};
 ghost use Rattle.routine.specs.Layout.{arrays, vertices};
 ghost use Rattle.routine.specs.declared.refusal.Refusal.the-variants.{WritesInArgument, AmbiguousReference};
-ghost use Rattle.words.specs.Tables.{rows};
-
-// A define or modify.
-fn is_write(x: Action) -> bool
-    ensures { λ r. ⌜ r ≡ isWrite x ⌝ }
-{
-    match x {
-        Action::Reference(access) => match access {
-            Access::Read => false,
-            Access::Define => true,
-            Access::Modify => true,
-        },
-        Action::Nothing => false,
-        Action::Remap(_) => false,
-        Action::Unknown => false,
-    }
-}
 
 // Whether vertex v defines or modifies array a, an in argument.
-fn writes_in(file: &[u8], h: Header, v: usize, a: usize) -> bool
+fn writes_in(file: &[u8], h: Header, v: usize, a: usize, uses: &[u16]) -> bool
     requires { ⌜ ReadAs (now file) h ⌝ }
+    requires { ⌜ UseGives (now file) (now uses) ⌝ }
     requires { ⌜ v < vertices (now file) ⌝ }
     requires { ⌜ a < arrays (now file) ⌝ }
     ensures { λ r. ⌜ r ≡ writesIn (now (file .entry)) a v ⌝ }
 {
-    let r = array::record_of(file, a);
-    (r.kind == 1) & is_write(event::at(file, h, r, a, v))
+    let at = flow::COLUMNS * v + a;
+    let writes = sets::member(uses[at], 3);
+    writes & (array::record_of(file, a).kind == 1)
 }
 
-fn check_writes_at(file: &[u8], h: Header, v: usize) -> Verdict
+fn check_writes_at(file: &[u8], h: Header, v: usize, uses: &[u16]) -> Verdict
     requires { ⌜ ReadAs (now file) h ⌝ }
+    requires { ⌜ UseGives (now file) (now uses) ⌝ }
     requires { ⌜ v < vertices (now file) ⌝ }
     ensures { λ r. ⌜ r ≡ firstFailed (λ a. holds (not (writesIn (now (file .entry)) a v)) (WritesInArgument v a)) 0 (arrays (now (file .entry))) ⌝ }
 {
     let m = h.arrays;
     let mut a = 0;
     while a < m {
-        let writes = writes_in(file, h, v, a);
+        let writes = writes_in(file, h, v, a, uses);
         if writes {
             return Verdict::Failed(Refusal::WritesInArgument {
                 vertex: v,
@@ -70,14 +51,15 @@ fn check_writes_at(file: &[u8], h: Header, v: usize) -> Verdict
 }
 
 // Refusal 20.
-pub fn check_writes(file: &[u8], h: Header) -> Verdict
+fn check_writes(file: &[u8], h: Header, uses: &[u16]) -> Verdict
     requires { ⌜ ReadAs (now file) h ⌝ }
+    requires { ⌜ UseGives (now file) (now uses) ⌝ }
     ensures { λ r. ⌜ r ≡ check20 (now (file .entry)) ⌝ }
 {
     let n = h.vertices;
     let mut v = 0;
     while v < n {
-        let verdict = check_writes_at(file, h, v);
+        let verdict = check_writes_at(file, h, v, uses);
         if let Verdict::Failed(_) = verdict {
             return verdict;
         }
@@ -87,28 +69,42 @@ pub fn check_writes(file: &[u8], h: Header) -> Verdict
 }
 
 // Whether vertex v refers to array a, and two versions arrive there.
-fn is_ambiguous(file: &[u8], h: Header, v: usize, a: usize, arriving: &[u16]) -> bool
+fn is_ambiguous(
+    file: &[u8],
+    h: Header,
+    v: usize,
+    a: usize,
+    uses: &[u16],
+    arriving: &[u16],
+) -> bool
     requires { ⌜ ReadAs (now file) h ⌝ }
+    requires { ⌜ UseGives (now file) (now uses) ⌝ }
     requires { ⌜ v < vertices (now file) ⌝ }
     requires { ⌜ a < arrays (now file) ⌝ }
-    requires { ⌜ now arriving ≡ rows (arrivingSets (now file)) (arrays (now file)) ⌝ }
+    requires { ⌜ Cells (now file) (λ a v. getD (arrivingSets (now file) a) v 0) (now arriving) ⌝ }
     ensures { λ r. ⌜ r ≡ isAmbiguous (now (file .entry)) a v ⌝ }
 {
-    let x = event::at(file, h, array::record_of(file, a), a, v);
-    let at = a * h.vertices + v;
-    event::is_reference(x) & sets::more_than_one(arriving[at])
+    let at = flow::COLUMNS * v + a;
+    sets::member(uses[at], 0) & sets::more_than_one(arriving[at])
 }
 
-fn check_ambiguous_at(file: &[u8], h: Header, v: usize, arriving: &[u16]) -> Verdict
+fn check_ambiguous_at(
+    file: &[u8],
+    h: Header,
+    v: usize,
+    uses: &[u16],
+    arriving: &[u16],
+) -> Verdict
     requires { ⌜ ReadAs (now file) h ⌝ }
+    requires { ⌜ UseGives (now file) (now uses) ⌝ }
     requires { ⌜ v < vertices (now file) ⌝ }
-    requires { ⌜ now arriving ≡ rows (arrivingSets (now file)) (arrays (now file)) ⌝ }
+    requires { ⌜ Cells (now file) (λ a v. getD (arrivingSets (now file) a) v 0) (now arriving) ⌝ }
     ensures { λ r. ⌜ r ≡ firstFailed (λ a. holds (not (isAmbiguous (now (file .entry)) a v)) (AmbiguousReference v a)) 0 (arrays (now (file .entry))) ⌝ }
 {
     let m = h.arrays;
     let mut a = 0;
     while a < m {
-        let ambiguous = is_ambiguous(file, h, v, a, arriving);
+        let ambiguous = is_ambiguous(file, h, v, a, uses, arriving);
         if ambiguous {
             return Verdict::Failed(Refusal::AmbiguousReference {
                 vertex: v,
@@ -121,15 +117,16 @@ fn check_ambiguous_at(file: &[u8], h: Header, v: usize, arriving: &[u16]) -> Ver
 }
 
 // Refusal 21.
-pub fn check_ambiguous(file: &[u8], h: Header, arriving: &[u16]) -> Verdict
+fn check_ambiguous(file: &[u8], h: Header, uses: &[u16], arriving: &[u16]) -> Verdict
     requires { ⌜ ReadAs (now file) h ⌝ }
-    requires { ⌜ now arriving ≡ rows (arrivingSets (now file)) (arrays (now file)) ⌝ }
+    requires { ⌜ UseGives (now file) (now uses) ⌝ }
+    requires { ⌜ Cells (now file) (λ a v. getD (arrivingSets (now file) a) v 0) (now arriving) ⌝ }
     ensures { λ r. ⌜ r ≡ check21 (now (file .entry)) ⌝ }
 {
     let n = h.vertices;
     let mut v = 0;
     while v < n {
-        let verdict = check_ambiguous_at(file, h, v, arriving);
+        let verdict = check_ambiguous_at(file, h, v, uses, arriving);
         if let Verdict::Failed(_) = verdict {
             return verdict;
         }
@@ -138,28 +135,35 @@ pub fn check_ambiguous(file: &[u8], h: Header, arriving: &[u16]) -> Verdict
     Verdict::Passed
 }
 
-// Refusals 20 and 21. `reached` holds an entry for each vertex and is left with what the pass that computes it says; the other work slices
-// hold one for each array and vertex.
+// Refusals 20 and 21. `reached` is left with what its pass says; `sets`, `gives` and `passes` are work slices.
 pub fn check(
     file: &[u8],
     h: Header,
-    all: &mut [u16],
-    reached: &mut [u64],
+    order: &[u16],
+    versions: &[u16],
+    uses: &[u16],
+    reached: &mut [u16],
+    sets: &mut [u16],
     gives: &mut [u16],
     passes: &mut [u16],
 ) -> Verdict
     requires { ⌜ ReadAs (now file) h ⌝ }
-    requires { ⌜ length (now all) ≡ arrays (now file) * vertices (now file) ⌝ }
-    requires { ⌜ length (now reached) ≡ vertices (now file) ⌝ }
-    requires { ⌜ length (now gives) ≡ arrays (now file) * vertices (now file) ⌝ }
-    requires { ⌜ length (now passes) ≡ arrays (now file) * vertices (now file) ⌝ }
+    requires { ⌜ Edges (now file) (now order) ⌝ }
+    requires { ⌜ Versions (now file) (now versions) ⌝ }
+    requires { ⌜ UseGives (now file) (now uses) ⌝ }
+    requires { ⌜ length (now reached) ≡ 8 * vertices (now file) ⌝ }
+    requires { ⌜ length (now sets) ≡ 8 * vertices (now file) ⌝ }
+    requires { ⌜ length (now gives) ≡ 8 * vertices (now file) ⌝ }
+    requires { ⌜ length (now passes) ≡ 8 * vertices (now file) ⌝ }
     ensures { λ r. ⌜ Checked (now (file .entry)) r (now (reached .exit)) ⌝ }
 {
-    let writes = check_writes(file, h);
+    let writes = check_writes(file, h, uses);
     if let Verdict::Failed(_) = writes {
         return writes;
     }
-    reaching::reached(file, h, reached);
-    tables::arriving(file, h, reached, all, gives, passes);
-    check_ambiguous(file, h, all)
+    tables::reached(file, h, order, reached, gives, passes);
+    tables::arriving(
+        file, h, order, versions, reached, sets, gives, passes,
+    );
+    check_ambiguous(file, h, uses, sets)
 }

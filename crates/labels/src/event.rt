@@ -2,13 +2,15 @@
 use crate::Use;
 use routine::action;
 use routine::action::Action;
+use routine::array;
 use routine::array::ArrayRecord;
 use routine::header::Header;
 ghost use mathlib.Core.Path.{_≡_};
 ghost use mathlib.Core.Bool.{cond, not, _&&_};
-ghost use Prim.Native.Nat.{_<_, _^_};
-ghost use Rattle.labels.specs.Events.{event, versionOf, everyVersion, isInOrInout};
-ghost use Rattle.labels.specs.Routines.{OfArray};
+ghost use Prim.Native.Nat.{_*_, _<_};
+ghost use Rattle.labels.specs.Events.{event, versionOf, versionSet, everyVersion, isInOrInout};
+ghost use Rattle.labels.specs.Routines.{ReadAs, OfArray};
+ghost use Rattle.labels.specs.Tables.{cellEvent};
 ghost use Rattle.labels.specs.Uses.{isN};
 ghost use Rattle.routine.specs.Actions.{isReference, isRemap};
 ghost use Rattle.routine.specs.Layout.{vertices};
@@ -27,6 +29,19 @@ pub fn at(file: &[u8], h: Header, r: ArrayRecord, a: usize, v: usize) -> Action
         return Action::Remap(r.initial);
     }
     action::at(file, h, v, a)
+}
+
+// What a cell stands for: what vertex i / 8 does with array i % 8; nothing where there is no such array.
+pub fn cell(file: &[u8], h: Header, i: usize) -> Action
+    requires { ⌜ ReadAs (now file) h ⌝ }
+    requires { ⌜ i < 8 * vertices (now file) ⌝ }
+    ensures { λ x. ⌜ x ≡ cellEvent (now (file .entry)) i ⌝ }
+{
+    let a = i % flow::COLUMNS;
+    if a >= h.arrays {
+        return Action::Nothing;
+    }
+    at(file, h, array::record_of(file, a), a, i / flow::COLUMNS)
 }
 
 pub fn is_reference(x: Action) -> bool
@@ -91,12 +106,12 @@ pub fn set_if(given: bool, set: u16) -> u16
     0
 }
 
-// The label's version as a set, or the empty set.
-pub fn version_set(given: bool, x: Action) -> u16
+// A label's version as a set, or the empty set.
+pub fn version_set(x: Action) -> u16
     requires { ⌜ versionOf x < 16 ⌝ }
-    ensures { λ r. ⌜ r ≡ cond given (2 ^ versionOf x) 0 ⌝ }
+    ensures { λ r. ⌜ r ≡ versionSet x ⌝ }
 {
-    set_if(given, sets::single(version_of(x)))
+    set_if(is_label(x), sets::single(version_of(x)))
 }
 
 // Every version, or none.

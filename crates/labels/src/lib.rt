@@ -3,6 +3,7 @@
 mod ambiguity;
 pub mod checks;
 pub mod event;
+pub mod events;
 mod kept;
 mod pass;
 mod reaching;

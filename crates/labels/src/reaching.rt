@@ -1,109 +1,90 @@
 // Reaching sets (document 01, "Labels"), and which vertices a path from the entry reaches.
-use crate::Use;
 use crate::event;
-use crate::pass;
+use crate::uses;
 use routine::array;
 use routine::header::Header;
 ghost use mathlib.Core.Path.{_≡_};
-ghost use mathlib.Core.Bool.{cond, _||_};
-ghost use Prim.Native.Nat.{_*_, _<_};
-ghost use lib.Dec.{eqb};
-ghost use lib.ListN.{length};
-ghost use Rattle.labels.specs.Events.{entry};
-ghost use Rattle.labels.specs.Letters.{letterTable};
-ghost use Rattle.labels.specs.Reaching.{reachedSets, reachGives, reachPasses, reachSets, reachingOf};
+ghost use mathlib.Core.Bool.{cond, not, _||_};
+ghost use Prim.Native.Nat.{_*_, _≤_, _<_, _^_};
+ghost use lib.Dec.{eqb, ltb};
+ghost use lib.ListN.{length, getD};
+ghost use Rattle.labels.specs.Events.{entry, everyVersion, kind, initial, isInOrInout};
+ghost use Rattle.labels.specs.Letters.{useOfByte};
+ghost use Rattle.labels.specs.Reaching.{reachingOf};
 ghost use Rattle.labels.specs.Routines.{ReadAs};
-ghost use Rattle.routine.specs.Layout.{arrays, vertices};
-ghost use Rattle.sets.specs.Sets.{has};
-ghost use Rattle.words.specs.Tables.{table, rows};
+ghost use Rattle.labels.specs.Tables.{reachedCell};
+ghost use Rattle.labels.specs.Uses.{isN};
+ghost use Rattle.routine.specs.Layout.{arrays};
+ghost use Rattle.words.specs.Tables.{table, withRow};
 
 // The tables of the pass that finds the vertices which a path from the entry reaches.
-fn fill_reached(n: usize, gives: &mut [u64], passes: &mut [u64])
-    requires { ⌜ length (now gives) ≡ n ⌝ }
-    requires { ⌜ length (now passes) ≡ n ⌝ }
-    ensures { λ _. ⌜ now (gives .exit) ≡ table (λ v. cond (eqb v entry) 1 0) n ⌝ }
-    ensures { λ _. ⌜ now (passes .exit) ≡ table (λ v. 1) n ⌝ }
+pub fn fill_reached(gives: &mut [u16], passes: &mut [u16])
+    requires { ⌜ length (now passes) ≡ length (now gives) ⌝ }
+    ensures { λ _. ⌜ now (gives .exit) ≡ table (λ i. cond (ltb i 8) 1 0) (length (now (gives .entry))) ⌝ }
+    ensures { λ _. ⌜ now (passes .exit) ≡ table (λ i. 1) (length (now (gives .entry))) ⌝ }
 {
-    let mut v = 0;
-    while v < n {
-        gives[v] = event::set_if(v == 0, 1) as u64;
-        passes[v] = 1;
-        v += 1;
+    let n = gives.len();
+    let mut i = 0;
+    while i < n {
+        gives[i] = event::set_if(i < flow::COLUMNS, 1);
+        passes[i] = 1;
+        i += 1;
     }
 }
 
-// Bit 0 of each vertex that a path of one edge or more from the entry reaches.
-fn reached_with(file: &[u8], h: Header, gives: &mut [u64], passes: &mut [u64], sets: &mut [u64])
-    requires { ⌜ ReadAs (now file) h ⌝ }
-    requires { ⌜ length (now gives) ≡ vertices (now file) ⌝ }
-    requires { ⌜ length (now passes) ≡ vertices (now file) ⌝ }
-    requires { ⌜ length (now sets) ≡ vertices (now file) ⌝ }
-    ensures { λ _. ⌜ now (sets .exit) ≡ reachedSets (now (file .entry)) ⌝ }
+// Whether a cell is the entry's, or its set says that a path from the entry reaches it.
+pub fn is_reached(i: usize, set: u16) -> bool
+    ensures { λ r. ⌜ r ≡ reachedCell i set ⌝ }
 {
-    fill_reached(h.vertices, gives, passes);
-    pass::solve_words(file, h, false, gives, passes, sets);
+    (i < flow::COLUMNS) | (set % 2 == 1)
 }
 
-// The same with work slices that are large enough for every routine.
-fn reached_within(file: &[u8], h: Header, gives: &mut [u64], passes: &mut [u64], sets: &mut [u64])
-    requires { ⌜ ReadAs (now file) h ⌝ }
-    requires { ⌜ length (now gives) ≡ 256 ⌝ }
-    requires { ⌜ length (now passes) ≡ 256 ⌝ }
-    requires { ⌜ length (now sets) ≡ vertices (now file) ⌝ }
-    ensures { λ _. ⌜ now (sets .exit) ≡ reachedSets (now (file .entry)) ⌝ }
-{
-    let n = h.vertices;
-    reached_with(file, h, &mut gives[..n], &mut passes[..n], sets);
-}
-
-// Bit 0 of each vertex that a path of one edge or more from the entry reaches.
-pub fn reached(file: &[u8], h: Header, sets: &mut [u64])
-    requires { ⌜ ReadAs (now file) h ⌝ }
-    requires { ⌜ length (now sets) ≡ vertices (now file) ⌝ }
-    ensures { λ _. ⌜ now (sets .exit) ≡ reachedSets (now (file .entry)) ⌝ }
-{
-    let mut gives = [0u64; 256];
-    let mut passes = [0u64; 256];
-    reached_within(file, h, &mut gives, &mut passes, sets);
-}
-
-// Whether vertex v is the entry, or its set says that a path from the entry reaches it.
-pub fn is_reached(v: usize, set: u64) -> bool
-    ensures { λ r. ⌜ r ≡ (eqb v entry || has set 0) ⌝ }
-{
-    (v == 0) | (set % 2 == 1)
-}
-
-// The tables of the pass for array a: a vertex that is reached gives its version if it is a kept label, or the entry of in and inout.
-fn fill(
-    file: &[u8],
-    h: Header,
-    a: usize,
-    reached: &[u64],
+// The tables of the pass: a kept label that is reached gives its version, and what is no kept label passes every version.
+pub fn fill(
+    versions: &[u16],
+    reached: &[u16],
     letters: &[u8],
     gives: &mut [u16],
     passes: &mut [u16],
 )
-    requires { ⌜ ReadAs (now file) h ⌝ }
-    requires { ⌜ a < arrays (now file) ⌝ }
-    requires { ⌜ now reached ≡ reachedSets (now file) ⌝ }
-    requires { ⌜ now letters ≡ letterTable (now file) a ⌝ }
-    requires { ⌜ length (now gives) ≡ vertices (now file) ⌝ }
-    requires { ⌜ length (now passes) ≡ vertices (now file) ⌝ }
-    ensures { λ _. ⌜ now (gives .exit) ≡ table (reachGives (now (file .entry)) a) (vertices (now (file .entry))) ⌝ }
-    ensures { λ _. ⌜ now (passes .exit) ≡ table (reachPasses (now (file .entry)) a) (vertices (now (file .entry))) ⌝ }
+    requires { ⌜ length (now reached) ≡ length (now versions) ⌝ }
+    requires { ⌜ length (now letters) ≡ length (now versions) ⌝ }
+    requires { ⌜ length (now gives) ≡ length (now versions) ⌝ }
+    requires { ⌜ length (now passes) ≡ length (now versions) ⌝ }
+    ensures { λ _. ⌜ now (gives .exit)
+        ≡ table (λ i. cond (reachedCell i (getD (now (reached .entry)) i 0))
+            (cond (not (isN (useOfByte (getD (now (letters .entry)) i 0)))) (getD (now (versions .entry)) i 0) 0) 0) (length (now (versions .entry))) ⌝ }
+    ensures { λ _. ⌜ now (passes .exit)
+        ≡ table (λ i. cond (eqb (cond (not (isN (useOfByte (getD (now (letters .entry)) i 0)))) (getD (now (versions .entry)) i 0) 0) 0) everyVersion 0)
+            (length (now (versions .entry))) ⌝ }
 {
-    let r = array::record_of(file, a);
-    let initial = event::is_in_or_inout(r);
-    let n = h.vertices;
-    let mut v = 0;
-    while v < n {
-        let x = event::at(file, h, r, a, v);
-        let kept = event::is_kept(x, Use::of_letter(letters[v]));
-        let given = is_reached(v, reached[v]) & (kept | ((v == 0) & initial));
-        gives[v] = event::version_set(given, x);
-        passes[v] = event::every_if(!kept);
-        v += 1;
+    let n = versions.len();
+    let mut i = 0;
+    while i < n {
+        let kept = event::set_if(uses::leaves(letters[i]), versions[i]);
+        gives[i] = event::set_if(is_reached(i, reached[i]), kept);
+        passes[i] = event::every_if(kept == 0);
+        i += 1;
+    }
+}
+
+// The entry's row of what is given: the initial version of an array that comes with it, or whose entry label is kept.
+pub fn enter_gives(file: &[u8], h: Header, letters: &[u8], gives: &mut [u16])
+    requires { ⌜ ReadAs (now file) h ⌝ }
+    requires { ⌜ 8 ≤ length (now letters) ⌝ }
+    requires { ⌜ 8 ≤ length (now gives) ⌝ }
+    ensures { λ _. ⌜ now (gives .exit)
+        ≡ withRow (now (gives .entry)) entry
+            (λ a. cond (not (isN (useOfByte (getD (now (letters .entry)) a 0))) || isInOrInout (kind (now (file .entry)) a)) (2 ^ initial (now (file .entry)) a) 0)
+            (arrays (now (file .entry))) ⌝ }
+{
+    let m = h.arrays;
+    let mut a = 0;
+    while a < m {
+        let r = array::record_of(file, a);
+        let given = uses::leaves(letters[a]) | event::is_in_or_inout(r);
+        gives[a] = event::set_if(given, sets::single(r.initial));
+        a += 1;
     }
 }
 
@@ -117,65 +98,16 @@ fn at_entry(file: &[u8], h: Header, a: usize) -> u16
     event::set_if(event::is_in_or_inout(r), sets::single(r.initial))
 }
 
-// The tables of the pass for all arrays.
-pub fn fill_all(
-    file: &[u8],
-    h: Header,
-    reached: &[u64],
-    letters: &[u8],
-    gives: &mut [u16],
-    passes: &mut [u16],
-)
+// The entry's row of the reaching sets.
+pub fn enter(file: &[u8], h: Header, sets: &mut [u16])
     requires { ⌜ ReadAs (now file) h ⌝ }
-    requires { ⌜ now reached ≡ reachedSets (now file) ⌝ }
-    requires { ⌜ now letters ≡ rows (letterTable (now file)) (arrays (now file)) ⌝ }
-    requires { ⌜ length (now gives) ≡ arrays (now file) * vertices (now file) ⌝ }
-    requires { ⌜ length (now passes) ≡ arrays (now file) * vertices (now file) ⌝ }
-    ensures { λ _. ⌜ now (gives .exit) ≡ rows (λ a. table (reachGives (now (file .entry)) a) (vertices (now (file .entry)))) (arrays (now (file .entry))) ⌝ }
-    ensures { λ _. ⌜ now (passes .exit) ≡ rows (λ a. table (reachPasses (now (file .entry)) a) (vertices (now (file .entry)))) (arrays (now (file .entry))) ⌝ }
+    requires { ⌜ 8 ≤ length (now sets) ⌝ }
+    ensures { λ _. ⌜ now (sets .exit) ≡ withRow (now (sets .entry)) entry (λ a. reachingOf (now (file .entry)) a entry) (arrays (now (file .entry))) ⌝ }
 {
-    let n = h.vertices;
     let m = h.arrays;
     let mut a = 0;
     while a < m {
-        let from = a * n;
-        let to = from + n;
-        fill(
-            file,
-            h,
-            a,
-            reached,
-            &letters[from..to],
-            &mut gives[from..to],
-            &mut passes[from..to],
-        );
-        a += 1;
-    }
-}
-
-// The reaching sets of array a, by what the solver says.
-fn enter(file: &[u8], h: Header, a: usize, sets: &mut [u16])
-    requires { ⌜ ReadAs (now file) h ⌝ }
-    requires { ⌜ a < arrays (now file) ⌝ }
-    requires { ⌜ now sets ≡ reachSets (now file) a ⌝ }
-    ensures { λ _. ⌜ now (sets .exit) ≡ table (reachingOf (now (file .entry)) a) (vertices (now (file .entry))) ⌝ }
-{
-    sets[0] = at_entry(file, h, a);
-}
-
-// The same for all arrays.
-pub fn enter_all(file: &[u8], h: Header, sets: &mut [u16])
-    requires { ⌜ ReadAs (now file) h ⌝ }
-    requires { ⌜ now sets ≡ rows (reachSets (now file)) (arrays (now file)) ⌝ }
-    ensures { λ _. ⌜ now (sets .exit) ≡ rows (λ a. table (reachingOf (now (file .entry)) a) (vertices (now (file .entry)))) (arrays (now (file .entry))) ⌝ }
-{
-    let n = h.vertices;
-    let m = h.arrays;
-    let mut a = 0;
-    while a < m {
-        let from = a * n;
-        let to = from + n;
-        enter(file, h, a, &mut sets[from..to]);
+        sets[a] = at_entry(file, h, a);
         a += 1;
     }
 }

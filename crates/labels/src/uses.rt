@@ -1,25 +1,23 @@
 // Use, one letter for each label (document 01, "Labels").
 use crate::Use;
-use crate::event;
 use routine::action::Access;
 use routine::action::Action;
 use routine::array;
 use routine::array::ArrayRecord;
 use routine::header::Header;
 ghost use mathlib.Core.Path.{_≡_};
-ghost use mathlib.Core.Bool.{cond};
-ghost use Prim.Native.Nat.{_-_, _*_, _≤_, _<_};
-ghost use lib.Dec.{eqb};
-ghost use lib.ListN.{length};
-ghost use Rattle.labels.specs.Events.{event};
+ghost use mathlib.Core.Bool.{not};
+ghost use Prim.Native.Nat.{_*_};
+ghost use lib.ListN.{length, getD};
+ghost use Rattle.labels.specs.Events.{exit, kind};
+ghost use Rattle.labels.specs.Letters.{letterByte, useOfByte};
 ghost use Rattle.labels.specs.Routines.{ReadAs};
-ghost use Rattle.labels.specs.Uses.{useGives, usePasses, useSets, letterOf, exitUse};
-ghost use Rattle.labels.specs.Letters.{letterTable};
+ghost use Rattle.labels.specs.Uses.{useGives, passesBy, letterOf, exitUse, isN};
 ghost use Rattle.routine.specs.Layout.{arrays, vertices};
-ghost use Rattle.words.specs.Tables.{table, rows};
+ghost use Rattle.words.specs.Tables.{table, withRow};
 
 // What an event gives to the sets of use.
-fn gives_of(x: Action) -> u16
+pub fn gives_of(x: Action) -> u16
     ensures { λ r. ⌜ r ≡ useGives x ⌝ }
 {
     match x {
@@ -34,39 +32,29 @@ fn gives_of(x: Action) -> u16
     }
 }
 
-// What an event passes of the sets of use.
-fn passes_of(x: Action) -> u16
-    ensures { λ r. ⌜ r ≡ usePasses x ⌝ }
+// What an event that gives this passes of the sets of use: a label nothing, a define all but bit 1.
+fn passes_by(gives: u16) -> u16
+    ensures { λ r. ⌜ r ≡ passesBy gives ⌝ }
 {
-    match x {
-        Action::Nothing => 0b1111,
-        Action::Reference(access) => match access {
-            Access::Read => 0b1111,
-            Access::Define => 0b1101,
-            Access::Modify => 0b1111,
-        },
-        Action::Remap(_) => 0b0000,
-        Action::Unknown => 0b1111,
+    if gives == 0b0010 {
+        return 0b0000;
     }
+    if gives == 0b1001 {
+        return 0b1101;
+    }
+    0b1111
 }
 
-// The two tables that the solver is handed.
-fn fill(file: &[u8], h: Header, a: usize, gives: &mut [u16], passes: &mut [u16])
-    requires { ⌜ ReadAs (now file) h ⌝ }
-    requires { ⌜ a < arrays (now file) ⌝ }
-    requires { ⌜ length (now gives) ≡ vertices (now file) ⌝ }
-    requires { ⌜ length (now passes) ≡ vertices (now file) ⌝ }
-    ensures { λ _. ⌜ now (gives .exit) ≡ table (λ v. useGives (event (now (file .entry)) a v)) (vertices (now (file .entry))) ⌝ }
-    ensures { λ _. ⌜ now (passes .exit) ≡ table (λ v. usePasses (event (now (file .entry)) a v)) (vertices (now (file .entry))) ⌝ }
+// The table of what events pass, by what they give.
+pub fn fill(uses: &[u16], passes: &mut [u16])
+    requires { ⌜ length (now passes) ≡ length (now uses) ⌝ }
+    ensures { λ _. ⌜ now (passes .exit) ≡ table (λ i. passesBy (getD (now (uses .entry)) i 0)) (length (now (uses .entry))) ⌝ }
 {
-    let r = array::record_of(file, a);
-    let n = h.vertices;
-    let mut v = 0;
-    while v < n {
-        let x = event::at(file, h, r, a, v);
-        gives[v] = gives_of(x);
-        passes[v] = passes_of(x);
-        v += 1;
+    let n = uses.len();
+    let mut i = 0;
+    while i < n {
+        passes[i] = passes_by(uses[i]);
+        i += 1;
     }
 }
 
@@ -99,67 +87,38 @@ fn exit_use(r: ArrayRecord) -> Use
     Use::W
 }
 
-// The letter of vertex v, where the solver left `set`.
-fn use_at(h: Header, r: ArrayRecord, v: usize, set: u16) -> Use
-    requires { ⌜ 1 ≤ h .vertices ⌝ }
-    ensures { λ u. ⌜ u ≡ cond (eqb v (h .vertices - 1)) (exitUse (r .kind)) (letterOf set) ⌝ }
-{
-    if v == h.vertices - 1 {
-        return exit_use(r);
-    }
-    letter_of(set)
-}
-
 // The letters that the sets of use say.
-fn write(file: &[u8], h: Header, a: usize, sets: &[u16], letters: &mut [u8])
-    requires { ⌜ ReadAs (now file) h ⌝ }
-    requires { ⌜ a < arrays (now file) ⌝ }
-    requires { ⌜ now sets ≡ useSets (now file) a ⌝ }
-    requires { ⌜ length (now letters) ≡ vertices (now file) ⌝ }
-    ensures { λ _. ⌜ now (letters .exit) ≡ letterTable (now (file .entry)) a ⌝ }
+pub fn write(sets: &[u16], letters: &mut [u8])
+    requires { ⌜ length (now letters) ≡ length (now sets) ⌝ }
+    ensures { λ _. ⌜ now (letters .exit) ≡ table (λ i. letterByte (letterOf (getD (now (sets .entry)) i 0))) (length (now (sets .entry))) ⌝ }
 {
-    let r = array::record_of(file, a);
-    let n = h.vertices;
-    let mut v = 0;
-    while v < n {
-        letters[v] = use_at(h, r, v, sets[v]).letter();
-        v += 1;
+    let n = sets.len();
+    let mut i = 0;
+    while i < n {
+        letters[i] = letter_of(sets[i]).letter();
+        i += 1;
     }
 }
 
-// The tables for all arrays.
-pub fn fill_all(file: &[u8], h: Header, gives: &mut [u16], passes: &mut [u16])
+// The exit's row of letters.
+pub fn leave(file: &[u8], h: Header, letters: &mut [u8])
     requires { ⌜ ReadAs (now file) h ⌝ }
-    requires { ⌜ length (now gives) ≡ arrays (now file) * vertices (now file) ⌝ }
-    requires { ⌜ length (now passes) ≡ arrays (now file) * vertices (now file) ⌝ }
-    ensures { λ _. ⌜ now (gives .exit) ≡ rows (λ a. table (λ v. useGives (event (now (file .entry)) a v)) (vertices (now (file .entry)))) (arrays (now (file .entry))) ⌝ }
-    ensures { λ _. ⌜ now (passes .exit) ≡ rows (λ a. table (λ v. usePasses (event (now (file .entry)) a v)) (vertices (now (file .entry)))) (arrays (now (file .entry))) ⌝ }
+    requires { ⌜ length (now letters) ≡ 8 * vertices (now file) ⌝ }
+    ensures { λ _. ⌜ now (letters .exit)
+        ≡ withRow (now (letters .entry)) (exit (now (file .entry))) (λ a. letterByte (exitUse (kind (now (file .entry)) a))) (arrays (now (file .entry))) ⌝ }
 {
-    let n = h.vertices;
     let m = h.arrays;
+    let row = flow::COLUMNS * (h.vertices - 1);
     let mut a = 0;
     while a < m {
-        let from = a * n;
-        let to = from + n;
-        fill(file, h, a, &mut gives[from..to], &mut passes[from..to]);
+        letters[row + a] = exit_use(array::record_of(file, a)).letter();
         a += 1;
     }
 }
 
-// The letters of all arrays.
-pub fn write_all(file: &[u8], h: Header, sets: &[u16], letters: &mut [u8])
-    requires { ⌜ ReadAs (now file) h ⌝ }
-    requires { ⌜ now sets ≡ rows (useSets (now file)) (arrays (now file)) ⌝ }
-    requires { ⌜ length (now letters) ≡ arrays (now file) * vertices (now file) ⌝ }
-    ensures { λ _. ⌜ now (letters .exit) ≡ rows (letterTable (now (file .entry))) (arrays (now (file .entry))) ⌝ }
+// Any letter but N: the label is kept, and leaves with its version.
+pub fn leaves(letter: u8) -> bool
+    ensures { λ r. ⌜ r ≡ not (isN (useOfByte letter)) ⌝ }
 {
-    let n = h.vertices;
-    let m = h.arrays;
-    let mut a = 0;
-    while a < m {
-        let from = a * n;
-        let to = from + n;
-        write(file, h, a, &sets[from..to], &mut letters[from..to]);
-        a += 1;
-    }
+    letter != b'N'
 }

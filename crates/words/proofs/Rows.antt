@@ -18,9 +18,9 @@ module _ (s : List ℕ) (v : ℕ) (f : ℕ → ℕ) where
   row-length (suc m) = length-set (withRow s v f m) _ _ ∙ row-length m
 
   -- one more entry
-  pub row-more : (m : ℕ) → set (withRow s v f m) (8 * v + m) (f m) ≡ withRow s v f (m + 1)
+  pub row-next : {t : List ℕ} {k x : ℕ} (m : ℕ) → t ≡ withRow s v f m → k ≡ 8 * v + m → x ≡ f m → set t k x ≡ withRow s v f (m + 1)
   unfolding withRow
-  row-more m = ap (withRow s v f) (sym (add-one m))
+  row-next {t} {k} {x} m e at is = ap₂ (λ (i y : ℕ). set t i y) at is ∙ ap (λ (l : List ℕ). set l (8 * v + m) (f m)) e ∙ ap (withRow s v f) (sym (add-one m))
 
   -- outside of the row nothing changes
   pub row-other : (m x : ℕ) → ((a : ℕ) → a < m → x ≡ 8 * v + a → ⊥) → getD (withRow s v f m) x 0 ≡ getD s x 0

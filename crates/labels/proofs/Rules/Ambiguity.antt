@@ -13,8 +13,9 @@ use Rattle.routine.specs.Actions.{isReference}
 use Rattle.routine.specs.Layout.{vertices}
 use Rattle.sets.specs.Sets.{has, several}
 use Rattle.sets.proofs.Laws.{several-two, two-several}
+use Rattle.words.specs.Tables.{table}
 use Rattle.labels.specs.Ambiguity.{Brings, Ambiguous, arriveGives, arrivePasses, arrivingSets, isAmbiguous}
-use Rattle.labels.specs.Events.{width, event, isLabel, version}
+use Rattle.labels.specs.Events.{width, edgeBytes, event, isLabel, version}
 use Rattle.labels.specs.Proper.{Proper}
 use Rattle.labels.specs.Reaching.{isReached}
 use Rattle.labels.proofs.Rules.Arrivals.{last-exact}
@@ -24,7 +25,7 @@ use Rattle.labels.proofs.Rules.Versions.{all-but, versions-exact, versi
 -- one set for each vertex
 pub arriving-length : (file : List ℕ) (a : ℕ) → length (arrivingSets file a) ≡ vertices file
 unfolding arrivingSets
-arriving-length file a = solution-length _ _ _ _ (vertices file)
+arriving-length file a = solution-length (edgeBytes file) false (table (arriveGives file a) (vertices file)) (table (arrivePasses file a) (vertices file)) (vertices file)
 
 module _ (file : List ℕ) (a : ℕ) (proper : Proper file a) (v : ℕ) where
   -- an arriving set is a 16-bit mask

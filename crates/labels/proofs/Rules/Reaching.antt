@@ -16,6 +16,7 @@ use Rattle.flow.proofs.Exact.{solution-length}
 use Rattle.routine.specs.Layout.{vertices}
 use Rattle.sets.specs.Sets.{has}
 use Rattle.sets.proofs.Laws.{has-zero, same}
+use Rattle.words.specs.Tables.{table}
 use Rattle.labels.specs.Events.{width, edgeBytes, entry, kind, initial, isInOrInout, event, version}
 use Rattle.labels.specs.Proper.{Proper}
 use Rattle.labels.specs.Reaching.{ArrivesBy, lastVersion, orInitial, Reaches, isReached, reachGives, reachPasses, reachSets, reachingOf}
@@ -28,7 +29,7 @@ use Rattle.labels.proofs.Rules.Versions.{all-but, single-fits, versions
 -- one set for each vertex
 pub reach-length : (file : List ℕ) (a : ℕ) → length (reachSets file a) ≡ vertices file
 unfolding reachSets
-reach-length file a = solution-length _ _ _ _ (vertices file)
+reach-length file a = solution-length (edgeBytes file) false (table (reachGives file a) (vertices file)) (table (reachPasses file a) (vertices file)) (vertices file)
 
 -- the entry's version is the initial one
 entry-version : (file : List ℕ) (a u : ℕ) → u ≡ entry → version file a u ≡ initial file a

@@ -14,6 +14,7 @@ use Rattle.routine.specs.Actions.{isReference, isRemap}
 use Rattle.routine.specs.Layout.{vertices}
 use Rattle.routine.specs.declared.action.Action.{Action}
 use Rattle.sets.specs.Sets.{has}
+use Rattle.words.specs.Tables.{table}
 use Rattle.labels.specs.declared.Use.{Use}
 use Rattle.labels.specs.declared.Use.the-variants.{N, D, R, W}
 use Rattle.labels.specs.Events.{edgeBytes, exit, kind, event, isRead, isDefine, isWrite, needsValue}
@@ -67,7 +68,7 @@ module _ (file : List ℕ) (a : ℕ) where
   -- one for each vertex
   pub use-length : length (useSets file a) ≡ vertices file
   unfolding useSets
-  use-length = solution-length _ _ _ _ (vertices file)
+  use-length = solution-length (edgeBytes file) true (table (λ v. useGives (event file a v)) (vertices file)) (table (λ v. usePasses (event file a v)) (vertices file)) (vertices file)
 
 module _ (file : List ℕ) (a : ℕ) (proper : Proper file a) (v : ℕ) where
   -- the use set of v

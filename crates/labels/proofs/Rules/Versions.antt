@@ -49,5 +49,5 @@ module _ (file : List ℕ) (a : ℕ) (proper : Proper file a) where
         (λ w m u. rw (passed u) (all-if k (subst (λ (j : ℕ). j < width) (m .1) (version-fits file a proper w)) (through u))) v
 
     pub versions-fit : (v : ℕ) → getD (sets file along gives passes) v 0 < 2 ^ width
-    versions-fit = solution-fits _ _ _ _ width (vertices file)
+    versions-fit = solution-fits (edgeBytes file) along (table gives (vertices file)) (table passes (vertices file)) width (vertices file)
         (table-all (λ m. m < 2 ^ width) gives (vertices file) (pow-pos width) (λ u. rw (given u) (single-fits (test u) u)))

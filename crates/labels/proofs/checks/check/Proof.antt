@@ -1,6 +1,6 @@
 -- `checks::check` meets its contract: 20 is answered first, then 21, by the arriving versions of all arrays.
 -- Assumes nothing.
-use mathlib.Core.Path.{_≡_}
+use mathlib.Core.Path.{_≡_, _∙_}
 use Prim.Native.Nat.{ℕ}
 use native.Mathlib.Omega.{arith}
 use borrow.Author.Needs.{needs}
@@ -10,7 +10,7 @@ use Rattle.labels.proofs.checks.check.Statement.{statement}
 use Rattle.labels.proofs.checks.check.Tie as tie
 
 check-writes-requires : tie.Need-check-writes-requires
-check-writes-requires c κs = search needs
+check-writes-requires c κs = let p = c .before .before .before .before .before .before .before .before .pre in (p .0, p .1 .1 .1 .0)
 
 enum-told : tie.Need-enum-told
 enum-told c = search needs
@@ -19,8 +19,10 @@ returns : tie.Need-returns
 unfolding programmerCheck
 returns c =
     let w = c .before .before .check-writes in
+    let s = c .before .before .before .before .before .before .before .before .before .before .before in
     record {
-      answers = fails (check21 (c .before .before .before .before .before .before .before .before .args .file .now)) (w .ensures) (c .enum-told .given .1);
+      answers = fails (check21 (s .args .file .now)) (w .ensures) (c .enum-told .given .1);
+      size = s .pre .1 .1 .1 .1 .0;
       reaches = λ e. absurd (let z : _≡_ {A = ℕ} 0 1 = cc (c .enum-told .given .1) in omega arith);
     }
 
@@ -28,16 +30,20 @@ enum-told-2 : tie.Need-enum-told-2
 enum-told-2 c = search needs
 
 reached-requires : tie.Need-reached-requires
-reached-requires c κs = let p = c .before .before .before .before .before .before .before .before .before .pre in (p .0, p .1 .1 .0)
+reached-requires c κs = let p = c .before .before .before .before .before .before .before .before .before .before .before .before .before .before .pre in (p .0, (p .1 .0, (p .1 .1 .1 .1 .0, (p .1 .1 .1 .1 .1 .1 .0, p .1 .1 .1 .1 .1 .1 .1))))
 
 arriving-requires : tie.Need-arriving-requires
 arriving-requires c κs =
-    let x = c .before .before .before .before .before .before in
-    let p = x .before .before .before .before .before .before .before .before .before .before .pre in
-    (p .0, (x .reached .ensures, (p .1 .0, (p .1 .1 .1 .0, p .1 .1 .1 .1))))
+    let x = c .before .before .before .before .before .before .before .before .before .before in
+    let p = x .before .before .before .before .before .before .before .before .before .before .before .before .before .before .before .pre in
+    let q = p .1 .1 .1 .1 .1 in
+    (p .0, (p .1 .0, (p .1 .1 .0, (x .reached .ensures, (q .0, (x .reached .kept .1 .1 .1 .1 .0 ∙ q .1 .0, x .reached .kept .1 .1 .1 .1 .1 .0 ∙ q .1 .1))))))
 
 check-ambiguous-requires : tie.Need-check-ambiguous-requires
-check-ambiguous-requires c κs = let x = c .before .before .before .before .before .before .before in (x .before .before .before .before .before .before .before .before .before .before .before .before .before .before .before .before .before .pre .0, x .arriving .ensures)
+check-ambiguous-requires c κs =
+    let y = c .before .before .before .before .before .before .before in
+    let p = y .before .before .before .before .before .before .before .before .before .before .before .before .before .before .before .before .before .before .before .before .before .before .before .before .before .before .pre in
+    (p .0, (p .1 .1 .1 .0, y .arriving .ensures))
 
 same-length : tie.Need-same-length
 same-length c = search needs
@@ -54,10 +60,10 @@ same-length-4 c = search needs
 returns-2 : tie.Need-returns-2
 unfolding programmerCheck
 returns-2 c =
-    let x = c .before .before .before .before .before .before .before .before .before .before .before .before .before .before .before in
-    let t = x .before .before in
+    let x = c .before .before .before .before .before .before .before .before .before .before .before .before .before .before .before .before .before .before .before in
     record {
-      answers = passes (t .before .before .check-writes .ensures) (t .enum-told2 .given .1) (c .check-ambiguous .ensures);
+      answers = passes (x .before .before .before .before .before .before .check-writes .ensures) (x .before .before .before .before .enum-told2 .given .1) (c .check-ambiguous .ensures);
+      size = x .reached .ensures .size;
       reaches = λ e. x .reached .ensures;
     }
 

@@ -14,16 +14,16 @@ use Rattle.labels.proofs.checks.check_ambiguous.Statement.{statement}
 use Rattle.labels.proofs.checks.check_ambiguous.Tie as tie
 
 abbrev Inv-loop : tie.InvT-loop
-Inv-loop file h arriving n v₀ v = Undecided (λ v. firstFailed (λ a. holds (not (isAmbiguous file a v)) (AmbiguousReference v a)) 0 (arrays file)) (vertices file) v
+Inv-loop file h uses arriving n v₀ v = Undecided (λ v. firstFailed (λ a. holds (not (isAmbiguous file a v)) (AmbiguousReference v a)) 0 (arrays file)) (vertices file) v
 
 abbrev μ-loop : tie.MeasureT-loop
-μ-loop file h arriving n v₀ v = n - v
+μ-loop file h uses arriving n v₀ v = n - v
 
 loop-holds : tie.Need-loop-holds Inv-loop μ-loop
 loop-holds c = start _ _
 
 check-ambiguous-at-requires : tie.Need-check-ambiguous-at-requires Inv-loop μ-loop
-check-ambiguous-at-requires c κs = search needs
+check-ambiguous-at-requires c κs = let p = c .before .before .before .before .before .pre in (p .0, (p .1 .0, (omega arith, p .1 .1)))
 
 enum-told : tie.Need-enum-told Inv-loop μ-loop
 enum-told c = search needs

@@ -14,16 +14,16 @@ use Rattle.labels.proofs.checks.check_ambiguous_at.Statement.{statement
 use Rattle.labels.proofs.checks.check_ambiguous_at.Tie as tie
 
 abbrev Inv-loop : tie.InvT-loop
-Inv-loop file h v arriving m a₀ a = Undecided (λ a. holds (not (isAmbiguous file a v)) (AmbiguousReference v a)) (arrays file) a
+Inv-loop file h v uses arriving m a₀ a = Undecided (λ a. holds (not (isAmbiguous file a v)) (AmbiguousReference v a)) (arrays file) a
 
 abbrev μ-loop : tie.MeasureT-loop
-μ-loop file h v arriving m a₀ a = m - a
+μ-loop file h v uses arriving m a₀ a = m - a
 
 loop-holds : tie.Need-loop-holds Inv-loop μ-loop
 loop-holds c = start _ _
 
 is-ambiguous-requires : tie.Need-is-ambiguous-requires Inv-loop μ-loop
-is-ambiguous-requires c κs = let p = c .before .before .before .before .pre in (p .0, (p .1 .0, (omega arith, p .1 .1)))
+is-ambiguous-requires c κs = let p = c .before .before .before .before .before .pre in (p .0, (p .1 .0, (p .1 .1 .0, (omega arith, p .1 .1 .1))))
 
 returns : tie.Need-returns Inv-loop μ-loop
 returns c = stop (c .before .before .before .loop .inv) (omega arith) (faulty _ (c .before .is-ambiguous .ensures) (c .if1 .taken)) refl

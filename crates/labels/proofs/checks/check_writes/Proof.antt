@@ -13,16 +13,16 @@ use Rattle.labels.proofs.checks.check_writes.Statement.{statement}
 use Rattle.labels.proofs.checks.check_writes.Tie as tie
 
 abbrev Inv-loop : tie.InvT-loop
-Inv-loop file h n v₀ v = Undecided (λ v. firstFailed (λ a. holds (not (writesIn file a v)) (WritesInArgument v a)) 0 (arrays file)) (vertices file) v
+Inv-loop file h uses n v₀ v = Undecided (λ v. firstFailed (λ a. holds (not (writesIn file a v)) (WritesInArgument v a)) 0 (arrays file)) (vertices file) v
 
 abbrev μ-loop : tie.MeasureT-loop
-μ-loop file h n v₀ v = n - v
+μ-loop file h uses n v₀ v = n - v
 
 loop-holds : tie.Need-loop-holds Inv-loop μ-loop
 loop-holds c = start _ _
 
 check-writes-at-requires : tie.Need-check-writes-at-requires Inv-loop μ-loop
-check-writes-at-requires c κs = search needs
+check-writes-at-requires c κs = let p = c .before .before .before .before .pre in (p .0, (p .1, omega arith))
 
 enum-told : tie.Need-enum-told Inv-loop μ-loop
 enum-told c = search needs

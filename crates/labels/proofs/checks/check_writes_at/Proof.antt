@@ -15,16 +15,16 @@ use Rattle.labels.proofs.checks.check_writes_at.Statement.{statement}
 use Rattle.labels.proofs.checks.check_writes_at.Tie as tie
 
 abbrev Inv-loop : tie.InvT-loop
-Inv-loop file h v m a₀ a = Undecided (λ a. holds (not (writesIn file a v)) (WritesInArgument v a)) (arrays file) a
+Inv-loop file h v uses m a₀ a = Undecided (λ a. holds (not (writesIn file a v)) (WritesInArgument v a)) (arrays file) a
 
 abbrev μ-loop : tie.MeasureT-loop
-μ-loop file h v m a₀ a = m - a
+μ-loop file h v uses m a₀ a = m - a
 
 loop-holds : tie.Need-loop-holds Inv-loop μ-loop
 loop-holds c = start _ _
 
 writes-in-requires : tie.Need-writes-in-requires Inv-loop μ-loop
-writes-in-requires c κs = search needs
+writes-in-requires c κs = let p = c .before .before .before .before .pre in (p .0, (p .1 .0, (p .1 .1, omega arith)))
 
 returns : tie.Need-returns Inv-loop μ-loop
 returns c = stop (c .before .before .before .loop .inv) (omega arith) (faulty _ (c .before .writes-in .ensures) (c .if1 .taken)) refl

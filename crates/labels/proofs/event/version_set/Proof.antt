@@ -4,6 +4,9 @@ use borrow.Author.Needs.{needs}
 use Rattle.labels.proofs.event.version_set.Statement.{statement}
 use Rattle.labels.proofs.event.version_set.Tie as tie
 
+is-label-requires : tie.Need-is-label-requires
+is-label-requires c κs = search needs
+
 version-of-requires : tie.Need-version-of-requires
 version-of-requires c κs = search needs
 
@@ -17,4 +20,4 @@ returns : tie.Need-returns
 returns c = cc
 
 pub version-set-spec : {M : Type 1} → statement M
-version-set-spec = tie.close (tie.spec version-of-requires single-requires set-if-requires returns)
+version-set-spec = tie.close (tie.spec is-label-requires version-of-requires single-requires set-if-requires returns)

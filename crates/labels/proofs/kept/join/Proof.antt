@@ -1,41 +1,38 @@
 -- `kept::join` meets its contract: a table is filled in place.
 -- Assumes nothing.
-use mathlib.Core.Path.{ap, ap₂, _∙_}
+use mathlib.Core.Path.{refl, ap, ap₂, _∙_}
 use mathlib.Core.Bool.{Bool, cond}
 use Prim.Native.Nat.{ℕ, _-_}
-use native.Mathlib.Omega.{arith}
-use borrow.Author.Needs.{needs}
 use lib.Bits.{bitOr}
-use lib.ListN.{getD}
+use lib.ListN.{length, getD}
 use Rattle.labels.specs.Kept.{isNOrR}
 use Rattle.labels.specs.Letters.{useOfByte}
-use Rattle.labels.proofs.Fills.{Filling, begin, onward, finish, still}
+use Rattle.words.proofs.Fills.{Filling, begin, onward, finish, still}
+use native.Mathlib.Omega.{arith}
+use borrow.Author.Needs.{needs}
 use Rattle.labels.proofs.kept.join.Statement.{statement}
 use Rattle.labels.proofs.kept.join.Tie as tie
 
 abbrev Inv-loop : tie.InvT-loop
-Inv-loop n letters leaving sets₀ v₀ sets v = Filling (λ v. bitOr (getD leaving v 0) (cond (isNOrR (useOfByte (getD letters v 0))) (getD sets₀ v 0) 0)) n sets₀ sets v
+Inv-loop letters leaving sets₀ n i₀ sets i = Filling (λ i. bitOr (getD leaving i 0) (cond (isNOrR (useOfByte (getD letters i 0))) (getD sets₀ i 0) 0)) n sets₀ sets i
 
 abbrev μ-loop : tie.MeasureT-loop
-μ-loop n letters leaving sets₀ v₀ sets v = n - v
+μ-loop letters leaving sets₀ n i₀ sets i = n - i
 
 loop-holds : tie.Need-loop-holds Inv-loop μ-loop
-loop-holds c = begin _ (c .before .before .before .pre .1 .1)
-
-shared-slice-read-of-letter : tie.Need-shared-slice-read-of-letter Inv-loop μ-loop
-shared-slice-read-of-letter c = omega arith
-
-of-letter-requires : tie.Need-of-letter-requires Inv-loop μ-loop
-of-letter-requires c κs = search needs
-
-is-n-or-r-requires : tie.Need-is-n-or-r-requires Inv-loop μ-loop
-is-n-or-r-requires c κs = search needs
+loop-holds c = begin _ refl
 
 mul-sets : tie.Need-mul-sets Inv-loop μ-loop
 mul-sets c = omega arith
 
 shared-slice-read-sets : tie.Need-shared-slice-read-sets Inv-loop μ-loop
 shared-slice-read-sets c = omega arith
+
+shared-slice-read-goes-on : tie.Need-shared-slice-read-goes-on Inv-loop μ-loop
+shared-slice-read-goes-on c = omega arith
+
+goes-on-requires : tie.Need-goes-on-requires Inv-loop μ-loop
+goes-on-requires c κs = search needs
 
 mul-set-if : tie.Need-mul-set-if Inv-loop μ-loop
 mul-set-if c = omega arith
@@ -52,21 +49,18 @@ mul-sets-2 c = omega arith
 slice-write-sets : tie.Need-slice-write-sets Inv-loop μ-loop
 slice-write-sets c = omega arith
 
-add-v : tie.Need-add-v Inv-loop μ-loop
-add-v c = omega arith
+add-i : tie.Need-add-i Inv-loop μ-loop
+add-i c = omega arith
 
 loop-less : tie.Need-loop-less Inv-loop μ-loop
 loop-less c = omega arith
 
 loop-again : tie.Need-loop-again Inv-loop μ-loop
 loop-again c =
-    let k = c .before .before .before in
-    let t = k .before .before .before in
-    let l = t .before in
-    let a = l .before .before .before .before .args in
-    onward (l .loop .inv) (t .loop-test .taken)
-    (ap (bitOr (getD (a .leaving .now) (l .loop .v) 0))
-    (c .set-if .ensures ∙ ap₂ (λ (b : Bool) (m : ℕ). cond b m 0) (k .is-n-or-r .ensures ∙ ap isNOrR (k .before .of-letter .ensures)) (still (l .loop .inv) (t .loop-test .taken))))
+    let l = c .before .before .before .before .before .before in
+    onward (l .loop .inv) (c .before .before .before .before .before .loop-test .taken)
+    (ap (bitOr (getD (l .before .before .before .before .args .leaving .now) (l .loop .i) 0))
+    (c .set-if .ensures ∙ ap₂ (λ (b : Bool) (m : ℕ). cond b m 0) (c .before .before .goes-on .ensures) (still (l .loop .inv) (c .before .before .before .before .before .loop-test .taken))))
 
 same-length : tie.Need-same-length Inv-loop μ-loop
 same-length c = omega arith
@@ -81,17 +75,16 @@ join-spec =
     Inv-loop
     μ-loop
     loop-holds
-    shared-slice-read-of-letter
-    of-letter-requires
-    is-n-or-r-requires
     mul-sets
     shared-slice-read-sets
+    shared-slice-read-goes-on
+    goes-on-requires
     mul-set-if
     slice-read-set-if
     set-if-requires
     mul-sets-2
     slice-write-sets
-    add-v
+    add-i
     loop-less
     loop-again
     same-length

@@ -3,27 +3,24 @@
 use mathlib.Core.Path.{refl}
 use mathlib.Core.Bool.{cond}
 use Prim.Native.Nat.{_-_}
+use lib.Dec.{ltb}
+use Rattle.words.proofs.Fills.{Filling, begin, onward, finish}
 use native.Mathlib.Omega.{arith}
 use borrow.Author.Needs.{needs}
-use lib.Dec.{eqb}
-use Rattle.labels.proofs.Fills.{Filling, begin, onward, finish}
 use Rattle.labels.proofs.reaching.fill_reached.Statement.{statement}
 use Rattle.labels.proofs.reaching.fill_reached.Tie as tie
 
 abbrev Inv-loop : tie.InvT-loop
-Inv-loop n gives₀ passes₀ v₀ gives passes v = Filling (λ v. cond (eqb v 0) 1 0) n gives₀ gives v × Filling (λ v. 1) n passes₀ passes v
+Inv-loop gives₀ passes₀ n i₀ gives passes i = Filling (λ i. cond (ltb i 8) 1 0) n gives₀ gives i × Filling (λ i. 1) n passes₀ passes i
 
 abbrev μ-loop : tie.MeasureT-loop
-μ-loop n gives₀ passes₀ v₀ gives passes v = n - v
+μ-loop gives₀ passes₀ n i₀ gives passes i = n - i
 
 loop-holds : tie.Need-loop-holds Inv-loop μ-loop
-loop-holds c = (begin _ (c .before .before .pre .0), begin _ (c .before .before .pre .1))
+loop-holds c = (begin _ refl, begin _ (c .before .before .pre))
 
 set-if-requires : tie.Need-set-if-requires Inv-loop μ-loop
 set-if-requires c κs = search needs
-
-cast-gives : tie.Need-cast-gives Inv-loop μ-loop
-cast-gives c = search needs
 
 mul-gives : tie.Need-mul-gives Inv-loop μ-loop
 mul-gives c = omega arith
@@ -37,14 +34,16 @@ mul-passes c = omega arith
 slice-write-passes : tie.Need-slice-write-passes Inv-loop μ-loop
 slice-write-passes c = omega arith
 
-add-v : tie.Need-add-v Inv-loop μ-loop
-add-v c = omega arith
+add-i : tie.Need-add-i Inv-loop μ-loop
+add-i c = omega arith
 
 loop-less : tie.Need-loop-less Inv-loop μ-loop
 loop-less c = omega arith
 
 loop-again : tie.Need-loop-again Inv-loop μ-loop
-loop-again c = (onward (c .before .before .loop .inv .0) (c .before .loop-test .taken) (c .set-if .ensures), onward (c .before .before .loop .inv .1) (c .before .loop-test .taken) refl)
+loop-again c =
+    let l = c .before .before in
+    (onward (l .loop .inv .0) (c .before .loop-test .taken) (c .set-if .ensures), onward (l .loop .inv .1) (c .before .loop-test .taken) refl)
 
 same-length : tie.Need-same-length Inv-loop μ-loop
 same-length c = omega arith
@@ -63,12 +62,11 @@ fill-reached-spec =
     μ-loop
     loop-holds
     set-if-requires
-    cast-gives
     mul-gives
     slice-write-gives
     mul-passes
     slice-write-passes
-    add-v
+    add-i
     loop-less
     loop-again
     same-length

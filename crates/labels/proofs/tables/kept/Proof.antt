@@ -1,42 +1,33 @@
 -- `tables::kept` meets its contract: both tables are filled and solved, and the leaving sets are joined.
 -- Assumes nothing.
-use mathlib.Core.Path.{_≡_, _∙_}
-use mathlib.Core.Bool.{true, cond}
-use mathlib.Core.List.{List}
-use Prim.Native.Nat.{ℕ}
+use mathlib.Core.Path.{sym, _∙_}
 use borrow.Author.Needs.{needs}
-use Rattle.labels.specs.Events.{everyVersion}
-use Rattle.labels.specs.Kept.{leavingSet, passesKept, keptSets}
-use Rattle.labels.specs.Passes.{solved}
-use Rattle.routine.specs.Layout.{arrays, vertices}
-use Rattle.words.specs.Tables.{table, rows}
-use Rattle.labels.proofs.Lanes.{all-solved}
+use Rattle.labels.proofs.Steps.{kept-gives, kept-passes, kept-sets}
 use Rattle.labels.proofs.tables.kept.Statement.{statement}
 use Rattle.labels.proofs.tables.kept.Tie as tie
 
--- the solver's sets, by the tables that it was handed
-says : (file : List ℕ) {gives passes sets : List ℕ}
-    → gives ≡ rows (λ a. table (leavingSet file a) (vertices file)) (arrays file) → passes ≡ rows (λ a. table (λ v. cond (passesKept file a v) everyVersion 0) (vertices file)) (arrays file)
-    → sets ≡ rows (solved file true gives passes) (arrays file) → sets ≡ rows (keptSets file) (arrays file)
-unfolding keptSets
-says file e f h = all-solved file true (λ a. leavingSet file a) (λ a. λ v. cond (passesKept file a v) everyVersion 0) e f h
-
-fill-all-requires : tie.Need-fill-all-requires
-fill-all-requires c κs = let p = c .before .before .before .before .before .before .before .pre in (p .0, (p .1 .0, (p .1 .1 .1 .0, p .1 .1 .1 .1)))
+fill-requires : tie.Need-fill-requires
+fill-requires c κs =
+    let q = c .before .before .before .before .before .before .before .before .before .pre .1 .1 in
+    let all = sym (q .0 .size) in
+    (q .1 .0 .size ∙ all, (q .1 .1 .1 .0 ∙ all, q .1 .1 .1 .1 ∙ all))
 
 solve-requires : tie.Need-solve-requires
 solve-requires c κs =
     let f = c .before .before .before .before .before .before .before in
-    let p = f .before .before .before .before .before .before .before .before .pre in
-    (p .0, (f .fill-all .kept .1 .1 .1 .0 ∙ p .1 .1 .1 .0, (f .fill-all .kept .1 .1 .1 .1 .0 ∙ p .1 .1 .1 .1, p .1 .1 .0)))
+    let p = f .before .before .before .before .before .before .before .before .before .before .pre in
+    let q = p .1 .1 in
+    let well = p .0 .well in
+    (p .0, (p .1 .0, (kept-gives well (q .0) (q .1 .0) (f .fill .ensures .0) .size, (kept-passes well (q .0) (q .1 .0) (f .fill .ensures .1) .size, q .1 .1 .0))))
 
-join-all-requires : tie.Need-join-all-requires
-join-all-requires c κs =
+join-requires : tie.Need-join-requires
+join-requires c κs =
     let v = c .before .before .before .before in
     let f = v .before .before .before .before .before .before .before .before in
-    let s = f .before .before .before .before .before .before .before .before in
-    let p = s .pre in
-    (p .0, (p .1 .0, (f .fill-all .ensures .0, says (s .args .file .now) (f .fill-all .ensures .0) (f .fill-all .ensures .1) (v .solve .ensures))))
+    let p = f .before .before .before .before .before .before .before .before .before .before .pre in
+    let q = p .1 .1 in
+    let all = sym (v .solve .ensures .size) in
+    (q .1 .0 .size ∙ all, kept-gives (p .0 .well) (q .0) (q .1 .0) (f .fill .ensures .0) .size ∙ all)
 
 same-length : tie.Need-same-length
 same-length c = search needs
@@ -48,15 +39,21 @@ same-length-3 : tie.Need-same-length-3
 same-length-3 c = search needs
 
 returns : tie.Need-returns
-returns c = search needs
+returns c =
+    let v = c .before .before .before .before .before .before .before in
+    let f = v .before .before .before .before .before .before .before .before in
+    let p = f .before .before .before .before .before .before .before .before .before .before .pre in
+    let q = p .1 .1 in
+    let well = p .0 .well in
+    kept-sets well (q .0) (q .1 .0) (kept-gives well (q .0) (q .1 .0) (f .fill .ensures .0)) (kept-passes well (q .0) (q .1 .0) (f .fill .ensures .1)) (v .solve .ensures) (c .before .before .join .ensures)
 
 pub kept-spec : {M : Type 1} → statement M
 kept-spec =
     tie.close
     (tie.spec
-    fill-all-requires
+    fill-requires
     solve-requires
-    join-all-requires
+    join-requires
     same-length
     same-length-2
     same-length-3

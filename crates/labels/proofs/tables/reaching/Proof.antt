@@ -1,41 +1,44 @@
--- `tables::reaching` meets its contract: both tables are filled and solved; the entry has its own sets.
+-- `tables::reaching` meets its contract: both tables are filled and solved, and the entry has its own row in each.
 -- Assumes nothing.
-use mathlib.Core.Path.{_≡_, _∙_}
-use mathlib.Core.Bool.{false}
-use mathlib.Core.List.{List}
-use Prim.Native.Nat.{ℕ}
+use mathlib.Core.Path.{sym, ap, _∙_}
+use Prim.Native.Nat.{_≤_}
+use native.Mathlib.Omega.{arith}
 use borrow.Author.Needs.{needs}
-use Rattle.labels.specs.Reaching.{reachGives, reachPasses, reachSets}
-use Rattle.labels.specs.Passes.{solved}
-use Rattle.routine.specs.Layout.{arrays, vertices}
-use Rattle.words.specs.Tables.{table, rows}
-use Rattle.labels.proofs.Lanes.{all-solved}
+use lib.ListN.{length}
+use Rattle.words.proofs.Tables.{table-length}
+use Rattle.labels.proofs.Steps.{reach-gives, reach-passes, reaching-sets}
 use Rattle.labels.proofs.tables.reaching.Statement.{statement}
 use Rattle.labels.proofs.tables.reaching.Tie as tie
 
--- the solver's sets, by the tables that it was handed
-says : (file : List ℕ) {gives passes sets : List ℕ}
-    → gives ≡ rows (λ a. table (reachGives file a) (vertices file)) (arrays file) → passes ≡ rows (λ a. table (reachPasses file a) (vertices file)) (arrays file)
-    → sets ≡ rows (solved file false gives passes) (arrays file) → sets ≡ rows (reachSets file) (arrays file)
-unfolding reachSets
-says file e f h = all-solved file false (λ a. reachGives file a) (λ a. reachPasses file a) e f h
+fill-requires : tie.Need-fill-requires
+fill-requires c κs =
+    let q = c .before .before .before .before .before .before .before .before .before .before .pre .1 .1 in
+    let all = sym (q .0 .size) in
+    (q .1 .0 .size ∙ all, (q .1 .1 .0 .size ∙ all, (q .1 .1 .1 .1 .0 ∙ all, q .1 .1 .1 .1 .1 ∙ all)))
 
-fill-all-requires : tie.Need-fill-all-requires
-fill-all-requires c κs = let p = c .before .before .before .before .before .before .before .before .pre in (p .0, (p .1 .0, (p .1 .1 .0, (p .1 .1 .1 .1 .0, p .1 .1 .1 .1 .1))))
+enter-gives-requires : tie.Need-enter-gives-requires
+enter-gives-requires c κs =
+    let f = c .before .before .before .before .before in
+    let p = f .before .before .before .before .before .before .before .before .before .before .before .pre in
+    let two = p .0 .well .laid .limits .two-vertices in
+    (p .0, (omega (arith, p .1 .1 .1 .1 .0 .size, two), omega (arith, ap length (f .fill .ensures .0) ∙ table-length _ _ ∙ p .1 .1 .0 .size, two)))
 
 solve-requires : tie.Need-solve-requires
 solve-requires c κs =
-    let f = c .before .before .before .before .before .before .before in
-    let p = f .before .before .before .before .before .before .before .before .before .pre in
-    (p .0, (f .fill-all .kept .1 .1 .1 .1 .0 ∙ p .1 .1 .1 .1 .0, (f .fill-all .kept .1 .1 .1 .1 .1 .0 ∙ p .1 .1 .1 .1 .1, p .1 .1 .1 .0)))
+    let g = c .before .before .before .before .before in
+    let f = g .before .before .before .before .before .before in
+    let p = f .before .before .before .before .before .before .before .before .before .before .before .pre in
+    let q = p .1 .1 in
+    let well = p .0 .well in (
+      p .0,
+      (p .1 .0, (reach-gives well (q .0) (q .1 .1 .0) (q .1 .0) (f .fill .ensures .0) (g .enter-gives .ensures) .size, (reach-passes well (q .0) (q .1 .1 .0) (f .fill .ensures .1) .size, q .1 .1 .1 .0))),
+    )
 
-enter-all-requires : tie.Need-enter-all-requires
-enter-all-requires c κs =
+enter-requires : tie.Need-enter-requires
+enter-requires c κs =
     let v = c .before .before .before in
-    let f = v .before .before .before .before .before .before .before .before in
-    let s = f .before .before .before .before .before .before .before .before .before in
-    let p = s .pre in
-    (p .0, says (s .args .file .now) (f .fill-all .ensures .0) (f .fill-all .ensures .1) (v .solve .ensures))
+    let p = v .before .before .before .before .before .before .before .before .before .before .before .before .before .before .before .before .before .before .before .before .before .before .before .pre in
+    (p .0, omega (arith, v .solve .ensures .size, p .0 .well .laid .limits .two-vertices))
 
 same-length : tie.Need-same-length
 same-length c = search needs
@@ -47,15 +50,24 @@ same-length-3 : tie.Need-same-length-3
 same-length-3 c = search needs
 
 returns : tie.Need-returns
-returns c = search needs
+returns c =
+    let v = c .before .before .before .before .before .before in
+    let g = v .before .before .before .before .before .before in
+    let f = g .before .before .before .before .before .before in
+    let p = f .before .before .before .before .before .before .before .before .before .before .before .pre in
+    let q = p .1 .1 in
+    let well = p .0 .well in
+    reaching-sets well (reach-gives well (q .0) (q .1 .1 .0) (q .1 .0) (f .fill .ensures .0) (g .enter-gives .ensures)) (reach-passes well (q .0) (q .1 .1 .0) (f .fill .ensures .1))
+    (v .solve .ensures) (c .before .before .enter .ensures)
 
 pub reaching-spec : {M : Type 1} → statement M
 reaching-spec =
     tie.close
     (tie.spec
-    fill-all-requires
+    fill-requires
+    enter-gives-requires
     solve-requires
-    enter-all-requires
+    enter-requires
     same-length
     same-length-2
     same-length-3
