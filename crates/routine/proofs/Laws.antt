@@ -1,23 +1,30 @@
 -- Laws of checks in a row, and of scans for the first item that fails.
 -- Assumes nothing.
-use mathlib.Core.Path.{_≡_, refl, sym, ap, ap₂, _∙_}
-use mathlib.Core.Bool.{Bool, true, false, not, _&&_, false≢true}
+use mathlib.Core.Path.{_≡_, refl, sym, ap, _∙_}
+use mathlib.Core.Bool.{Bool, true, false, not, _&&_, _||_, false≢true}
 use Prim.Native.Nat.{ℕ, zero, suc, _+_, _-_, _≤_, _<_}
 use native.Mathlib.Nat.{add-zero, zero-add}
 use native.Mathlib.Omega.{arith}
-use borrow.Author.Tests.{lt-ltb, le-ltb, le-leb, lt-leb, eq-eqb, ne-eqb, leb-true, ltb-true, eqb-true, eqb-false, not-true, not-false}
+use borrow.Author.Tests.{lt-ltb, le-ltb, le-leb, lt-leb, eq-eqb, ne-eqb, leb-true, ltb-true, ltb-false, eqb-true, eqb-false, not-true, not-false}
 use Rattle.routine.specs.declared.refusal.Refusal.{Refusal}
-use Rattle.routine.specs.declared.refusal.Refusal.the-variants.{WrongActionByte}
 use Rattle.routine.specs.declared.refusal.Verdict.{Verdict}
 use Rattle.routine.specs.declared.refusal.Verdict.the-variants.{Passed, Failed}
 use Rattle.routine.specs.Checks.{_andThen_, holds, firstFailed}
 use Rattle.routine.specs.Layout.{within}
-use lib.Dec.{leb}
+use lib.Dec.{leb, ltb}
 
 -- ---- tests
 
 -- what a branch tells, as the value of its test
 pub ruleset tests = (lt-ltb, le-ltb, le-leb, lt-leb, eq-eqb, ne-eqb)
+
+-- `>=` is the negation of `<`
+pub not-below : (m n : ℕ) → leb n m ≡ not (ltb m n)
+not-below m n = go (ltb m n) refl
+  where
+    go : (t : Bool) → ltb m n ≡ t → leb n m ≡ not t
+    go true e = lt-leb n m (ltb-true m n e)
+    go false e = le-leb n m (ltb-false m n e)
 
 -- ---- checks in a row
 
@@ -35,9 +42,14 @@ pub then-assoc : (u v w : Verdict) → ((u andThen v) andThen w) ≡ (u andThen 
 then-assoc Passed v w = refl
 then-assoc (Failed r) v w = refl
 
--- the verdict on an action byte goes by the test and the place
-pub of-byte : {bad wrong : Bool} {at place : ℕ} → bad ≡ wrong → at ≡ place → holds (not bad) (WrongActionByte at) ≡ holds (not wrong) (WrongActionByte place)
-of-byte e f = ap₂ (λ (bad : Bool) (at : ℕ). holds (not bad) (WrongActionByte at)) e f
+then-passed : (v : Verdict) → (v andThen Passed) ≡ v
+then-passed Passed = refl
+then-passed (Failed r) = refl
+
+-- two tests with one refusal are one test
+pub either : (a b : Bool) (r : Refusal) → (holds (not a) r andThen holds (not b) r) ≡ holds (not (a || b)) r
+either true b r = refl
+either false b r = refl
 
 -- ---- what a row that passes tells of its parts
 
@@ -121,6 +133,15 @@ module _ (item : ℕ → Verdict) where
   next-item from i =
       let e : from + suc i ≡ from + 1 + i = omega arith in
       ap item e
+
+  -- the last item is looked at last
+  pub first-last : (from n : ℕ) → firstFailed item from (suc n) ≡ (firstFailed item from n andThen item (from + n))
+  unfolding firstFailed
+  first-last from zero = rw add-zero (then-passed (item from))
+  first-last from (suc n) =
+      ap (λ (w : Verdict). item from andThen w) (first-last (from + 1) n)
+      ∙ sym (then-assoc (item from) _ _)
+      ∙ ap (λ (w : Verdict). firstFailed item from (suc n) andThen w) (sym (next-item from n))
 
   -- the first item passes, and so do those from the next one on
   onward : (from n : ℕ) → item from ≡ Passed → ((i : ℕ) → i < n → item (from + 1 + i) ≡ Passed) → (i : ℕ) → i < suc n → item (from + i) ≡ Passed

@@ -3,3 +3,4 @@ pub mod Places
 pub mod Form
 pub mod Accepted
 pub mod WellFormed
+pub mod Rows

@@ -6,3 +6,4 @@ pub mod Layout
 pub mod Reader
 pub mod Refusals
 pub mod Replies
+pub mod Rows

@@ -4,15 +4,14 @@ use crate::header::Header;
 use crate::refusal::Refusal;
 use crate::refusal::Verdict;
 ghost use mathlib.Core.Path.{_≡_};
-ghost use mathlib.Core.Bool.{not, _&&_, _||_};
+ghost use mathlib.Core.Bool.{_||_};
 ghost use Prim.Native.Nat.{_<_, _-_};
 ghost use lib.Dec.{eqb};
 ghost use lib.ListN.{length};
-ghost use Rattle.routine.specs.declared.refusal.Refusal.the-variants.{WrongActionByte};
-ghost use Rattle.routine.specs.Actions.{actionOf, action, isKnown, remapsBelow, mixes, mixedCheck, actionCheck, rowCheck, check15};
-ghost use Rattle.routine.specs.Checks.{holds, firstFailed};
+ghost use Rattle.routine.specs.Actions.{actionOf, action, isReference, isRemap, rowCheck, check15};
 ghost use Rattle.routine.specs.Layout.{arrays, vertices, actionAt};
 ghost use Rattle.routine.specs.Reader.{Heads, Limits};
+ghost use Rattle.routine.specs.Rows.{isWrong};
 
 // A reference: a read, a define (all of it rewritten, nothing read) or a modify (old value needed).
 pub enum Access {
@@ -43,48 +42,37 @@ impl Action {
         }
     }
 
-    fn is_known(self) -> bool
-        ensures { λ r. ⌜ r ≡ isKnown self ⌝ }
+    fn is_reference(self) -> bool
+        ensures { λ r. ⌜ r ≡ isReference self ⌝ }
     {
         match self {
-            Action::Unknown => false,
-            Action::Nothing => true,
             Action::Reference(_) => true,
-            Action::Remap(_) => true,
-        }
-    }
-
-    // Whether a remap's version is below the array's number of versions.
-    fn remaps_below(self, versions: u8) -> bool
-        ensures { λ r. ⌜ r ≡ remapsBelow self versions ⌝ }
-    {
-        match self {
-            Action::Remap(k) => k < versions,
-            Action::Nothing => true,
-            Action::Reference(_) => true,
-            Action::Unknown => true,
-        }
-    }
-
-    // Whether one is a reference and the other a remapping.
-    fn mixes(self, other: Action) -> bool
-        ensures { λ r. ⌜ r ≡ mixes self other ⌝ }
-    {
-        match self {
-            Action::Reference(_) => match other {
-                Action::Remap(_) => true,
-                Action::Nothing => false,
-                Action::Reference(_) => false,
-                Action::Unknown => false,
-            },
-            Action::Remap(_) => match other {
-                Action::Reference(_) => true,
-                Action::Nothing => false,
-                Action::Remap(_) => false,
-                Action::Unknown => false,
-            },
             Action::Nothing => false,
+            Action::Remap(_) => false,
             Action::Unknown => false,
+        }
+    }
+
+    fn is_remap(self) -> bool
+        ensures { λ r. ⌜ r ≡ isRemap self ⌝ }
+    {
+        match self {
+            Action::Remap(_) => true,
+            Action::Nothing => false,
+            Action::Reference(_) => false,
+            Action::Unknown => false,
+        }
+    }
+
+    // Whether check 15 refuses it: `terminal` in the row of the entry or the exit, `references` and `remaps` if one stands earlier in the row.
+    fn is_wrong(self, versions: u8, terminal: bool, references: bool, remaps: bool) -> bool
+        ensures { λ r. ⌜ r ≡ isWrong self versions terminal references remaps ⌝ }
+    {
+        match self {
+            Action::Nothing => false,
+            Action::Reference(_) => terminal | remaps,
+            Action::Remap(k) => (k >= versions) | (terminal | references),
+            Action::Unknown => true,
         }
     }
 }
@@ -111,66 +99,12 @@ pub fn at(file: &[u8], h: Header, v: usize, a: usize) -> Action
     Action::of(file[at])
 }
 
-// The refusal of the byte at `place` if `bad` holds.
-fn verdict(bad: bool, place: usize) -> Verdict
-    ensures { λ r. ⌜ r ≡ holds (not bad) (WrongActionByte place) ⌝ }
-{
-    if bad {
-        return Verdict::Failed(Refusal::WrongActionByte { byte: place });
-    }
-    Verdict::Passed
-}
-
-// Whether the action of array a is mixed with that of an earlier one.
-fn check_mixed(file: &[u8], h: Header, v: usize, a: usize) -> Verdict
-    requires { ⌜ Heads h (now file) ⌝ }
-    requires { ⌜ v < vertices (now file) ⌝ }
-    requires { ⌜ a < arrays (now file) ⌝ }
-    ensures { λ r. ⌜ r ≡ firstFailed (mixedCheck (now (file .entry)) v a) 0 a ⌝ }
-{
-    let place = place(file, h, v, a);
-    let x = at(file, h, v, a);
-    let mut earlier = 0;
-    while earlier < a {
-        let verdict = verdict(at(file, h, v, earlier).mixes(x), place);
-        if let Verdict::Failed(_) = verdict {
-            return verdict;
-        }
-        earlier += 1;
-    }
-    Verdict::Passed
-}
-
-// Whether a byte that is not zero stands in the row of the entry or of the exit.
-fn misplaced(h: Header, v: usize, b: u8) -> bool
+// Whether v is the entry or the exit.
+fn is_terminal(h: Header, v: usize) -> bool
     requires { ⌜ Limits h ⌝ }
-    ensures { λ r. ⌜ r ≡ ((eqb v 0 || eqb v (h .vertices - 1)) && not (eqb b 0)) ⌝ }
+    ensures { λ r. ⌜ r ≡ (eqb v 0 || eqb v (h .vertices - 1)) ⌝ }
 {
-    (v == 0 || v == h.vertices - 1) && b != 0
-}
-
-// The action byte of vertex v and array a.
-fn check(file: &[u8], h: Header, v: usize, a: usize) -> Verdict
-    requires { ⌜ Heads h (now file) ⌝ }
-    requires { ⌜ v < vertices (now file) ⌝ }
-    requires { ⌜ a < arrays (now file) ⌝ }
-    ensures { λ r. ⌜ r ≡ actionCheck (now (file .entry)) v a ⌝ }
-{
-    let place = place(file, h, v, a);
-    let x = at(file, h, v, a);
-    let known = verdict(!x.is_known(), place);
-    if let Verdict::Failed(_) = known {
-        return known;
-    }
-    let below = verdict(!x.remaps_below(array::record_of(file, a).versions), place);
-    if let Verdict::Failed(_) = below {
-        return below;
-    }
-    let row = verdict(misplaced(h, v, file[place]), place);
-    if let Verdict::Failed(_) = row {
-        return row;
-    }
-    check_mixed(file, h, v, a)
+    (v == 0) | (v == h.vertices - 1)
 }
 
 // The action bytes of vertex v.
@@ -180,12 +114,21 @@ fn check_row(file: &[u8], h: Header, v: usize) -> Verdict
     ensures { λ r. ⌜ r ≡ rowCheck (now (file .entry)) v ⌝ }
 {
     let n = h.arrays;
+    let terminal = is_terminal(h, v);
+    let mut references = false;
+    let mut remaps = false;
     let mut a = 0;
     while a < n {
-        let verdict = check(file, h, v, a);
-        if let Verdict::Failed(_) = verdict {
-            return verdict;
+        let x = at(file, h, v, a);
+        let versions = array::record_of(file, a).versions;
+        let wrong = x.is_wrong(versions, terminal, references, remaps);
+        if wrong {
+            return Verdict::Failed(Refusal::WrongActionByte {
+                byte: place(file, h, v, a),
+            });
         }
+        references = references | x.is_reference();
+        remaps = remaps | x.is_remap();
         a += 1;
     }
     Verdict::Passed

@@ -1,35 +1,74 @@
--- `check_row` meets its contract: a scan of the arrays.
+-- `check_row` meets its contract: a scan of the arrays that keeps what sorts of action it met.
 -- Assumes nothing.
-use Prim.Native.Nat.{_-_}
+use mathlib.Core.Path.{_≡_, refl, sym, ap, ap₂, _∙_}
+use mathlib.Core.Bool.{_||_}
+use Prim.Native.Nat.{ℕ, _-_}
 use native.Mathlib.Omega.{arith}
 use borrow.Author.Needs.{needs}
-use Rattle.routine.specs.Actions.{actionCheck, rowCheck}
+use lib.Dec.{eqb}
+use Rattle.routine.specs.declared.array.ArrayRecord.{ArrayRecord}
+use Rattle.routine.specs.Actions.{isReference, isRemap, wrong, actionCheck, rowCheck}
 use Rattle.routine.specs.Layout.{arrays}
 use Rattle.routine.proofs.Laws.{Undecided, start, stop, next, done}
+use Rattle.routine.proofs.Rows.{among, among-none, among-more, one-test}
 use Rattle.routine.proofs.action.check_row.Statement.{statement}
 use Rattle.routine.proofs.action.check_row.Tie as tie
 
 abbrev Inv-loop : tie.InvT-loop
-Inv-loop file h v n a₀ a = Undecided (actionCheck file v) (arrays file) a
+Inv-loop file h v n terminal references₀ remaps₀ a₀ references remaps a =
+    Undecided (actionCheck file v) (arrays file) a
+    × (references ≡ among isReference file v a)
+    × (remaps ≡ among isRemap file v a)
 
 abbrev μ-loop : tie.MeasureT-loop
-μ-loop file h v n a₀ a = n - a
+μ-loop file h v n terminal references₀ remaps₀ a₀ references remaps a = n - a
+
+is-terminal-requires : tie.Need-is-terminal-requires Inv-loop μ-loop
+is-terminal-requires c κs = search needs
 
 loop-holds : tie.Need-loop-holds Inv-loop μ-loop
-loop-holds c = start _ _
+loop-holds c = (start _ _, sym (among-none _ _ _), sym (among-none _ _ _))
 
-check-requires : tie.Need-check-requires Inv-loop μ-loop
-check-requires c κs = search needs
+at-requires : tie.Need-at-requires Inv-loop μ-loop
+at-requires c κs = search needs
 
-enum-told : tie.Need-enum-told Inv-loop μ-loop
-enum-told c = search needs
+record-of-requires : tie.Need-record-of-requires Inv-loop μ-loop
+record-of-requires c κs = search needs
+
+is-wrong-requires : tie.Need-is-wrong-requires Inv-loop μ-loop
+is-wrong-requires c κs = search needs
+
+place-requires : tie.Need-place-requires Inv-loop μ-loop
+place-requires c κs = search needs
+
+-- the check of a turn's byte
+turn : (c : tie.After-is-wrong Inv-loop μ-loop) →
+    let l = c .before .before .before .before in
+    let s = l .before .before .before in
+    actionCheck (s .args .file .now) (s .args .v) (l .loop .a) ≡ wrong (s .args .file .now) (s .args .v) (l .loop .a) (c .is-wrong .result)
+turn c =
+    let l = c .before .before .before .before in
+    let s = l .before .before .before in
+    one-test (s .args .file .now) (s .args .v) (l .loop .a)
+    (c .is-wrong .ensures)
+    (c .before .before .at .ensures)
+    (ap (λ (r : ArrayRecord). r .versions) (c .before .record-of .ensures))
+    (l .before .is-terminal .ensures ∙ ap (λ (n : ℕ). eqb (s .args .v) 0 || eqb (s .args .v) (n - 1)) (s .pre .0 .vertices-are))
+    (l .loop .inv .1)
+    (l .loop .inv .2)
 
 returns : tie.Need-returns Inv-loop μ-loop
 unfolding rowCheck
-returns c = stop (c .before .before .before .before .loop .inv) (omega arith) (c .before .before .check .ensures) (c .enum-told .given .1)
+returns c =
+    let w = c .before .before in
+    let l = w .before .before .before .before in
+    stop (l .loop .inv .0) (omega (arith, w .before .before .before .loop-test .taken, l .before .before .before .pre .0 .arrays-are)) (rw (c .place .ensures .0, turn w, c .before .if1 .taken)) refl
 
-enum-told-2 : tie.Need-enum-told-2 Inv-loop μ-loop
-enum-told-2 c = search needs
+is-reference-requires : tie.Need-is-reference-requires Inv-loop μ-loop
+is-reference-requires c κs = search needs
+
+is-remap-requires : tie.Need-is-remap-requires Inv-loop μ-loop
+is-remap-requires c κs = search needs
 
 add-a : tie.Need-add-a Inv-loop μ-loop
 add-a c = omega arith
@@ -38,11 +77,19 @@ loop-less : tie.Need-loop-less Inv-loop μ-loop
 loop-less c = omega arith
 
 loop-again : tie.Need-loop-again Inv-loop μ-loop
-loop-again c = next (c .before .before .before .before .loop .inv) (omega arith) (c .before .before .check .ensures) (c .enum-told2 .given .1)
+loop-again c =
+    let w = c .before .before .before in
+    let l = w .before .before .before .before in
+    let s = l .before .before .before in
+    let x = w .before .before .at .ensures in (
+      next (l .loop .inv .0) (omega arith) (rw (turn w, c .before .before .if1 .left)) refl,
+      ap₂ _||_ (l .loop .inv .1) (c .before .is-reference .ensures ∙ ap isReference x) ∙ sym (among-more isReference (s .args .file .now) (s .args .v) (l .loop .a)),
+      ap₂ _||_ (l .loop .inv .2) (c .is-remap .ensures ∙ ap isRemap x) ∙ sym (among-more isRemap (s .args .file .now) (s .args .v) (l .loop .a)),
+    )
 
 returns-2 : tie.Need-returns-2 Inv-loop μ-loop
 unfolding rowCheck
-returns-2 c = done (c .before .loop .inv) (omega arith)
+returns-2 c = done (c .before .loop .inv .0) (omega arith)
 
 pub check-row-spec : {M : Type 1} → statement M
 check-row-spec =
@@ -50,11 +97,15 @@ check-row-spec =
     (tie.spec
     Inv-loop
     μ-loop
+    is-terminal-requires
     loop-holds
-    check-requires
-    enum-told
+    at-requires
+    record-of-requires
+    is-wrong-requires
+    place-requires
     returns
-    enum-told-2
+    is-reference-requires
+    is-remap-requires
     add-a
     loop-less
     loop-again

@@ -1,0 +1,95 @@
+-- Check 15 of a byte is one test: the earlier actions of its row count only by whether one is a reference, and whether one is a remapping.
+-- Assumes nothing.
+use mathlib.Core.Path.{_≡_, refl, ap, ap₂, _∙_}
+use mathlib.Core.Bool.{Bool, true, false, not, _&&_, _||_, cond, and-true, and-false, and-comm, or-false}
+use mathlib.Core.List.{List}
+use Prim.Native.Nat.{ℕ, zero, suc, _+_}
+use native.Mathlib.Nat.{zero-add}
+use native.Mathlib.Numerals.{add-one}
+use lib.Dec.{eqb}
+use Rattle.routine.specs.declared.action.Action.{Action}
+use Rattle.routine.specs.declared.action.Action.the-variants.{Nothing, Reference, Remap, Unknown}
+use Rattle.routine.specs.declared.refusal.Refusal.the-variants.{WrongActionByte}
+use Rattle.routine.specs.Actions.{action, actionByte, isReference, isRemap, isEntryOrExit, mixes, wrong, mixedCheck, actionCheck}
+use Rattle.routine.specs.Arrays.{arrayOf}
+use Rattle.routine.specs.Checks.{_andThen_, firstFailed}
+use Rattle.routine.specs.Layout.{actionAt}
+use Rattle.routine.specs.Rows.{isNothing, isMixed, isWrong}
+use Rattle.routine.proofs.Laws.{either, first-last}
+
+-- one of the first n actions of vertex v passes the test
+unfoldable pub among : (Action → Bool) → List ℕ → ℕ → ℕ → Bool
+among test file v zero = false
+among test file v (suc n) = among test file v n || test (action file v n)
+
+pub among-none : (test : Action → Bool) (file : List ℕ) (v : ℕ) → among test file v 0 ≡ false
+unfolding among
+among-none test file v = refl
+
+pub among-more : (test : Action → Bool) (file : List ℕ) (v n : ℕ) → among test file v (n + 1) ≡ (among test file v n || test (action file v n))
+unfolding among
+among-more test file v n = ap (among test file v) (add-one n)
+
+-- ---- only the byte 0 is nothing
+
+-- neither branch is
+neither : (t : Bool) (x y : Action) → isNothing x ≡ false → isNothing y ≡ false → isNothing (cond t x y) ≡ false
+neither true x y e f = e
+neither false x y e f = f
+
+-- the first branch only is
+only : (t : Bool) (x : Action) → isNothing x ≡ false → isNothing (cond t Nothing x) ≡ t
+only true x e = refl
+only false x e = e
+
+nothing-zero : (file : List ℕ) (v a : ℕ) → isNothing (action file v a) ≡ eqb (actionByte file v a) 0
+unfolding action
+nothing-zero file v a = search (only, neither) depth 8
+
+-- ---- mixed with one of the earlier ones
+
+-- of no sort: mixed with nothing
+neither-sort : (b c : Bool) → (b && false || c && false) ≡ false
+neither-sort b c = simp (and-false, or-false)
+
+-- a reference is mixed with earlier remappings, a remapping with earlier references
+after-remaps : (a b c : Bool) → (a || false || (b && false || c && true)) ≡ (a || c || false)
+after-remaps a b c = simp (and-true, and-false, or-false)
+
+after-references : (a b c : Bool) → (a || (b && true || c && false)) ≡ (a || b)
+after-references a b c = simp (and-true, and-false, or-false)
+
+-- one more earlier action
+mixed-more : (x y : Action) (references remaps : Bool) →
+    (isMixed x references remaps || mixes y x) ≡ isMixed x (references || isReference y) (remaps || isRemap y)
+mixed-more Nothing y references remaps = neither-sort (isReference y) (isRemap y)
+mixed-more (Reference r) y references remaps = after-remaps remaps (isReference y) (isRemap y)
+mixed-more (Remap k) y references remaps = after-references references (isReference y) (isRemap y)
+mixed-more Unknown y references remaps = neither-sort (isReference y) (isRemap y)
+
+module _ (file : List ℕ) (v a : ℕ) where
+  mixed-among : (n : ℕ) → firstFailed (mixedCheck file v a) 0 n ≡ wrong file v a (isMixed (action file v a) (among isReference file v n) (among isRemap file v n))
+  unfolding firstFailed mixedCheck among
+  mixed-among zero = rw (neither-sort (isReference (action file v a)) (isRemap (action file v a)))
+  mixed-among (suc n) =
+      let x = action file v a in
+      let y = action file v n in
+      let references = among isReference file v n in
+      let remaps = among isRemap file v n in
+      first-last (mixedCheck file v a) 0 n
+      ∙ ap₂ _andThen_ (mixed-among n) (ap (mixedCheck file v a) (zero-add n))
+      ∙ either (isMixed x references remaps) (mixes y x) (WrongActionByte (actionAt file v a))
+      ∙ ap (wrong file v a) (mixed-more x y references remaps)
+
+  -- four faults, one refusal
+  pub one-test : {bad : Bool} {x : Action} {versions : ℕ} {terminal references remaps : Bool} →
+      bad ≡ isWrong x versions terminal references remaps →
+      x ≡ action file v a →
+      versions ≡ arrayOf file a .versions →
+      terminal ≡ isEntryOrExit file v →
+      references ≡ among isReference file v a →
+      remaps ≡ among isRemap file v a →
+      actionCheck file v a ≡ wrong file v a bad
+  unfolding actionCheck
+  one-test is e f g h i =
+      rw (is, e, f, g, h, i) (simp (mixed-among a, nothing-zero file v a, and-comm (isEntryOrExit file v) (not (eqb (actionByte file v a) 0)), either))
