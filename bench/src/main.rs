@@ -9,11 +9,11 @@ use std::hint::black_box;
 use std::time::{Duration, Instant};
 
 use compare::library::{Input, Library, ORACLE};
-use oracle::builder::{self, Draft};
+use oracle::builder::{self, Draft, INOUT, MODIFY, remap};
 use oracle::generate::limits;
 use oracle::generate::rng::Rng;
 use oracle::generate::routines::{self, Size};
-use oracle::routine::Routine;
+use oracle::routine::{MAX_ARRAYS, MAX_VERSIONS, MAX_VERTICES, Routine};
 use rounds::Rounds;
 
 const SEED: u64 = 1;
@@ -29,6 +29,36 @@ fn acceptable(draw: impl Fn(&mut Rng) -> Draft) -> Vec<u8> {
     let mut draft = draw(&mut rng);
     routines::make_acceptable(&mut rng, &mut draft);
     draft.bytes()
+}
+
+/// The vertices of a ring that has room for another vertex beside each.
+const RING: u16 = MAX_VERTICES as u16 / 2 - 1;
+
+/// Each vertex of the ring remaps all arrays, and the one beside it modifies them: no label is
+/// dropped.
+fn ring_of_labels() -> Draft {
+    let version = |vertex, array| ((vertex + array) % MAX_VERSIONS) as u8;
+    let labels = |vertex| (0..MAX_ARRAYS).map(move |array| remap(version(vertex, array)));
+    let mut rows = vec![vec![0; MAX_ARRAYS]];
+    rows.extend((1..=usize::from(RING)).map(|vertex| labels(vertex).collect()));
+    rows.resize(MAX_VERTICES - 1, vec![MODIFY; MAX_ARRAYS]);
+    rows.push(vec![0; MAX_ARRAYS]);
+    let mut edges = vec![(0, 1), (RING, 1)];
+    edges.extend((1..RING).map(|vertex| (vertex, vertex + 1)));
+    edges.extend((1..=RING).map(|vertex| (vertex, vertex + RING)));
+    edges.sort_unstable();
+    Draft {
+        arrays: vec![[INOUT, MAX_VERSIONS as u8, 0, 0]; MAX_ARRAYS],
+        rows,
+        edges,
+    }
+}
+
+/// The longest path round the ring.
+fn round_the_ring() -> Vec<u16> {
+    let mut path = vec![0];
+    path.extend((0..4095).map(|index| 1 + index % RING));
+    path
 }
 
 fn lines() -> Vec<(&'static str, Input)> {
@@ -63,6 +93,13 @@ fn lines() -> Vec<(&'static str, Input)> {
             Input::run(
                 limits::largest_report().bytes(),
                 builder::path_bytes(&limits::longest_path()),
+            ),
+        ),
+        (
+            "run, 4,096 vertices, labels alone",
+            Input::run(
+                ring_of_labels().bytes(),
+                builder::path_bytes(&round_the_ring()),
             ),
         ),
     ]

@@ -2,7 +2,7 @@
 -- Assumes nothing.
 use mathlib.Core.Path.{_≡_, refl, sym, ap, ap₂, subst, _∙_}
 use mathlib.Core.Bool.{Bool, true, false, _||_, true≢false}
-use mathlib.Core.List.{List, [], _++_}
+use mathlib.Core.List.{List, _++_}
 use Prim.Native.Nat.{ℕ, _+_, _-_, _≤_, _<_}
 use native.Mathlib.Omega.{arith}
 use borrow.Author.Tests.{eqb-true, eqb-false}
@@ -36,12 +36,6 @@ held-as {want} {want'} {m} {states} {versions} {stamps} same h = record {
   stamps-sized = h .stamps-sized;
   stand = λ b in-b. subst (λ (s : State). Stands s (stateOf states b) (getD versions b 0) (getD stamps b 0)) (same b in-b) (h .stand b in-b);
 }
-
-pub held-eq : {want : ℕ → State} {m : ℕ} {states states' : List State} {versions versions' stamps stamps' : List ℕ} → versions ≡ versions' → stamps ≡ stamps'
-    → states ≡ states' → Held want m states' versions' stamps' → Held want m states versions stamps
-held-eq {want} {m} {states} {states'} {versions} {versions'} {stamps} e f g h =
-    subst (λ (l : List State). Held want m l versions stamps) (sym g)
-    (subst (λ (l : List ℕ). Held want m states' l stamps) (sym e) (subst (λ (l : List ℕ). Held want m states' versions' l) (sym f) h))
 
 -- one more state is filled in
 pub hold-more : {want : ℕ → State} {a stamp : ℕ} {states : List State} {versions stamps : List ℕ} {s : State} → Held want a states versions stamps

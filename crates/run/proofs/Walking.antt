@@ -2,7 +2,7 @@
 -- Assumes nothing.
 use mathlib.Core.Path.{_≡_, refl, sym, ap, ap₂, subst, _∙_}
 use mathlib.Core.Bool.{Bool, false}
-use mathlib.Core.List.{List, [], _++_}
+use mathlib.Core.List.{List, _++_}
 use mathlib.Core.Logic.{_⊎_}
 use Prim.Native.Nat.{ℕ, _+_, _-_, _≤_, _<_}
 use native.Mathlib.Numerals.{add-one}
@@ -67,6 +67,17 @@ room file path {i} in-i fits =
 
 -- ---- one vertex
 
+-- an array's next state, from what the code has
+pub relabelled-is : (file : List ℕ) (a v : ℕ) {letter keep : ℕ} {r : ArrayRecord} {x : Action} {s s' t n : State} {ends : Bool} → r ≡ arrayOf file a
+    → x ≡ event file a v → letter ≡ letterByte (useOf file a v) → keep ≡ keptOf file a v → s ≡ s' → ends ≡ eqb v (exit file)
+    → t ≡ relabelled r x (useOfByte letter) keep s → n ≡ left r ends t → n ≡ relabelledAt file a v s'
+unfolding relabelledAt
+relabelled-is file a v e1 e2 e3 e4 e5 e6 e7 e8 = e8 ∙ rw (e7, e1, e2, e3, letter-use, e4, e5, e6)
+
+-- the states after the labels of vertex v, and the exit, from states and stamps before them
+abbrev pub relabelledFrom : List ℕ → ℕ → List State → List ℕ → ℕ → State
+relabelledFrom file v states stamps b = relabelledAt file b v (settled (getD stamps b 0) (stateOf states b))
+
 records-same : (x : Action) (step a : ℕ) {version version' stamp stamp' : ℕ} → (T (isReference x) → (version ≡ version') × (stamp ≡ stamp'))
     → recordsAt x step a version stamp ≡ recordsAt x step a version' stamp'
 records-same Nothing step a h = refl
@@ -129,7 +140,7 @@ module _ (file path : List ℕ) (well : WellFormed file) (accepted : pathCheck f
         at-remap = λ t g. subst (λ (x : Action). versionOf x < 16) g (event-below well in-b v);
       }
 
-      relabelled-next : relabelledAt file v states after b ≡ stateAfter file path b (i + 1)
+      relabelled-next : relabelledAt file b v after-b ≡ stateAfter file path b (i + 1)
       unfolding relabelledAt stateAfter
       relabelled-next =
           let a = arrayOf file b in
@@ -142,7 +153,7 @@ module _ (file path : List ℕ) (well : WellFormed file) (accepted : pathCheck f
           ∙ ap (visited a x u keep (i + 1)) (is b in-b))
           ∙ ap (stateAfter file path b) (sym (add-one i))
 
-      unlabelled : labels ≡ false → eqb v (exit file) ≡ false → relabelledAt file v states after b ≡ after-b
+      unlabelled : labels ≡ false → eqb v (exit file) ≡ false → relabelledAt file b v after-b ≡ after-b
       unfolding relabelledAt labelled
       unlabelled e f =
           ap (λ (t : Bool). left (arrayOf file b) t (relabelled (arrayOf file b) (event file b v) (useOf file b v) (keptOf file b v) after-b)) f
@@ -157,7 +168,7 @@ module _ (file path : List ℕ) (well : WellFormed file) (accepted : pathCheck f
       stand = λ b in-b. record { is = sym (unlabelled b in-b e f) ∙ relabelled-next b in-b; version-is = held .stand b in-b .version-is };
     }
 
-    pub held-labelled : {states' : List State} {versions' stamps' : List ℕ} → Held (relabelledAt file v states after) (arrays file) states' versions' stamps'
+    pub held-labelled : {states' : List State} {versions' stamps' : List ℕ} → Held (relabelledFrom file v states after) (arrays file) states' versions' stamps'
         → Held (λ b. stateAfter file path b (i + 1)) (arrays file) states' versions' stamps'
     held-labelled = held-as relabelled-next
 
@@ -203,11 +214,3 @@ module _ {file path old : List ℕ} {at i : ℕ} {states : List State} {versions
   last-current well accepted b in-b =
       settled-before (getD stamps b 0) (stateOf states b)
       (subst Current (sym (w .held .stand b in-b .is)) (state-fits file path well accepted b i in-b (w .on-path) .current))
-
--- the definition's next state, from what the code has
-pub relabelled-is : (file : List ℕ) (v b : ℕ) (states : List State) (stamps : List ℕ) {letter keep : ℕ} {r : ArrayRecord} {x : Action} {s t n : State} {ends : Bool}
-    → r ≡ arrayOf file b → x ≡ event file b v → letter ≡ letterByte (useOf file b v) → keep ≡ keptOf file b v
-    → s ≡ settled (getD stamps b 0) (stateOf states b) → ends ≡ eqb v (exit file)
-    → t ≡ relabelled r x (useOfByte letter) keep s → n ≡ left r ends t → n ≡ relabelledAt file v states stamps b
-unfolding relabelledAt
-relabelled-is file v b states stamps e1 e2 e3 e4 e5 e6 e7 e8 = e8 ∙ rw (e7, e1, e2, e3, letter-use, e4, e5, e6)

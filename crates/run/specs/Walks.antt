@@ -53,9 +53,7 @@ pub record Referred (file : List ℕ) (v step : ℕ) (versions before old : List
   pub others : (b : ℕ) → m ≤ b → getD after b 0 ≡ getD before b 0
   pub no-label : labels ≡ false → (b : ℕ) → b < m → isRemap (event file b v) ≡ false
 
--- the labels of vertex v, and the exit
-unfoldable pub relabelledAt : List ℕ → ℕ → List State → List ℕ → ℕ → State
+-- an array's label at vertex v, and the exit
+unfoldable pub relabelledAt : List ℕ → ℕ → ℕ → State → State
 unfolding arrayOf event useOf keptOf labelled
-relabelledAt file v states stamps b =
-    left (arrayOf file b) (eqb v (exit file))
-    (relabelled (arrayOf file b) (event file b v) (useOf file b v) (keptOf file b v) (settled (getD stamps b 0) (stateOf states b)))
+relabelledAt file a v s = left (arrayOf file a) (eqb v (exit file)) (relabelled (arrayOf file a) (event file a v) (useOf file a v) (keptOf file a v) s)

@@ -140,42 +140,29 @@ fn refer(
     Row { bytes, labels }
 }
 
-// The labels of vertex v, and the exit.
+// One array's state after its label at vertex v, if it has one, and the exit. The stamp is that of its current copy.
 fn relabel(
     file: &[u8],
     h: Header,
-    v: usize,
     letters: &[u8],
     kept: &[u16],
-    states: [State; ArrayRecord::MAX],
-    versions: &mut [u8; ArrayRecord::MAX],
-    stamps: &mut [u16; ArrayRecord::MAX],
-) -> [State; ArrayRecord::MAX]
+    a: usize,
+    v: usize,
+    s: State,
+    stamp: u16,
+) -> State
     requires { ⌜ ReadAs (now file) h ⌝ }
-    requires { ⌜ v < vertices (now file) ⌝ }
+    requires { ⌜ (a < arrays (now file)) × (v < vertices (now file)) ⌝ }
     requires { ⌜ Tabled (now file) (now letters) (now kept) ⌝ }
-    requires { ⌜ length states ≡ 8 ⌝ }
-    requires { ⌜ length (now versions) ≡ 8 ⌝ }
-    requires { ⌜ length (now stamps) ≡ 8 ⌝ }
-    requires { ⌜ ((b : ℕ) → b < arrays (now file) → Visits (event (now file) b v) (settled (getD (now stamps) b 0) (stateOf states b))) ⌝ }
-    ensures { λ r. ⌜ Held (relabelledAt (now (file .entry)) v states (now (stamps .entry))) (arrays (now (file .entry))) r (now (versions .exit)) (now (stamps .exit)) ⌝ }
+    requires { ⌜ Visits (event (now file) a v) (settled stamp s) ⌝ }
+    ensures { λ r. ⌜ r ≡ relabelledAt (now (file .entry)) a v (settled stamp s) ⌝ }
+    ensures { λ r. ⌜ Current r ⌝ }
 {
-    let mut new = states;
-    let m = h.arrays;
-    let mut a = 0;
-    while a < m {
-        let r = array::record_of(file, a);
-        let x = event::at(file, h, r, a, v);
-        let place = a * h.vertices + v;
-        let s = state::settled(new[a], stamps[a]);
-        let t = state::relabelled(s, r, x, letters[place], kept[place]);
-        let u = state::leave(t, r, v == h.vertices - 1);
-        versions[a] = u.current;
-        stamps[a] = state::current_stamp(u);
-        new[a] = u;
-        a += 1;
-    }
-    new
+    let r = array::record_of(file, a);
+    let x = event::at(file, h, r, a, v);
+    let place = a * h.vertices + v;
+    let t = state::relabelled(state::settled(s, stamp), r, x, letters[place], kept[place]);
+    state::leave(t, r, v == h.vertices - 1)
 }
 
 // The states with the stamps of their current copies in them.
@@ -219,28 +206,27 @@ fn follow(
     let mut stamps = [0u16; ArrayRecord::MAX];
     let mut states = start_all(file, h, &mut versions, &mut stamps);
     let n = path::count(path);
+    let m = h.arrays;
     let mut at = 0;
     let mut i = 0;
     while i < n {
         let v = path::vertex(path, i);
         let row = refer(file, h, v, i + 1, &versions, &mut stamps, &mut out[at..]);
         at += row.bytes;
-        if row.labels | (v == h.vertices - 1) {
-            let next = relabel(
-                file,
-                h,
-                v,
-                letters,
-                kept,
-                states,
-                &mut versions,
-                &mut stamps,
-            );
-            states = next;
-        }
         i += 1;
+        if row.labels | (v == h.vertices - 1) {
+            let mut a = 0;
+            while a < m {
+                let s = states[a];
+                let t = relabel(file, h, letters, kept, a, v, s, stamps[a]);
+                versions[a] = t.current;
+                stamps[a] = state::current_stamp(t);
+                states[a] = t;
+                a += 1;
+            }
+        }
     }
-    settle_all(states, h.arrays, stamps)
+    settle_all(states, m, stamps)
 }
 
 // Writes the report.
