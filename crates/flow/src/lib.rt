@@ -1,5 +1,7 @@
 // One solver on version sets over the edges of a routine: bit k is in the set of a vertex if a path from it, through vertices that
 // pass k, arrives at a vertex that gives k. It goes by rounds over the edges until a round alters no set.
+pub mod order;
+
 ghost use mathlib.Core.Path.{_≡_};
 ghost use mathlib.Core.Bool.{cond};
 ghost use Prim.Native.Nat.{_<_};
