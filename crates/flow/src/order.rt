@@ -33,7 +33,7 @@ fn number(i: u16) -> usize {
     i as usize
 }
 
-// The lowest vertex with an edge to each vertex. Edges rise by the vertex that they leave: the last store is the lowest.
+// The lowest vertex with an edge to each vertex, in a table of zeros. Edges rise by the vertex that they leave: the last store is the lowest.
 fn fill_lowest(edges: &[u8], lowest: &mut [u8; 256]) {
     let count = edges.len() / 4;
     for j in 0..count {
@@ -42,20 +42,20 @@ fn fill_lowest(edges: &[u8], lowest: &mut [u8; 256]) {
     }
 }
 
-// Whether no vertex has a higher one in the table.
-fn none_higher(lowest: &[u8; 256]) -> bool {
-    let mut higher = false;
-    for v in 0..256 {
-        higher = (lowest[v] > v as u8) | higher;
+// Whether each vertex but the entry has a lower one in the table.
+fn all_lower(lowest: &[u8; 256]) -> bool {
+    let mut lower = true;
+    for v in 1..256 {
+        lower = (lowest[v] < v as u8) & lower;
     }
-    !higher
+    lower
 }
 
 // Whether each vertex that edges enter is entered from a lower one: a round by rising number then carries a fact from the entry to all.
 fn rises(edges: &[u8]) -> bool {
     let mut lowest = [0u8; 256];
     fill_lowest(edges, &mut lowest);
-    none_higher(&lowest)
+    all_lower(&lowest)
 }
 
 // The first edge of each vertex that edges leave.
@@ -121,29 +121,15 @@ fn settle(
     left
 }
 
-// Follows edge i from v: to its end, if that is new, else nowhere.
-fn follow(
-    edges: &[u8],
-    start: &[u16; 256],
-    next: &mut [u16; 256],
-    parent: &mut [u8; 256],
-    v: u8,
-    i: usize,
-) -> u8
-    requires { ⌜ i < edgeCount (now edges) ⌝ }
-{
-    let to = edges[4 * i + 2];
-    let w = index(to);
-    if next[w] != NEW {
-        return v;
-    }
-    next[w] = start[w];
-    parent[w] = v;
-    to
+// Goes from v to a new vertex. The search takes up v again at edge i.
+fn enter(next: &mut [u16; 256], parent: &mut [u8; 256], v: u8, i: u16, to: u8) {
+    next[index(v)] = i;
+    next[index(to)] = 0;
+    parent[index(to)] = v;
 }
 
-// Depth-first search from a root. The edges of a vertex that is finished take the highest slots before `slot` that are
-// left. Returns the lowest that is taken.
+// Depth-first search from a root. The edges of a vertex that is finished take the highest slots before `slot` that are left. Returns the
+// lowest that is taken.
 fn search(
     edges: &[u8],
     start: &[u16; 256],
@@ -161,24 +147,30 @@ fn search(
 {
     let mut left = slot;
     let mut v = root;
+    let mut i = number(start[index(root)]);
     for step in 0..edges.len() / 4 + 256 {
-        let at = index(v);
-        let i = number(next[at]);
         if leaves(edges, i, v) {
-            next[at] = (i + 1) as u16;
-            v = follow(edges, start, next, parent, v, i);
+            let to = edges[4 * i + 2];
+            i += 1;
+            if next[index(to)] != NEW {
+                continue;
+            }
+            enter(next, parent, v, i as u16, to);
+            v = to;
+            i = number(start[index(to)]);
             continue;
         }
-        left = settle(edges, order, place, v, number(start[at]), left);
+        left = settle(edges, order, place, v, number(start[index(v)]), left);
         if v == root {
             return left;
         }
-        v = parent[at];
+        v = parent[index(v)];
+        i = number(next[index(v)]);
     }
     left
 }
 
-// Searches from each vertex that is new, the entry first.
+// Searches from each vertex that is new, the entry first, until all edges are settled.
 fn search_all(
     edges: &[u8],
     start: &[u16; 256],
@@ -192,10 +184,13 @@ fn search_all(
 {
     let mut slot = edges.len() / 4;
     for v in 0..256 {
+        if slot == 0 {
+            return;
+        }
         if next[v] != NEW {
             continue;
         }
-        next[v] = start[v];
+        next[v] = 0;
         slot = search(edges, start, next, parent, order, place, v as u8, slot);
     }
 }

@@ -1,8 +1,8 @@
 -- `flow::order::by_search` meets its contract: the order starts as the identity, and every edge has its place after the searches.
 -- Assumes nothing.
+use borrow.Author.Needs.{needs}
 use Rattle.flow.specs.Paths.{edgeCount}
 use Rattle.flow.proofs.Turns.{identity-placed, placed-order}
-use borrow.Author.Needs.{needs}
 use Rattle.flow.proofs.order.by_search.Statement.{statement}
 use Rattle.flow.proofs.order.by_search.Tie as tie
 

@@ -2,10 +2,10 @@
 -- Assumes nothing.
 use mathlib.Core.Path.{subst}
 use Prim.Native.Nat.{ℕ}
+use borrow.Author.Needs.{needs}
 use Rattle.flow.specs.Order.{Identity}
 use Rattle.flow.specs.Paths.{edgeCount}
 use Rattle.flow.proofs.Turns.{identity-order}
-use borrow.Author.Needs.{needs}
 use Rattle.flow.proofs.order.fill.Statement.{statement}
 use Rattle.flow.proofs.order.fill.Tie as tie
 

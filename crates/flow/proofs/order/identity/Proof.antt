@@ -1,11 +1,11 @@
 -- `flow::order::identity` meets its contract. The invariant: the first j numbers stand at their own places. The measure is what is left.
 -- Assumes nothing.
-use mathlib.Core.Path.{_≡_, refl, _∙_}
+use mathlib.Core.Path.{_≡_, refl}
 use Prim.Native.Nat.{ℕ, _-_, _≤_, _<_}
 use native.Mathlib.Omega.{arith}
+use borrow.Author.Needs.{needs}
 use lib.ListN.{length, getD, length-set}
 use Rattle.flow.proofs.Turns.{identity-more}
-use borrow.Author.Needs.{needs}
 use Rattle.flow.proofs.order.identity.Statement.{statement}
 use Rattle.flow.proofs.order.identity.Tie as tie
 

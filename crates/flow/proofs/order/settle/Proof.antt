@@ -1,12 +1,12 @@
-use mathlib.Core.Path.{sym, subst}
-use native.Mathlib.Omega.{arith}
-use borrow.Author.Tests.{not-false}
 -- `flow::order::settle` meets its contract. The invariant: every edge has its place. The measure is the slots that are left.
 -- Assumes nothing.
+use mathlib.Core.Path.{sym, subst}
 use Prim.Native.Nat.{ℕ, _≤_, _<_}
+use native.Mathlib.Omega.{arith}
+use borrow.Author.Tests.{not-false}
+use borrow.Author.Needs.{needs}
 use Rattle.flow.specs.Order.{Placed}
 use Rattle.flow.specs.Paths.{edgeCount}
-use borrow.Author.Needs.{needs}
 use Rattle.flow.proofs.order.settle.Statement.{statement}
 use Rattle.flow.proofs.order.settle.Tie as tie
 

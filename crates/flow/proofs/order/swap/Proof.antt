@@ -2,9 +2,9 @@
 -- Assumes nothing.
 use Prim.Native.Nat.{_<_}
 use native.Mathlib.Omega.{arith}
+use borrow.Author.Needs.{needs}
 use lib.ListN.{length, getD, length-set}
 use Rattle.flow.proofs.Turns.{swapped}
-use borrow.Author.Needs.{needs}
 use Rattle.flow.proofs.order.swap.Statement.{statement}
 use Rattle.flow.proofs.order.swap.Tie as tie
 
