@@ -1,5 +1,6 @@
-pub mod Tests
+pub mod Exact
 pub mod Paths
 pub mod Rounds
-pub mod Exact
 pub mod Rows
+pub mod Tests
+pub mod Turns

@@ -18,32 +18,32 @@ use Rattle.words.proofs.Tables.{table-length, table-at}
 -- the edges by their numbers are an order
 pub natural-order : (c : ℕ) → Order c (natural c)
 natural-order c = record {
-  size = table-length (λ i. i) c;
+  all = table-length (λ i. i) c;
   within = λ j h. subst (λ (x : ℕ). x < c) (sym (table-at (λ i. i) c j h)) h;
-  every = λ i h. record { place = i; listed = h; is = table-at (λ i. i) c i h };
+  turn = λ i h. (i, h, table-at (λ i. i) c i h);
 }
 
 module _ {c : ℕ} {order : List ℕ} (ord : Order c order) where
   -- each turn takes an edge
   pub turn-lt : (along : Bool) (j : ℕ) → j < length order → turn order along j < c
-  turn-lt true j h = ord .within _ (omega (arith, ord .size))
-  turn-lt false j h = ord .within j (omega (arith, ord .size))
+  turn-lt true j h = ord .within _ (omega (arith, ord .all))
+  turn-lt false j h = ord .within j (omega (arith, ord .all))
 
   -- when edge i is taken
   abbrev pub when : (along : Bool) (i : ℕ) → i < c → ℕ
-  when true i h = length order - 1 - ord .every i h .place
-  when false i h = ord .every i h .place
+  when true i h = length order - 1 - ord .turn i h .0
+  when false i h = ord .turn i h .0
 
   pub when-lt : (along : Bool) (i : ℕ) (h : i < c) → when along i h < length order
-  when-lt true i h = omega (arith, ord .size, ord .every i h .listed)
-  when-lt false i h = omega (arith, ord .size, ord .every i h .listed)
+  when-lt true i h = omega (arith, ord .all, ord .turn i h .1)
+  when-lt false i h = omega (arith, ord .all, ord .turn i h .1)
 
   -- every edge has its turn
   pub turn-when : (along : Bool) (i : ℕ) (h : i < c) → turn order along (when along i h) ≡ i
   turn-when true i h =
-      let back : length order - 1 - (length order - 1 - ord .every i h .place) ≡ ord .every i h .place = omega (arith, ord .size, ord .every i h .listed) in
-      ap (λ (x : ℕ). getD order x 0) back ∙ ord .every i h .is
-  turn-when false i h = ord .every i h .is
+      let back : length order - 1 - (length order - 1 - ord .turn i h .0) ≡ ord .turn i h .0 = omega (arith, ord .all, ord .turn i h .1) in
+      ap (λ (x : ℕ). getD order x 0) back ∙ ord .turn i h .2
+  turn-when false i h = ord .turn i h .2
 
 -- the end whose set grows is a vertex
 pub near-lt : {es : List ℕ} {n : ℕ} → Ends es n → (along : Bool) (i : ℕ) → i < edgeCount es → near es along i < n

@@ -1,3 +1,3 @@
-pub mod Paths
 pub mod Order
+pub mod Paths
 pub mod Solver

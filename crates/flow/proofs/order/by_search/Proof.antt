@@ -1,0 +1,45 @@
+-- `flow::order::by_search` meets its contract: the order starts as the identity, and every edge has its place after the searches.
+-- Assumes nothing.
+use borrow.Author.Needs.{needs}
+use Rattle.flow.specs.Paths.{edgeCount}
+use Rattle.flow.proofs.Turns.{identity-placed, placed-order}
+use Rattle.flow.proofs.order.by_search.Statement.{statement}
+use Rattle.flow.proofs.order.by_search.Tie as tie
+
+slice-aggregate-identity : tie.Need-slice-aggregate-identity
+slice-aggregate-identity c = search needs
+
+identity-requires : tie.Need-identity-requires
+identity-requires c κs = search needs
+
+fill-starts-requires : tie.Need-fill-starts-requires
+fill-starts-requires c κs = search needs
+
+slice-aggregate-search-all : tie.Need-slice-aggregate-search-all
+slice-aggregate-search-all c = search needs
+
+search-all-requires : tie.Need-search-all-requires
+search-all-requires c κs =
+    let i = c .before .before .before .before .before .before .before .before in
+    let s = i .before .before .before .before in
+    identity-placed (edgeCount (s .args .edges .now)) (s .args .order .now) (i .identity .last .0) (s .pre .0) (s .pre .1) (i .identity .ensures)
+
+same-length : tie.Need-same-length
+same-length c = search needs
+
+returns : tie.Need-returns
+returns c =
+    let x = c .before .before .before .search-all in
+    placed-order _ _ _ (x .ensures)
+
+pub by-search-spec : {M : Type 1} → statement M
+by-search-spec =
+    tie.close
+    (tie.spec
+    slice-aggregate-identity
+    identity-requires
+    fill-starts-requires
+    slice-aggregate-search-all
+    search-all-requires
+    same-length
+    returns)
