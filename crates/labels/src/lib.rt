@@ -5,7 +5,7 @@ pub mod checks;
 pub mod event;
 pub mod events;
 mod kept;
-mod pass;
+pub mod pass;
 mod reaching;
 pub mod tables;
 mod uses;

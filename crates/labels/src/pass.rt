@@ -5,7 +5,17 @@ ghost use Prim.Native.Nat.{_*_};
 ghost use lib.ListN.{length};
 ghost use Rattle.labels.specs.Routines.{ReadAs, Edges};
 ghost use Rattle.labels.specs.Tables.{Pass};
-ghost use Rattle.routine.specs.Layout.{vertices};
+ghost use Rattle.routine.specs.Layout.{vertices, edges};
+
+// The order in which the passes take the edges.
+pub fn order(file: &[u8], h: Header, order: &mut [u16])
+    requires { ⌜ ReadAs (now file) h ⌝ }
+    requires { ⌜ length (now order) ≡ edges (now file) ⌝ }
+    ensures { λ _. ⌜ Edges (now (file .entry)) (now (order .exit)) ⌝ }
+{
+    let at = h.edges_at();
+    flow::order::fill(&file[at..], order);
+}
 
 // Fills in the sets by what each vertex gives and passes, along the edges or against them.
 pub fn solve(

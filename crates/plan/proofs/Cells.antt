@@ -1,26 +1,29 @@
 -- What the tables hold for array a and vertex v, and the bytes of the label that is made of it.
 -- Assumes nothing.
-use mathlib.Core.Path.{_≡_, ap, ap₂, _∙_}
-use mathlib.Core.Bool.{true, false, cond}
+use mathlib.Core.Path.{_≡_, refl, sym, ap, ap₂, subst, _∙_}
+use mathlib.Core.Bool.{Bool, true, false, cond, true≢false}
 use mathlib.Core.List.{List, [], _++_}
-use Prim.Native.Nat.{ℕ, _+_, _*_, _<_}
-use native.Mathlib.Nat.{mul-le-mul}
+use Prim.Native.Nat.{ℕ, _+_, _*_, _<_, _^_}
 use native.Mathlib.Omega.{arith}
+use borrow.Author.Tests.{eqb-true, eq-eqb, ne-eqb}
+use lib.Dec.{eqb}
 use lib.ListN.{length, getD, drop}
+use lib.Pow.{pow-pos}
 use Rattle.labels.specs.declared.Use.{Use}
-use Rattle.labels.specs.Events.{event, isLabel, version, versionOf}
+use Rattle.labels.specs.Events.{event, isLabel, version, versionOf, versionSet}
 use Rattle.labels.specs.Kept.{keptOf}
-use Rattle.labels.specs.Letters.{letterByte, useOfByte, letterTable}
+use Rattle.labels.specs.Letters.{letterByte, useOfByte}
 use Rattle.labels.specs.Reaching.{reachingOf}
+use Rattle.labels.specs.Routines.{ReadAs}
 use Rattle.labels.specs.Uses.{useOf, isN}
 use Rattle.plan.specs.Plan.{leavingByte, eightBytes, labelBytes, labelEntry}
-use Rattle.plan.specs.Tables.{Tabled}
-use Rattle.routine.specs.declared.action.Action.{Action}
+use Rattle.plan.specs.Tables.{Tabled, Leaving}
 use Rattle.routine.specs.declared.header.Header.{Header}
 use Rattle.routine.specs.Layout.{arrays, vertices}
-use Rattle.routine.specs.Reader.{Heads}
+use Rattle.sets.specs.Sets.{has}
+use Rattle.sets.proofs.Laws.{has-single}
 use Rattle.words.specs.Tables.{wrote}
-use Rattle.labels.proofs.Cells.{inside, entry, letter-entry}
+use Rattle.labels.proofs.Cells.{few-cells, in-table}
 use Rattle.labels.proofs.Letters.{letter-use}
 
 -- ---- an entry's bytes
@@ -36,38 +39,70 @@ module _ (file : List ℕ) (v a : ℕ) where
 
 -- ---- the tables' entries
 
-pub record Within (at : ℕ) (letters reaching kept : List ℕ) : Type 0 where
+pub record Within (at : ℕ) (versions letters reaching kept : List ℕ) : Type 0 where
   pub few : at < 2048
+  pub in-versions : at < length versions
   pub in-letters : at < length letters
   pub in-reaching : at < length reaching
   pub in-kept : at < length kept
 
-module _ {h : Header} {file : List ℕ} (is : Heads h file) {a v : ℕ} (in-a : a < arrays file) (in-v : v < vertices file) where
-  module _ {letters reaching kept : List ℕ} (t : Tabled file letters reaching kept) where
-    pub within : Within (a * h .vertices + v) letters reaching kept
-    unfolding letterTable
+-- a version stands in the cell of a label, and in no other
+pub no-version : (file : List ℕ) (a v : ℕ) {x : ℕ} → x ≡ versionSet (event file a v) → x ≡ 0 → isLabel file a v ≡ false
+no-version file a v {x} e z = by (isLabel file a v) refl
+  where
+    by : (b : Bool) → isLabel file a v ≡ b → b ≡ false
+    by true l = absurd (omega (arith, pow-pos (versionOf (event file a v)), sym z ∙ e ∙ ap (λ (b : Bool). cond b (2 ^ versionOf (event file a v)) 0) l))
+    by false l = refl
+
+pub some-version : (file : List ℕ) (a v : ℕ) {x : ℕ} → x ≡ versionSet (event file a v) → (x ≡ 0 → ⊥) → isLabel file a v ≡ true
+some-version file a v {x} e z = by (isLabel file a v) refl
+  where
+    by : (b : Bool) → isLabel file a v ≡ b → b ≡ true
+    by true l = refl
+    by false l = absurd (z (e ∙ ap (λ (b : Bool). cond b (2 ^ versionOf (event file a v)) 0) l))
+
+-- 1 where the cell has a version
+pub counts-label : (file : List ℕ) (a v : ℕ) {x : ℕ} → x ≡ versionSet (event file a v) → cond (eqb x 0) 0 1 ≡ cond (isLabel file a v) 1 0
+counts-label file a v {x} e = by (isLabel file a v) refl
+  where
+    by : (b : Bool) → isLabel file a v ≡ b → cond (eqb x 0) 0 1 ≡ cond b 1 0
+    by true l = ap (λ (b : Bool). cond b 0 1) (ne-eqb x 0 (λ z. true≢false (sym l ∙ no-version file a v e z)))
+    by false l = ap (λ (b : Bool). cond b 0 1) (eq-eqb x 0 (e ∙ ap (λ (b : Bool). cond b (2 ^ versionOf (event file a v)) 0) l))
+
+-- the leaving byte that a label's version and letter give
+leaving-is : (file : List ℕ) (a v : ℕ) {x letter byte : ℕ} → isLabel file a v ≡ true → x ≡ versionSet (event file a v) → letter ≡ letterByte (useOf file a v)
+    → Leaving x letter byte → byte ≡ leavingByte file a v
+unfolding leavingByte version
+leaving-is file a v {x} {letter} {byte} l e f h = by (isN (useOf file a v)) refl
+  where
+    use-is : useOfByte letter ≡ useOf file a v
+    use-is = ap useOfByte f ∙ letter-use (useOf file a v)
+
+    single : x ≡ 2 ^ versionOf (event file a v)
+    single = e ∙ ap (λ (b : Bool). cond b (2 ^ versionOf (event file a v)) 0) l
+
+    by : (n : Bool) → isN (useOf file a v) ≡ n → byte ≡ cond n 255 (versionOf (event file a v))
+    by true n = h .none (ap isN use-is ∙ n)
+    by false n =
+        sym (eqb-true (versionOf (event file a v)) byte
+        (sym (has-single (versionOf (event file a v)) byte) ∙ ap (λ (m : ℕ). has m byte) (sym single) ∙ h .some (ap isN use-is ∙ n)))
+
+module _ {h : Header} {file : List ℕ} (is : ReadAs file h) {a v : ℕ} (in-a : a < arrays file) (in-v : v < vertices file) where
+  module _ {versions letters reaching kept : List ℕ} (t : Tabled file versions letters reaching kept) where
+    pub within : Within (8 * v + a) versions letters reaching kept
     within = record {
-      few = omega (arith, mul-le-mul {n₁ = a + 1} {m₁ = h .vertices} {n₂ = 8} {m₂ = 256} (omega arith) (omega arith));
-      in-letters = inside is in-a in-v (λ a v. letterByte (useOf file a v)) (t .letters-are);
-      in-reaching = inside is in-a in-v (reachingOf file) (t .reaching-are);
-      in-kept = inside is in-a in-v (keptOf file) (t .kept-are);
+      few = few-cells is in-a in-v;
+      in-versions = in-table is in-a in-v versions (t .versions-are .size);
+      in-letters = in-table is in-a in-v letters (t .letters-are .size);
+      in-reaching = in-table is in-a in-v reaching (t .reaching-are .size);
+      in-kept = in-table is in-a in-v kept (t .kept-are .size);
     }
 
-    letter-is : getD letters (a * h .vertices + v) 0 ≡ letterByte (useOf file a v)
-    letter-is = letter-entry is in-a in-v (t .letters-are)
-
-    leaving-is : {x : Action} → x ≡ event file a v
-        → cond (isN (useOfByte (getD letters (a * h .vertices + v) 0))) 255 (versionOf x) ≡ leavingByte file a v
-    unfolding leavingByte version
-    leaving-is e =
-        ap₂ (λ (u : Use) (x : Action). cond (isN u) 255 (versionOf x)) (ap useOfByte letter-is ∙ letter-use (useOf file a v)) e
-
     -- the label made of the entries is the one that the plan has
-    pub made : {x : Action} {leaving : ℕ} (old : List ℕ) {new : List ℕ}
-        → x ≡ event file a v → leaving ≡ cond (isN (useOfByte (getD letters (a * h .vertices + v) 0))) 255 (versionOf x)
-        → new
-        ≡ eightBytes a (getD letters (a * h .vertices + v) 0) leaving (getD reaching (a * h .vertices + v) 0) (getD kept (a * h .vertices + v) 0)
-        ++ drop 8 old
+    pub made : {leaving : ℕ} (old : List ℕ) {new : List ℕ} → isLabel file a v ≡ true → Leaving (getD versions (8 * v + a) 0) (getD letters (8 * v + a) 0) leaving
+        → new ≡ eightBytes a (getD letters (8 * v + a) 0) leaving (getD reaching (8 * v + a) 0) (getD kept (8 * v + a) 0) ++ drop 8 old
         → new ≡ wrote old (labelBytes file v a)
     unfolding labelBytes
-    made old e f g = g ∙ rw (f ∙ leaving-is e, letter-is, entry is in-a in-v (reachingOf file) (t .reaching-are), entry is in-a in-v (keptOf file) (t .kept-are))
+    made old l f g =
+        let letter = t .letters-are .cells a v in-a in-v in
+        g ∙ rw (leaving-is file a v l (t .versions-are .cells a v in-a in-v) letter f, letter, t .reaching-are .cells a v in-a in-v, t .kept-are .cells a v in-a in-v)

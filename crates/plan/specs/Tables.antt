@@ -1,15 +1,23 @@
--- What the tables of a planned routine hold: a row for each array, an entry for each vertex.
+-- What the tables of a planned routine hold: the cell of vertex v and array a at 8 v + a.
 -- Assumes nothing.
 use mathlib.Core.Path.{_≡_}
+use mathlib.Core.Bool.{true, false}
 use mathlib.Core.List.{List}
 use Prim.Native.Nat.{ℕ}
 use Rattle.labels.specs.Kept.{keptOf}
-use Rattle.labels.specs.Letters.{letterTable}
+use Rattle.labels.specs.Letters.{useOfByte}
 use Rattle.labels.specs.Reaching.{reachingOf}
-use Rattle.routine.specs.Layout.{arrays, vertices}
-use Rattle.words.specs.Tables.{table, rows}
+use Rattle.labels.specs.Tables.{Cells, Versions, Letters}
+use Rattle.labels.specs.Uses.{isN}
+use Rattle.sets.specs.Sets.{has}
 
-pub record Tabled (file letters reaching kept : List ℕ) : Type 0 where
-  pub letters-are : letters ≡ rows (letterTable file) (arrays file)
-  pub reaching-are : reaching ≡ rows (λ a. table (reachingOf file a) (vertices file)) (arrays file)
-  pub kept-are : kept ≡ rows (λ a. table (keptOf file a) (vertices file)) (arrays file)
+pub record Tabled (file versions letters reaching kept : List ℕ) : Type 0 where
+  pub versions-are : Versions file versions
+  pub letters-are : Letters file letters
+  pub reaching-are : Cells file (reachingOf file) reaching
+  pub kept-are : Cells file (keptOf file) kept
+
+-- the leaving byte of a label with this version, as a set, and this letter
+pub record Leaving (version letter byte : ℕ) : Type 0 where
+  pub none : isN (useOfByte letter) ≡ true → byte ≡ 255
+  pub some : isN (useOfByte letter) ≡ false → has version byte ≡ true

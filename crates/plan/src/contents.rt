@@ -1,17 +1,16 @@
 // The plan's contents: for each vertex the index of its first label and how many (document 01, "Plan and report").
 use crate::label::Label;
-use labels::event;
-use routine::array;
 use routine::header::Header;
 ghost use mathlib.Core.Path.{_≡_};
 ghost use mathlib.Core.Bool.{cond};
 ghost use mathlib.Core.List.{_++_};
 ghost use Prim.Native.Nat.{_*_, _≤_, _<_};
-ghost use lib.ListN.{length};
-ghost use Rattle.labels.specs.Events.{isLabel};
+ghost use lib.Dec.{eqb};
+ghost use lib.ListN.{length, getD};
 ghost use Rattle.labels.specs.Routines.{ReadAs};
+ghost use Rattle.labels.specs.Tables.{Versions};
 ghost use Rattle.plan.specs.Plan.{labelsAt, labelCount, planLength, contents};
-ghost use Rattle.routine.specs.Layout.{arrays, vertices};
+ghost use Rattle.routine.specs.Layout.{vertices};
 ghost use Rattle.words.specs.Tables.{wrote};
 ghost use Rattle.words.specs.Words.{bytes16};
 
@@ -20,23 +19,21 @@ pub const ENTRY: usize = 4;
 
 pub const HEAD: usize = 8;
 
-// Whether array a has a label at vertex v, 1 or 0.
-fn label_at(file: &[u8], h: Header, v: usize, a: usize) -> usize
-    requires { ⌜ ReadAs (now file) h ⌝ }
-    requires { ⌜ v < vertices (now file) ⌝ }
-    requires { ⌜ a < arrays (now file) ⌝ }
-    ensures { λ r. ⌜ r ≡ cond (isLabel (now (file .entry)) a v) 1 0 ⌝ }
+// 1 where a cell has a version, else 0.
+fn label_at(versions: &[u16], at: usize) -> usize
+    requires { ⌜ at < length (now versions) ⌝ }
+    ensures { λ r. ⌜ r ≡ cond (eqb (getD (now (versions .entry)) at 0) 0) 0 1 ⌝ }
 {
-    let label = event::is_label(event::at(file, h, array::record_of(file, a), a, v));
-    if label {
-        return 1;
+    if versions[at] == 0 {
+        return 0;
     }
-    0
+    1
 }
 
 // How many labels vertex v has.
-fn labels_at(file: &[u8], h: Header, v: usize) -> usize
+fn labels_at(file: &[u8], h: Header, v: usize, versions: &[u16]) -> usize
     requires { ⌜ ReadAs (now file) h ⌝ }
+    requires { ⌜ Versions (now file) (now versions) ⌝ }
     requires { ⌜ v < vertices (now file) ⌝ }
     ensures { λ r. ⌜ r ≡ labelsAt (now (file .entry)) v ⌝ }
     ensures { λ r. ⌜ r ≤ 8 ⌝ }
@@ -45,15 +42,16 @@ fn labels_at(file: &[u8], h: Header, v: usize) -> usize
     let mut count = 0;
     let mut a = 0;
     while a < m {
-        count += label_at(file, h, v, a);
+        count += label_at(versions, flow::COLUMNS * v + a);
         a += 1;
     }
     count
 }
 
 // How many labels the routine has.
-pub fn label_count(file: &[u8], h: Header) -> usize
+pub fn label_count(file: &[u8], h: Header, versions: &[u16]) -> usize
     requires { ⌜ ReadAs (now file) h ⌝ }
+    requires { ⌜ Versions (now file) (now versions) ⌝ }
     ensures { λ r. ⌜ r ≡ labelCount (now (file .entry)) ⌝ }
     ensures { λ r. ⌜ r ≤ 2048 ⌝ }
 {
@@ -61,18 +59,19 @@ pub fn label_count(file: &[u8], h: Header) -> usize
     let mut count = 0;
     let mut v = 0;
     while v < n {
-        count += labels_at(file, h, v);
+        count += labels_at(file, h, v, versions);
         v += 1;
     }
     count
 }
 
 // The length of the plan.
-pub fn plan_length(file: &[u8], h: Header) -> usize
+pub fn plan_length(file: &[u8], h: Header, versions: &[u16]) -> usize
     requires { ⌜ ReadAs (now file) h ⌝ }
+    requires { ⌜ Versions (now file) (now versions) ⌝ }
     ensures { λ r. ⌜ r ≡ planLength (now (file .entry)) ⌝ }
 {
-    HEAD + ENTRY * h.vertices + Label::SIZE * label_count(file, h)
+    HEAD + ENTRY * h.vertices + Label::SIZE * label_count(file, h, versions)
 }
 
 // Writes one entry.
@@ -88,8 +87,9 @@ fn write_entry(out: &mut [u8], first: usize, count: usize)
 }
 
 // Writes the contents at the front of what is lent.
-pub fn write(file: &[u8], h: Header, out: &mut [u8])
+pub fn write(file: &[u8], h: Header, versions: &[u16], out: &mut [u8])
     requires { ⌜ ReadAs (now file) h ⌝ }
+    requires { ⌜ Versions (now file) (now versions) ⌝ }
     requires { ⌜ 4 * vertices (now file) ≤ length (now out) ⌝ }
     ensures { λ _. ⌜ now (out .exit) ≡ wrote (now (out .entry)) (contents (now (file .entry))) ⌝ }
 {
@@ -97,7 +97,7 @@ pub fn write(file: &[u8], h: Header, out: &mut [u8])
     let mut first = 0;
     let mut v = 0;
     while v < n {
-        let count = labels_at(file, h, v);
+        let count = labels_at(file, h, v, versions);
         let at = ENTRY * v;
         write_entry(&mut out[at..], first, count);
         first += count;

@@ -4,6 +4,8 @@ mod label;
 mod writer;
 
 use labels::checks;
+use labels::events;
+use labels::pass;
 use labels::tables;
 use routine::header::Header;
 use routine::reader;
@@ -12,19 +14,21 @@ use routine::refusal::Refusal;
 use routine::refusal::Reply;
 use routine::refusal::Verdict;
 ghost use mathlib.Core.Path.{_≡_};
-ghost use Prim.Native.Nat.{_*_};
+ghost use Prim.Native.Nat.{_*_, _≤_};
 ghost use lib.ListN.{length};
-ghost use Rattle.labels.specs.Reaching.{reachedSets};
-ghost use Rattle.labels.specs.Routines.{ReadAs};
+ghost use Rattle.labels.specs.Routines.{ReadAs, Edges};
+ghost use Rattle.labels.specs.Tables.{Versions, UseGives, Reached};
 ghost use Rattle.plan.specs.Calls.{PlannedRead, Planned};
 ghost use Rattle.plan.specs.Tables.{Tabled};
-ghost use Rattle.routine.specs.Layout.{arrays, vertices};
+ghost use Rattle.routine.specs.Layout.{vertices, edges};
 
-// The tables of letters, reaching sets and kept sets.
+// The tables of letters, reaching sets and kept sets. `kept` is handed the table of reached vertices.
 fn tabulate(
     file: &[u8],
     h: Header,
-    reached: &[u64],
+    order: &[u16],
+    versions: &[u16],
+    uses: &[u16],
     letters: &mut [u8],
     reaching: &mut [u16],
     kept: &mut [u16],
@@ -32,86 +36,195 @@ fn tabulate(
     passes: &mut [u16],
 )
     requires { ⌜ ReadAs (now file) h ⌝ }
-    requires { ⌜ now reached ≡ reachedSets (now file) ⌝ }
-    requires { ⌜ length (now letters) ≡ arrays (now file) * vertices (now file) ⌝ }
-    requires { ⌜ length (now reaching) ≡ arrays (now file) * vertices (now file) ⌝ }
-    requires { ⌜ length (now kept) ≡ arrays (now file) * vertices (now file) ⌝ }
-    requires { ⌜ length (now gives) ≡ arrays (now file) * vertices (now file) ⌝ }
-    requires { ⌜ length (now passes) ≡ arrays (now file) * vertices (now file) ⌝ }
-    ensures { λ _. ⌜ Tabled (now (file .entry)) (now (letters .exit)) (now (reaching .exit)) (now (kept .exit)) ⌝ }
+    requires { ⌜ Edges (now file) (now order) ⌝ }
+    requires { ⌜ Versions (now file) (now versions) ⌝ }
+    requires { ⌜ UseGives (now file) (now uses) ⌝ }
+    requires { ⌜ length (now letters) ≡ 8 * vertices (now file) ⌝ }
+    requires { ⌜ length (now reaching) ≡ 8 * vertices (now file) ⌝ }
+    requires { ⌜ Reached (now file) (now kept) ⌝ }
+    requires { ⌜ length (now gives) ≡ 8 * vertices (now file) ⌝ }
+    requires { ⌜ length (now passes) ≡ 8 * vertices (now file) ⌝ }
+    ensures { λ _. ⌜ Tabled (now (file .entry)) (now (versions .entry)) (now (letters .exit)) (now (reaching .exit)) (now (kept .exit)) ⌝ }
 {
-    tables::letters(file, h, letters, gives, passes, kept);
-    tables::reaching(file, h, reached, letters, reaching, gives, passes);
-    tables::kept(file, h, letters, kept, gives, passes);
+    tables::letters(file, h, order, uses, letters, reaching, passes);
+    tables::reaching(
+        file, h, order, versions, kept, letters, reaching, gives, passes,
+    );
+    tables::kept(
+        file, h, order, versions, letters, kept, gives, passes,
+    );
 }
 
-// Plans a routine that was read. `reached` holds an entry for each vertex, the other tables one for each array and vertex.
+// Plans a routine whose edges have an order and whose events are in tables.
+fn plan_events(
+    file: &[u8],
+    h: Header,
+    out: &mut [u8],
+    order: &[u16],
+    versions: &[u16],
+    uses: &[u16],
+    letters: &mut [u8],
+    reaching: &mut [u16],
+    kept: &mut [u16],
+    gives: &mut [u16],
+    passes: &mut [u16],
+) -> Reply
+    requires { ⌜ ReadAs (now file) h ⌝ }
+    requires { ⌜ Edges (now file) (now order) ⌝ }
+    requires { ⌜ Versions (now file) (now versions) ⌝ }
+    requires { ⌜ UseGives (now file) (now uses) ⌝ }
+    requires { ⌜ length (now letters) ≡ 8 * vertices (now file) ⌝ }
+    requires { ⌜ length (now reaching) ≡ 8 * vertices (now file) ⌝ }
+    requires { ⌜ length (now kept) ≡ 8 * vertices (now file) ⌝ }
+    requires { ⌜ length (now gives) ≡ 8 * vertices (now file) ⌝ }
+    requires { ⌜ length (now passes) ≡ 8 * vertices (now file) ⌝ }
+    ensures { λ r. ⌜ PlannedRead (now (file .entry)) (now (out .entry)) r (now (out .exit)) ⌝ }
+{
+    let checked = checks::check(
+        file, h, order, versions, uses, kept, reaching, gives, passes,
+    );
+    if let Verdict::Failed(r) = checked {
+        return Reply::Denied(r);
+    }
+    let needed = contents::plan_length(file, h, versions);
+    if out.len() < needed {
+        return Reply::Denied(Refusal::ShortPlanBuffer { needed });
+    }
+    tabulate(
+        file, h, order, versions, uses, letters, reaching, kept, gives, passes,
+    );
+    writer::write(file, h, versions, letters, reaching, kept, out);
+    Reply::Written(needed)
+}
+
+// Plans a routine that was read. `order` holds an entry for each edge, the other tables eight for each vertex.
 fn plan_with(
     file: &[u8],
     h: Header,
     out: &mut [u8],
+    order: &mut [u16],
+    versions: &mut [u16],
+    uses: &mut [u16],
     letters: &mut [u8],
     reaching: &mut [u16],
     kept: &mut [u16],
-    reached: &mut [u64],
     gives: &mut [u16],
     passes: &mut [u16],
 ) -> Reply
     requires { ⌜ ReadAs (now file) h ⌝ }
-    requires { ⌜ length (now letters) ≡ arrays (now file) * vertices (now file) ⌝ }
-    requires { ⌜ length (now reaching) ≡ arrays (now file) * vertices (now file) ⌝ }
-    requires { ⌜ length (now kept) ≡ arrays (now file) * vertices (now file) ⌝ }
-    requires { ⌜ length (now reached) ≡ vertices (now file) ⌝ }
-    requires { ⌜ length (now gives) ≡ arrays (now file) * vertices (now file) ⌝ }
-    requires { ⌜ length (now passes) ≡ arrays (now file) * vertices (now file) ⌝ }
+    requires { ⌜ length (now order) ≡ edges (now file) ⌝ }
+    requires { ⌜ length (now versions) ≡ 8 * vertices (now file) ⌝ }
+    requires { ⌜ length (now uses) ≡ 8 * vertices (now file) ⌝ }
+    requires { ⌜ length (now letters) ≡ 8 * vertices (now file) ⌝ }
+    requires { ⌜ length (now reaching) ≡ 8 * vertices (now file) ⌝ }
+    requires { ⌜ length (now kept) ≡ 8 * vertices (now file) ⌝ }
+    requires { ⌜ length (now gives) ≡ 8 * vertices (now file) ⌝ }
+    requires { ⌜ length (now passes) ≡ 8 * vertices (now file) ⌝ }
     ensures { λ r. ⌜ PlannedRead (now (file .entry)) (now (out .entry)) r (now (out .exit)) ⌝ }
 {
-    let checked = checks::check(file, h, kept, reached, gives, passes);
-    if let Verdict::Failed(r) = checked {
-        return Reply::Denied(r);
-    }
-    let needed = contents::plan_length(file, h);
-    if out.len() < needed {
-        return Reply::Denied(Refusal::ShortPlanBuffer { needed });
-    }
-    tabulate(file, h, reached, letters, reaching, kept, gives, passes);
-    writer::write(file, h, letters, reaching, kept, out);
-    Reply::Written(needed)
+    pass::order(file, h, order);
+    events::tabulate(file, h, versions, uses);
+    plan_events(
+        file, h, out, order, versions, uses, letters, reaching, kept, gives, passes,
+    )
 }
 
-// The same with work slices that are large enough for every routine.
+// The same with work slices that are large enough.
 fn plan_within(
     file: &[u8],
     h: Header,
     out: &mut [u8],
+    order: &mut [u16],
+    versions: &mut [u16],
+    uses: &mut [u16],
     letters: &mut [u8],
     reaching: &mut [u16],
     kept: &mut [u16],
-    reached: &mut [u64],
     gives: &mut [u16],
     passes: &mut [u16],
 ) -> Reply
     requires { ⌜ ReadAs (now file) h ⌝ }
-    requires { ⌜ length (now letters) ≡ 2048 ⌝ }
-    requires { ⌜ length (now reaching) ≡ 2048 ⌝ }
-    requires { ⌜ length (now kept) ≡ 2048 ⌝ }
-    requires { ⌜ length (now reached) ≡ 256 ⌝ }
-    requires { ⌜ length (now gives) ≡ 2048 ⌝ }
-    requires { ⌜ length (now passes) ≡ 2048 ⌝ }
+    requires { ⌜ edges (now file) ≤ length (now order) ⌝ }
+    requires { ⌜ 8 * vertices (now file) ≤ length (now versions) ⌝ }
+    requires { ⌜ 8 * vertices (now file) ≤ length (now uses) ⌝ }
+    requires { ⌜ 8 * vertices (now file) ≤ length (now letters) ⌝ }
+    requires { ⌜ 8 * vertices (now file) ≤ length (now reaching) ⌝ }
+    requires { ⌜ 8 * vertices (now file) ≤ length (now kept) ⌝ }
+    requires { ⌜ 8 * vertices (now file) ≤ length (now gives) ⌝ }
+    requires { ⌜ 8 * vertices (now file) ≤ length (now passes) ⌝ }
     ensures { λ r. ⌜ PlannedRead (now (file .entry)) (now (out .entry)) r (now (out .exit)) ⌝ }
 {
-    let n = h.vertices;
-    let all = h.arrays * n;
+    let all = flow::COLUMNS * h.vertices;
+    let m = h.edges;
     plan_with(
         file,
         h,
         out,
+        &mut order[..m],
+        &mut versions[..all],
+        &mut uses[..all],
         &mut letters[..all],
         &mut reaching[..all],
         &mut kept[..all],
-        &mut reached[..n],
         &mut gives[..all],
         &mut passes[..all],
+    )
+}
+
+// With tables for any routine.
+fn plan_large(file: &[u8], h: Header, out: &mut [u8]) -> Reply
+    requires { ⌜ ReadAs (now file) h ⌝ }
+    ensures { λ r. ⌜ PlannedRead (now (file .entry)) (now (out .entry)) r (now (out .exit)) ⌝ }
+{
+    let mut order = [0u16; 1024];
+    let mut versions = [0u16; 2048];
+    let mut uses = [0u16; 2048];
+    let mut letters = [0u8; 2048];
+    let mut reaching = [0u16; 2048];
+    let mut kept = [0u16; 2048];
+    let mut gives = [0u16; 2048];
+    let mut passes = [0u16; 2048];
+    plan_within(
+        file,
+        h,
+        out,
+        &mut order,
+        &mut versions,
+        &mut uses,
+        &mut letters,
+        &mut reaching,
+        &mut kept,
+        &mut gives,
+        &mut passes,
+    )
+}
+
+// With tables for at most 32 vertices and 128 edges: a small routine does not pay for the zeroing of large ones.
+fn plan_small(file: &[u8], h: Header, out: &mut [u8]) -> Reply
+    requires { ⌜ ReadAs (now file) h ⌝ }
+    requires { ⌜ (h .vertices ≤ 32) × (h .edges ≤ 128) ⌝ }
+    ensures { λ r. ⌜ PlannedRead (now (file .entry)) (now (out .entry)) r (now (out .exit)) ⌝ }
+{
+    let mut order = [0u16; 128];
+    let mut versions = [0u16; 256];
+    let mut uses = [0u16; 256];
+    let mut letters = [0u8; 256];
+    let mut reaching = [0u16; 256];
+    let mut kept = [0u16; 256];
+    let mut gives = [0u16; 256];
+    let mut passes = [0u16; 256];
+    plan_within(
+        file,
+        h,
+        out,
+        &mut order,
+        &mut versions,
+        &mut uses,
+        &mut letters,
+        &mut reaching,
+        &mut kept,
+        &mut gives,
+        &mut passes,
     )
 }
 
@@ -119,23 +232,13 @@ fn plan_read(file: &[u8], h: Header, out: &mut [u8]) -> Reply
     requires { ⌜ ReadAs (now file) h ⌝ }
     ensures { λ r. ⌜ PlannedRead (now (file .entry)) (now (out .entry)) r (now (out .exit)) ⌝ }
 {
-    let mut letters = [0u8; 2048];
-    let mut reaching = [0u16; 2048];
-    let mut kept = [0u16; 2048];
-    let mut reached = [0u64; 256];
-    let mut gives = [0u16; 2048];
-    let mut passes = [0u16; 2048];
-    plan_within(
-        file,
-        h,
-        out,
-        &mut letters,
-        &mut reaching,
-        &mut kept,
-        &mut reached,
-        &mut gives,
-        &mut passes,
-    )
+    if h.vertices > 32 {
+        return plan_large(file, h, out);
+    }
+    if h.edges > 128 {
+        return plan_large(file, h, out);
+    }
+    plan_small(file, h, out)
 }
 
 // Plans the routine in `file` into `out`.

@@ -2,20 +2,13 @@
 use crate::contents;
 use crate::label;
 use crate::label::Label;
-use labels::event;
-use routine::action::Action;
-use routine::array;
 use routine::header::Header;
 ghost use mathlib.Core.Path.{_≡_};
-ghost use mathlib.Core.Bool.{cond};
 ghost use Prim.Native.Nat.{_≤_, _<_};
 ghost use lib.ListN.{length};
-ghost use Rattle.labels.specs.Events.{versionOf};
-ghost use Rattle.labels.specs.Letters.{useOfByte};
 ghost use Rattle.labels.specs.Routines.{ReadAs};
-ghost use Rattle.labels.specs.Uses.{isN};
 ghost use Rattle.plan.specs.Plan.{planHead, labelEntry, labelRow, labels, planBytes};
-ghost use Rattle.plan.specs.Tables.{Tabled};
+ghost use Rattle.plan.specs.Tables.{Tabled, Leaving};
 ghost use Rattle.routine.specs.Layout.{arrays, vertices};
 ghost use Rattle.words.specs.Tables.{wrote};
 
@@ -36,14 +29,15 @@ fn write_head(out: &mut [u8], vertices: usize, labels: usize)
     out[7] = (labels / 256) as u8;
 }
 
-// The leaving version of a label, 255 for none.
-fn leaving(x: Action, letter: u8) -> u8
-    ensures { λ r. ⌜ r ≡ cond (isN (useOfByte letter)) 255 (versionOf x) ⌝ }
+// The leaving version of a label whose version is this set, 255 for none.
+fn leaving(version: u16, letter: u8) -> u8
+    requires { ⌜ 0 < version ⌝ }
+    ensures { λ r. ⌜ Leaving version letter r ⌝ }
 {
     if letter == b'N' {
         return 255;
     }
-    event::version_of(x)
+    sets::lowest(version)
 }
 
 // Writes the label of array a at vertex v, if there is one, and returns how many bytes that is.
@@ -52,6 +46,7 @@ fn write_label(
     h: Header,
     v: usize,
     a: usize,
+    versions: &[u16],
     letters: &[u8],
     reaching: &[u16],
     kept: &[u16],
@@ -60,22 +55,21 @@ fn write_label(
     requires { ⌜ ReadAs (now file) h ⌝ }
     requires { ⌜ v < vertices (now file) ⌝ }
     requires { ⌜ a < arrays (now file) ⌝ }
-    requires { ⌜ Tabled (now file) (now letters) (now reaching) (now kept) ⌝ }
+    requires { ⌜ Tabled (now file) (now versions) (now letters) (now reaching) (now kept) ⌝ }
     requires { ⌜ length (labelEntry (now file) v a) ≤ length (now out) ⌝ }
     ensures { λ r. ⌜ r ≡ length (labelEntry (now (file .entry)) v a) ⌝ }
     ensures { λ _. ⌜ now (out .exit) ≡ wrote (now (out .entry)) (labelEntry (now (file .entry)) v a) ⌝ }
 {
-    let x = event::at(file, h, array::record_of(file, a), a, v);
-    let is_label = event::is_label(x);
-    if !is_label {
+    let at = flow::COLUMNS * v + a;
+    let version = versions[at];
+    if version == 0 {
         return 0;
     }
-    let at = a * h.vertices + v;
     let letter = letters[at];
     let l = Label {
         array: a as u8,
         letter,
-        leaving: leaving(x, letter),
+        leaving: leaving(version, letter),
         reaching: reaching[at],
         kept: kept[at],
     };
@@ -88,6 +82,7 @@ fn write_row(
     file: &[u8],
     h: Header,
     v: usize,
+    versions: &[u16],
     letters: &[u8],
     reaching: &[u16],
     kept: &[u16],
@@ -95,7 +90,7 @@ fn write_row(
 ) -> usize
     requires { ⌜ ReadAs (now file) h ⌝ }
     requires { ⌜ v < vertices (now file) ⌝ }
-    requires { ⌜ Tabled (now file) (now letters) (now reaching) (now kept) ⌝ }
+    requires { ⌜ Tabled (now file) (now versions) (now letters) (now reaching) (now kept) ⌝ }
     requires { ⌜ length (labelRow (now file) v) ≤ length (now out) ⌝ }
     ensures { λ r. ⌜ r ≡ length (labelRow (now (file .entry)) v) ⌝ }
     ensures { λ _. ⌜ now (out .exit) ≡ wrote (now (out .entry)) (labelRow (now (file .entry)) v) ⌝ }
@@ -104,7 +99,7 @@ fn write_row(
     let mut at = 0;
     let mut a = 0;
     while a < m {
-        at += write_label(file, h, v, a, letters, reaching, kept, &mut out[at..]);
+        at += write_label(file, h, v, a, versions, letters, reaching, kept, &mut out[at..]);
         a += 1;
     }
     at
@@ -114,13 +109,14 @@ fn write_row(
 fn write_labels(
     file: &[u8],
     h: Header,
+    versions: &[u16],
     letters: &[u8],
     reaching: &[u16],
     kept: &[u16],
     out: &mut [u8],
 )
     requires { ⌜ ReadAs (now file) h ⌝ }
-    requires { ⌜ Tabled (now file) (now letters) (now reaching) (now kept) ⌝ }
+    requires { ⌜ Tabled (now file) (now versions) (now letters) (now reaching) (now kept) ⌝ }
     requires { ⌜ length (labels (now file)) ≤ length (now out) ⌝ }
     ensures { λ _. ⌜ now (out .exit) ≡ wrote (now (out .entry)) (labels (now (file .entry))) ⌝ }
 {
@@ -128,20 +124,28 @@ fn write_labels(
     let mut at = 0;
     let mut v = 0;
     while v < n {
-        at += write_row(file, h, v, letters, reaching, kept, &mut out[at..]);
+        at += write_row(file, h, v, versions, letters, reaching, kept, &mut out[at..]);
         v += 1;
     }
 }
 
 // Writes the plan.
-pub fn write(file: &[u8], h: Header, letters: &[u8], reaching: &[u16], kept: &[u16], out: &mut [u8])
+pub fn write(
+    file: &[u8],
+    h: Header,
+    versions: &[u16],
+    letters: &[u8],
+    reaching: &[u16],
+    kept: &[u16],
+    out: &mut [u8],
+)
     requires { ⌜ ReadAs (now file) h ⌝ }
-    requires { ⌜ Tabled (now file) (now letters) (now reaching) (now kept) ⌝ }
+    requires { ⌜ Tabled (now file) (now versions) (now letters) (now reaching) (now kept) ⌝ }
     requires { ⌜ length (planBytes (now file)) ≤ length (now out) ⌝ }
     ensures { λ _. ⌜ now (out .exit) ≡ wrote (now (out .entry)) (planBytes (now (file .entry))) ⌝ }
 {
-    write_head(out, h.vertices, contents::label_count(file, h));
-    contents::write(file, h, &mut out[contents::HEAD..]);
+    write_head(out, h.vertices, contents::label_count(file, h, versions));
+    contents::write(file, h, versions, &mut out[contents::HEAD..]);
     let at = contents::HEAD + contents::ENTRY * h.vertices;
-    write_labels(file, h, letters, reaching, kept, &mut out[at..]);
+    write_labels(file, h, versions, letters, reaching, kept, &mut out[at..]);
 }

@@ -2,14 +2,15 @@
 -- Assumes nothing.
 use mathlib.Core.Path.{_≡_, refl, sym, ap, ap₂, _∙_}
 use mathlib.Core.Bool.{Bool, true, false, not, _&&_, _||_, true≢false}
+use mathlib.Core.Logic.{⊎-elim}
 use Prim.Native.Nat.{ℕ, zero, suc, _+_, _-_, _*_, _/_, _%_, _^_, _≤_, _<_, suc-le-suc, min, max}
-use native.Mathlib.Nat.{div-eq-of-lt, div-one, one-mul, lt-of-lt-of-le, mod-lt, pow-suc, zero-lt-suc, suc-inj}
+use native.Mathlib.Nat.{eq-or-lt-of-le, div-eq-of-lt, div-one, one-mul, lt-of-lt-of-le, mod-lt, pow-suc, zero-lt-suc, suc-inj}
 use native.Mathlib.Omega.{arith}
 use borrow.Author.Tests.{eqb-true, ltb-true, lt-ltb, eq-eqb}
 use lib.Dec.{eqb, lit<, eqb·zero-suc, eqb·suc-zero, eqb·suc-suc}
 use lib.Bits.{bitAnd, bitOr, and-step, or-step, and-shr, or-shr, and-le-l, and-mask}
 use lib.Pow.{pow-mono, shr-shr, shl-exact}
-use lib.Count.{ones, ones-step, ones-le}
+use lib.Count.{ones, ones-step, ones-le, trailingZeros, under, trailing-le}
 use Rattle.sets.specs.Sets.{bit, has, minus, Two, several}
 
 -- ---- one bit
@@ -250,3 +251,18 @@ several-two w m h c = find-two w m h (ltb-true 1 (ones m) c)
 
 pub two-several : (m : ℕ) → Two m → several m ≡ true
 two-several m t = lt-ltb 1 (ones m) (count-two m (t .first) (t .second) (t .differ) (t .has-first) (t .has-second))
+
+-- the lowest member of a set that is not empty
+pub lowest-has : (w m : ℕ) → 0 < m → m < 2 ^ w → has m (trailingZeros w m) ≡ true
+unfolding trailingZeros
+lowest-has zero m some fits = absurd (omega arith)
+lowest-has (suc w) m some fits = go (m % 2) refl (λ half. lowest-has w (m / 2) half (omega (arith, pow-suc 2 w)))
+  where
+    go : (d : ℕ) → m % 2 ≡ d → (0 < m / 2 → has (m / 2) (trailingZeros w (m / 2)) ≡ true) → has m (under d (trailingZeros w (m / 2))) ≡ true
+    go zero e half = has-suc m (trailingZeros w (m / 2)) ∙ half (omega arith)
+    go (suc d) e half = bit-has m 0 (omega (arith, bit-zero m))
+
+pub lowest-below : (w m : ℕ) → 0 < m → m < 2 ^ w → trailingZeros w m < w
+lowest-below w m some fits =
+    ⊎-elim (λ (e : trailingZeros w m ≡ w). absurd (true≢false (sym (lowest-has w m some fits) ∙ has-out w m (trailingZeros w m) fits (omega arith)))) (λ h. h)
+    (eq-or-lt-of-le (trailing-le w m))

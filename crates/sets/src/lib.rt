@@ -2,6 +2,7 @@
 //
 // The laws of masks are stated once for any width, in `proofs/Laws.antt`; the functions here are those laws at 16 bits.
 ghost use mathlib.Core.Path.{_≡_};
+ghost use mathlib.Core.Bool.{true};
 ghost use Prim.Native.Nat.{_<_, _^_};
 ghost use Rattle.sets.specs.Lanes.{lane, four};
 ghost use Rattle.sets.specs.Sets.{has, minus, several};
@@ -34,6 +35,15 @@ pub fn more_than_one(set: u16) -> bool
     ensures { λ r. ⌜ r ≡ several set ⌝ }
 {
     u16::count_ones(set) > 1
+}
+
+// The lowest version of the set.
+pub fn lowest(set: u16) -> u8
+    requires { ⌜ 0 < set ⌝ }
+    ensures { λ r. ⌜ r < 16 ⌝ }
+    ensures { λ r. ⌜ has set r ≡ true ⌝ }
+{
+    u16::trailing_zeros(set) as u8
 }
 
 // Four sets in one word.

@@ -5,17 +5,15 @@ use mathlib.Core.Bool.{Bool, true, false, not, _&&_, cond, true≢false, and-tru
 use mathlib.Core.List.{List}
 use mathlib.Core.Logic.{inl, inr, ⊎-elim}
 use Prim.Native.Nat.{ℕ, zero, suc, _+_, _/_, _%_, _^_, _≤_, _<_}
-use native.Mathlib.Nat.{eq-or-lt-of-le, pow-suc}
 use native.Mathlib.Omega.{arith}
 use lib.Bits.{bitOr, and-zero-r}
 use borrow.Author.Tests.{lt-ltb, le-ltb, eqb-true, eqb-false, eq-eqb, ne-eqb}
-use lib.Count.{trailingZeros, under, trailing-le}
 use lib.Dec.{eqb, ltb}
 use lib.ListN.{getD, set}
 use lib.Seq.{set-comm, set-getD}
 use Rattle.labels.specs.declared.Use.{Use}
 use Rattle.routine.proofs.Laws.{and-parts}
-use Rattle.sets.proofs.Laws.{bit-zero, bit-has, has-suc, has-minus, has-single, has-zero, has-out}
+use Rattle.sets.proofs.Laws.{has-minus, has-single, has-zero}
 use Rattle.sets.specs.Sets.{has, minus}
 use Rattle.state.specs.declared.State.{State}
 use Rattle.state.specs.States.{Current, nothing, hasCurrent, stampOf}
@@ -62,21 +60,6 @@ with-more stamps new at k x is =
     (λ e.
     rw e (set-getD new k 0) ∙ is
     ∙ ap (λ (b : Bool). cond b (set stamps at x) stamps) (one-more at k (λ f. eqb-false k at e (sym f))))
-
--- the lowest member of a set that is not empty
-pub lowest-has : (w m : ℕ) → 0 < m → m < 2 ^ w → has m (trailingZeros w m) ≡ true
-unfolding trailingZeros
-lowest-has zero m some fits = absurd (omega arith)
-lowest-has (suc w) m some fits = go (m % 2) refl (λ half. lowest-has w (m / 2) half (omega (arith, pow-suc 2 w)))
-  where
-    go : (d : ℕ) → m % 2 ≡ d → (0 < m / 2 → has (m / 2) (trailingZeros w (m / 2)) ≡ true) → has m (under d (trailingZeros w (m / 2))) ≡ true
-    go zero e half = has-suc m (trailingZeros w (m / 2)) ∙ half (omega arith)
-    go (suc d) e half = bit-has m 0 (omega (arith, bit-zero m))
-
-pub lowest-below : (w m : ℕ) → 0 < m → m < 2 ^ w → trailingZeros w m < w
-lowest-below w m some fits =
-    ⊎-elim (λ (e : trailingZeros w m ≡ w). absurd (true≢false (sym (lowest-has w m some fits) ∙ has-out w m (trailingZeros w m) fits (omega arith)))) (λ h. h)
-    (eq-or-lt-of-le (trailing-le w m))
 
 -- ---- a member t of `dead` is cleared first, and the rest later
 

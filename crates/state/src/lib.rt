@@ -219,15 +219,6 @@ fn with(stamps: [u16; 16], at: usize, x: u16) -> [u16; 16]
     new
 }
 
-// A version of the set.
-fn one_of(set: u16) -> u8
-    requires { ⌜ 0 < set ⌝ }
-    ensures { λ r. ⌜ r < 16 ⌝ }
-    ensures { λ r. ⌜ has set r ≡ true ⌝ }
-{
-    u16::trailing_zeros(set) as u8
-}
-
 // The stamps of the versions in `dead` become 0, one after the other; no other is touched.
 fn clear(stamps: [u16; 16], dead: u16) -> [u16; 16]
     ensures { λ r. ⌜ r ≡ cleared dead stamps 16 ⌝ }
@@ -235,7 +226,7 @@ fn clear(stamps: [u16; 16], dead: u16) -> [u16; 16]
     let mut left = stamps;
     let mut rest = dead;
     while rest != 0 {
-        let version = one_of(rest);
+        let version = sets::lowest(rest);
         let at = version as usize;
         left[at] = 0;
         rest = sets::difference(rest, sets::single(version));
