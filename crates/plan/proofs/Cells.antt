@@ -62,12 +62,15 @@ some-version file a v {x} e z = by (isLabel file a v) refl
     by false l = absurd (z (e ∙ ap (λ (b : Bool). cond b (2 ^ versionOf (event file a v)) 0) l))
 
 -- 1 where the cell has a version
-pub counts-label : (file : List ℕ) (a v : ℕ) {x : ℕ} → x ≡ versionSet (event file a v) → cond (eqb x 0) 0 1 ≡ cond (isLabel file a v) 1 0
-counts-label file a v {x} e = by (isLabel file a v) refl
+pub counts-label : (file : List ℕ) (a v : ℕ) {x r : ℕ} → x ≡ versionSet (event file a v) → r ≡ cond (eqb x 0) 0 1 → r ≡ cond (isLabel file a v) 1 0
+counts-label file a v {x} {r} e f = by (isLabel file a v) refl
   where
-    by : (b : Bool) → isLabel file a v ≡ b → cond (eqb x 0) 0 1 ≡ cond b 1 0
-    by true l = ap (λ (b : Bool). cond b 0 1) (ne-eqb x 0 (λ z. true≢false (sym l ∙ no-version file a v e z)))
-    by false l = ap (λ (b : Bool). cond b 0 1) (eq-eqb x 0 (e ∙ ap (λ (b : Bool). cond b (2 ^ versionOf (event file a v)) 0) l))
+    flag : Bool → ℕ
+    flag b = cond b 0 1
+
+    by : (b : Bool) → isLabel file a v ≡ b → r ≡ cond b 1 0
+    by true l = f ∙ ap flag (ne-eqb x 0 (λ z. true≢false (sym l ∙ no-version file a v e z)))
+    by false l = f ∙ ap flag (eq-eqb x 0 (e ∙ ap (λ (b : Bool). cond b (2 ^ versionOf (event file a v)) 0) l))
 
 -- the leaving byte that a label's version and letter give
 leaving-is : (file : List ℕ) (a v : ℕ) {x letter byte : ℕ} → isLabel file a v ≡ true → x ≡ versionSet (event file a v) → letter ≡ letterByte (useOf file a v)

@@ -48,11 +48,17 @@ fn tabulate(
 {
     tables::letters(file, h, order, uses, letters, reaching, passes);
     tables::reaching(
-        file, h, order, versions, kept, letters, reaching, gives, passes,
+        file,
+        h,
+        order,
+        versions,
+        kept,
+        letters,
+        reaching,
+        gives,
+        passes,
     );
-    tables::kept(
-        file, h, order, versions, letters, kept, gives, passes,
-    );
+    tables::kept(file, h, order, versions, letters, kept, gives, passes);
 }
 
 // Plans a routine whose edges have an order and whose events are in tables.
@@ -81,7 +87,15 @@ fn plan_events(
     ensures { λ r. ⌜ PlannedRead (now (file .entry)) (now (out .entry)) r (now (out .exit)) ⌝ }
 {
     let checked = checks::check(
-        file, h, order, versions, uses, kept, reaching, gives, passes,
+        file,
+        h,
+        order,
+        versions,
+        uses,
+        kept,
+        reaching,
+        gives,
+        passes,
     );
     if let Verdict::Failed(r) = checked {
         return Reply::Denied(r);
@@ -91,7 +105,16 @@ fn plan_events(
         return Reply::Denied(Refusal::ShortPlanBuffer { needed });
     }
     tabulate(
-        file, h, order, versions, uses, letters, reaching, kept, gives, passes,
+        file,
+        h,
+        order,
+        versions,
+        uses,
+        letters,
+        reaching,
+        kept,
+        gives,
+        passes,
     );
     writer::write(file, h, versions, letters, reaching, kept, out);
     Reply::Written(needed)
@@ -125,7 +148,17 @@ fn plan_with(
     pass::order(file, h, order);
     events::tabulate(file, h, versions, uses);
     plan_events(
-        file, h, out, order, versions, uses, letters, reaching, kept, gives, passes,
+        file,
+        h,
+        out,
+        order,
+        versions,
+        uses,
+        letters,
+        reaching,
+        kept,
+        gives,
+        passes,
     )
 }
 

@@ -99,7 +99,17 @@ fn write_row(
     let mut at = 0;
     let mut a = 0;
     while a < m {
-        at += write_label(file, h, v, a, versions, letters, reaching, kept, &mut out[at..]);
+        at += write_label(
+            file,
+            h,
+            v,
+            a,
+            versions,
+            letters,
+            reaching,
+            kept,
+            &mut out[at..],
+        );
         a += 1;
     }
     at
@@ -124,7 +134,16 @@ fn write_labels(
     let mut at = 0;
     let mut v = 0;
     while v < n {
-        at += write_row(file, h, v, versions, letters, reaching, kept, &mut out[at..]);
+        at += write_row(
+            file,
+            h,
+            v,
+            versions,
+            letters,
+            reaching,
+            kept,
+            &mut out[at..],
+        );
         v += 1;
     }
 }

@@ -11,10 +11,10 @@ use Rattle.plan.proofs.contents.label_count.Statement.{statement}
 use Rattle.plan.proofs.contents.label_count.Tie as tie
 
 abbrev Inv-loop : tie.InvT-loop
-Inv-loop file h n count₀ v₀ count v = (v ≤ n) × (count ≡ labelsBefore file v)
+Inv-loop file h versions n count₀ v₀ count v = (v ≤ n) × (count ≡ labelsBefore file v)
 
 abbrev μ-loop : tie.MeasureT-loop
-μ-loop file h n count₀ v₀ count v = n - v
+μ-loop file h versions n count₀ v₀ count v = n - v
 
 loop-holds : tie.Need-loop-holds Inv-loop μ-loop
 unfolding labelsBefore
@@ -25,8 +25,8 @@ labels-at-requires c κs = search needs
 
 add-count : tie.Need-add-count Inv-loop μ-loop
 add-count c =
-    let s = c .before .before .before .before in
-    omega (arith, before-few (s .args .file .now) (s .pre .heads .laid) (c .before .before .loop .v))
+    let s = c .before .before .before .before .before in
+    omega (arith, before-few (s .args .file .now) (s .pre .0 .heads .laid) (c .before .before .loop .v))
 
 add-v : tie.Need-add-v Inv-loop μ-loop
 add-v c = omega arith
@@ -37,15 +37,15 @@ loop-less c = omega arith
 loop-again : tie.Need-loop-again Inv-loop μ-loop
 loop-again c =
     let l = c .before .before in
-    (omega arith, before-more (l .before .before .args .file .now) (l .loop .v) (l .loop .inv .1) (c .labels-at .ensures .0))
+    (omega arith, before-more (l .before .before .before .args .file .now) (l .loop .v) (l .loop .inv .1) (c .labels-at .ensures .0))
 
 returns : tie.Need-returns Inv-loop μ-loop
 unfolding labelCount
 returns c =
-    let s = c .before .before .before in
+    let s = c .before .before .before .before in
     let all : c .before .loop .v ≡ vertices (s .args .file .now) = omega arith in
     let e = c .before .loop .inv .1 ∙ ap (labelsBefore (s .args .file .now)) all in
-    (e, omega (arith, count-few (s .args .file .now) (s .pre .heads .laid)))
+    (e, omega (arith, count-few (s .args .file .now) (s .pre .0 .heads .laid)))
 
 pub label-count-spec : {M : Type 1} → statement M
 label-count-spec =

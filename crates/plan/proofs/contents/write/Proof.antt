@@ -12,15 +12,15 @@ use Rattle.plan.proofs.contents.write.Statement.{statement}
 use Rattle.plan.proofs.contents.write.Tie as tie
 
 abbrev Inv-loop : tie.InvT-loop
-Inv-loop file h out₀ n first₀ v₀ out first v = Filled (contentsEntry file) (vertices file) out₀ v out × (first ≡ labelsBefore file v)
+Inv-loop file h versions out₀ n first₀ v₀ out first v = Filled (contentsEntry file) (vertices file) out₀ v out × (first ≡ labelsBefore file v)
 
 abbrev μ-loop : tie.MeasureT-loop
-μ-loop file h out₀ n first₀ v₀ out first v = n - v
+μ-loop file h versions out₀ n first₀ v₀ out first v = n - v
 
 loop-holds : tie.Need-loop-holds Inv-loop μ-loop
 unfolding labelsBefore
 loop-holds c =
-    let s = c .before .before in
+    let s = c .before .before .before in
     (begin _ _ _ (omega (arith, entry-at (s .args .file .now) (vertices (s .args .file .now)))), refl)
 
 labels-at-requires : tie.Need-labels-at-requires Inv-loop μ-loop
@@ -32,7 +32,7 @@ mul-at c = omega arith
 sub-write-entry : tie.Need-sub-write-entry Inv-loop μ-loop
 sub-write-entry c =
     let l = c .before .before in
-    lies (l .loop .inv .0) (entry-at (l .before .before .before .args .file .now) (l .loop .v)) (omega arith)
+    lies (l .loop .inv .0) (entry-at (l .before .before .before .before .args .file .now) (l .loop .v)) (omega arith)
 
 part-write-entry-start : tie.Need-part-write-entry-start Inv-loop μ-loop
 part-write-entry-start c = sub-write-entry c
@@ -44,7 +44,7 @@ write-entry-requires : tie.Need-write-entry-requires Inv-loop μ-loop
 unfolding contentsEntry
 write-entry-requires c κs =
     let l = c .before .before .before in
-    let s = l .before .before .before in (
+    let s = l .before .before .before .before in (
       lent (l .loop .inv .0) (entry-at (s .args .file .now) (l .loop .v)) (omega arith),
       omega (arith, before-few (s .args .file .now) (s .pre .0 .heads .laid) (l .loop .v)),
     )
@@ -52,7 +52,7 @@ write-entry-requires c κs =
 add-first : tie.Need-add-first Inv-loop μ-loop
 add-first c =
     let l = c .before .before .before .before .before .before in
-    let s = l .before .before .before in
+    let s = l .before .before .before .before in
     omega (arith, before-few (s .args .file .now) (s .pre .0 .heads .laid) (l .loop .v))
 
 add-v : tie.Need-add-v Inv-loop μ-loop
@@ -65,7 +65,7 @@ loop-again : tie.Need-loop-again Inv-loop μ-loop
 unfolding contentsEntry
 loop-again c =
     let l = c .before .before .before .before .before .before in
-    let file = l .before .before .before .args .file .now in
+    let file = l .before .before .before .before .args .file .now in
     let first = l .loop .inv .1 in
     let count = c .before .before .before .before .labels-at .ensures .0 in (
       next (l .loop .inv .0) (entry-at file (l .loop .v)) (omega arith) {ys = c .before .before .write-entry .last .0}

@@ -35,10 +35,10 @@ label-count-requires : tie.Need-label-count-requires
 label-count-requires c κs = search needs
 
 write-head-requires : tie.Need-write-head-requires
-write-head-requires c κs = (omega (arith, room (c .before .before .before .before .before .before .before)), omega arith)
+write-head-requires c κs = (omega (arith, room (c .before .before .before .before .before .before .before .before)), omega arith)
 
 abbrev start : tie.After-write-head → tie.Start
-start c = c .before .before .before .before .before .before .before .before
+start c = c .before .before .before .before .before .before .before .before .before
 
 head : (c : tie.After-write-head) → Front (old (start c)) (first (start c)) (c .write-head .last .0)
 head c =
@@ -50,7 +50,7 @@ head c =
 -- ---- the contents
 
 sub-write : tie.Need-sub-write
-sub-write c = starts (head (c .before .before)) {at = 8} refl (omega (arith, room (c .before .before .before .before .before .before .before .before .before .before)))
+sub-write c = starts (head (c .before .before)) {at = 8} refl (omega (arith, room (c .before .before .before .before .before .before .before .before .before .before .before)))
 
 part-write-start : tie.Need-part-write-start
 part-write-start c = sub-write c
@@ -60,13 +60,13 @@ part-write-end c = search needs
 
 write-requires : tie.Need-write-requires
 write-requires c κs =
-    let s = c .before .before .before .before .before .before .before .before .before .before .before in
-    (s .pre .0, lends (head (c .before .before .before)) {at = 8} refl (omega (arith, room s)))
+    let s = c .before .before .before .before .before .before .before .before .before .before .before .before in
+    (s .pre .0, (s .pre .1 .0 .versions-are, lends (head (c .before .before .before)) {at = 8} refl (omega (arith, room s))))
 
 abbrev behind : tie.After-write → List ℕ
 behind c =
     let out = c .before .before .before .before .write-head .last .0 in
-    take 8 out ++ (c .write .last .1 .1 .0 ++ drop (length out - 8) (drop 8 out))
+    take 8 out ++ (c .write .last .1 .1 .1 .0 ++ drop (length out - 8) (drop 8 out))
 
 both : (c : tie.After-write) →
     Front (old (start (c .before .before .before .before))) (first (start (c .before .before .before .before)) ++ contents (start (c .before .before .before .before) .args .file .now)) (behind c)
@@ -82,7 +82,7 @@ add-at c = search needs
 
 sub-write-labels : tie.Need-sub-write-labels
 sub-write-labels c =
-    let s = c .before .before .before .before .before .before .before .before .before .before .before .before .before .before .before in
+    let s = c .before .before .before .before .before .before .before .before .before .before .before .before .before .before .before .before in
     starts (both (c .before .before .before)) (place s) (omega (arith, room s))
 
 part-write-labels-start : tie.Need-part-write-labels-start
@@ -93,7 +93,7 @@ part-write-labels-end c = search needs
 
 write-labels-requires : tie.Need-write-labels-requires
 write-labels-requires c κs =
-    let s = c .before .before .before .before .before .before .before .before .before .before .before .before .before .before .before .before in
+    let s = c .before .before .before .before .before .before .before .before .before .before .before .before .before .before .before .before .before in
     (s .pre .0, (s .pre .1 .0, lends (both (c .before .before .before .before)) (place s) (room s)))
 
 same-length : tie.Need-same-length
@@ -102,7 +102,7 @@ same-length c = search needs
 returns : tie.Need-returns
 unfolding planBytes
 returns c =
-    let s = c .before .before .before .before .before .before .before .before .before .before .before .before .before .before .before .before .before .before .before in
+    let s = c .before .before .before .before .before .before .before .before .before .before .before .before .before .before .before .before .before .before .before .before in
     more (both (c .before .before .before .before .before .before .before)) (place s) (labels (s .args .file .now)) (c .before .before .write-labels .ensures) .is
 
 pub write-spec : {M : Type 1} → statement M

@@ -13,14 +13,14 @@ use Rattle.plan.proofs.writer.write_labels.Statement.{statement}
 use Rattle.plan.proofs.writer.write_labels.Tie as tie
 
 abbrev Inv-loop : tie.InvT-loop
-Inv-loop file h letters reaching kept out₀ n at₀ v₀ out at v = Filled (labelRow file) (vertices file) out₀ v out × (at ≡ length (rows (labelRow file) v))
+Inv-loop file h versions letters reaching kept out₀ n at₀ v₀ out at v = Filled (labelRow file) (vertices file) out₀ v out × (at ≡ length (rows (labelRow file) v))
 
 abbrev μ-loop : tie.MeasureT-loop
-μ-loop file h letters reaching kept out₀ n at₀ v₀ out at v = n - v
+μ-loop file h versions letters reaching kept out₀ n at₀ v₀ out at v = n - v
 
 loop-holds : tie.Need-loop-holds Inv-loop μ-loop
 unfolding rows labels
-loop-holds c = (begin _ _ _ (c .before .before .before .before .before .pre .1 .1), refl)
+loop-holds c = (begin _ _ _ (c .before .before .before .before .before .before .pre .1 .1), refl)
 
 sub-write-row : tie.Need-sub-write-row Inv-loop μ-loop
 sub-write-row c = lies (c .before .loop .inv .0) (c .before .loop .inv .1) (omega arith)
@@ -34,7 +34,7 @@ part-write-row-end c = search needs
 write-row-requires : tie.Need-write-row-requires Inv-loop μ-loop
 write-row-requires c κs =
     let l = c .before .before in
-    let s = l .before .before .before .before .before .before in
+    let s = l .before .before .before .before .before .before .before in
     (s .pre .0, (omega arith, (s .pre .1 .0, lent (l .loop .inv .0) (l .loop .inv .1) (omega arith))))
 
 add-at : tie.Need-add-at Inv-loop μ-loop

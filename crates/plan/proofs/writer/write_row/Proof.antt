@@ -13,14 +13,14 @@ use Rattle.plan.proofs.writer.write_row.Statement.{statement}
 use Rattle.plan.proofs.writer.write_row.Tie as tie
 
 abbrev Inv-loop : tie.InvT-loop
-Inv-loop file h v letters reaching kept out₀ m at₀ a₀ out at a = Filled (labelEntry file v) (arrays file) out₀ a out × (at ≡ length (rows (labelEntry file v) a))
+Inv-loop file h v versions letters reaching kept out₀ m at₀ a₀ out at a = Filled (labelEntry file v) (arrays file) out₀ a out × (at ≡ length (rows (labelEntry file v) a))
 
 abbrev μ-loop : tie.MeasureT-loop
-μ-loop file h v letters reaching kept out₀ m at₀ a₀ out at a = m - a
+μ-loop file h v versions letters reaching kept out₀ m at₀ a₀ out at a = m - a
 
 loop-holds : tie.Need-loop-holds Inv-loop μ-loop
 unfolding rows labelRow
-loop-holds c = (begin _ _ _ (c .before .before .before .before .before .pre .1 .1 .1), refl)
+loop-holds c = (begin _ _ _ (c .before .before .before .before .before .before .pre .1 .1 .1), refl)
 
 sub-write-label : tie.Need-sub-write-label Inv-loop μ-loop
 sub-write-label c = lies (c .before .loop .inv .0) (c .before .loop .inv .1) (omega arith)
@@ -34,7 +34,7 @@ part-write-label-end c = search needs
 write-label-requires : tie.Need-write-label-requires Inv-loop μ-loop
 write-label-requires c κs =
     let l = c .before .before in
-    let s = l .before .before .before .before .before .before in
+    let s = l .before .before .before .before .before .before .before in
     (s .pre .0, (s .pre .1 .0, (omega arith, (s .pre .1 .1 .0, lent (l .loop .inv .0) (l .loop .inv .1) (omega arith)))))
 
 add-at : tie.Need-add-at Inv-loop μ-loop

@@ -1,0 +1,59 @@
+-- `plan_large` meets its contract: the work slices are arrays of the largest sizes.
+-- Assumes nothing.
+use native.Mathlib.Omega.{arith}
+use borrow.Author.Needs.{needs}
+use Rattle.plan.proofs.plan_large.Statement.{statement}
+use Rattle.plan.proofs.plan_large.Tie as tie
+
+slice-aggregate-plan-within : tie.Need-slice-aggregate-plan-within
+slice-aggregate-plan-within c = search needs
+
+slice-aggregate-plan-within-2 : tie.Need-slice-aggregate-plan-within-2
+slice-aggregate-plan-within-2 c = search needs
+
+slice-aggregate-plan-within-3 : tie.Need-slice-aggregate-plan-within-3
+slice-aggregate-plan-within-3 c = search needs
+
+slice-aggregate-plan-within-4 : tie.Need-slice-aggregate-plan-within-4
+slice-aggregate-plan-within-4 c = search needs
+
+slice-aggregate-plan-within-5 : tie.Need-slice-aggregate-plan-within-5
+slice-aggregate-plan-within-5 c = search needs
+
+slice-aggregate-plan-within-6 : tie.Need-slice-aggregate-plan-within-6
+slice-aggregate-plan-within-6 c = search needs
+
+slice-aggregate-plan-within-7 : tie.Need-slice-aggregate-plan-within-7
+slice-aggregate-plan-within-7 c = search needs
+
+slice-aggregate-plan-within-8 : tie.Need-slice-aggregate-plan-within-8
+slice-aggregate-plan-within-8 c = search needs
+
+plan-within-requires : tie.Need-plan-within-requires
+plan-within-requires c κs =
+    let p = c .before .before .before .before .before .before .before .before .before .before .before .pre in
+    let v = p .well .laid .limits .few-vertices in
+    let e = p .well .laid .limits .few-edges in
+    (p, (omega (arith, p .heads .vertices-are, p .heads .edges-are, v, e), (omega (arith, p .heads .vertices-are, p .heads .edges-are, v, e), (omega (arith, p .heads .vertices-are, p .heads .edges-are, v, e), (omega (arith, p .heads .vertices-are, p .heads .edges-are, v, e), (omega (arith, p .heads .vertices-are, p .heads .edges-are, v, e), (omega (arith, p .heads .vertices-are, p .heads .edges-are, v, e), (omega (arith, p .heads .vertices-are, p .heads .edges-are, v, e), omega (arith, p .heads .vertices-are, p .heads .edges-are, v, e)))))))))
+
+same-length : tie.Need-same-length
+same-length c = search needs
+
+returns : tie.Need-returns
+returns c = search needs
+
+pub plan-large-spec : {M : Type 1} → statement M
+plan-large-spec =
+    tie.close
+    (tie.spec
+    slice-aggregate-plan-within
+    slice-aggregate-plan-within-2
+    slice-aggregate-plan-within-3
+    slice-aggregate-plan-within-4
+    slice-aggregate-plan-within-5
+    slice-aggregate-plan-within-6
+    slice-aggregate-plan-within-7
+    slice-aggregate-plan-within-8
+    plan-within-requires
+    same-length
+    returns)

@@ -1,0 +1,157 @@
+-- `plan_within` meets its contract: the parts of the work slices have the right lengths.
+-- Assumes nothing.
+use mathlib.Core.Path.{sym, ap, _∙_}
+use Prim.Native.Nat.{ℕ, _*_, _≤_}
+use native.Mathlib.Omega.{arith}
+use lib.ListN.{length}
+use lib.Seq.{length-take-le}
+use borrow.Author.Needs.{needs}
+use Rattle.plan.proofs.plan_within.Statement.{statement}
+use Rattle.plan.proofs.plan_within.Tie as tie
+
+small : (s : tie.Start) → s .args .h .vertices ≤ 256
+small s = omega (arith, s .pre .0 .heads .vertices-are, s .pre .0 .well .laid .limits .few-vertices)
+
+fits-order : (s : tie.Start) → s .args .h .edges ≤ length (s .args .order .now)
+fits-order s = omega (arith, s .pre .0 .heads .edges-are, s .pre .1 .0)
+
+fits-versions : (s : tie.Start) → 8 * s .args .h .vertices ≤ length (s .args .versions .now)
+fits-versions s = omega (arith, s .pre .0 .heads .vertices-are, s .pre .1 .1 .0)
+
+fits-uses : (s : tie.Start) → 8 * s .args .h .vertices ≤ length (s .args .uses .now)
+fits-uses s = omega (arith, s .pre .0 .heads .vertices-are, s .pre .1 .1 .1 .0)
+
+fits-letters : (s : tie.Start) → 8 * s .args .h .vertices ≤ length (s .args .letters .now)
+fits-letters s = omega (arith, s .pre .0 .heads .vertices-are, s .pre .1 .1 .1 .1 .0)
+
+fits-reaching : (s : tie.Start) → 8 * s .args .h .vertices ≤ length (s .args .reaching .now)
+fits-reaching s = omega (arith, s .pre .0 .heads .vertices-are, s .pre .1 .1 .1 .1 .1 .0)
+
+fits-kept : (s : tie.Start) → 8 * s .args .h .vertices ≤ length (s .args .kept .now)
+fits-kept s = omega (arith, s .pre .0 .heads .vertices-are, s .pre .1 .1 .1 .1 .1 .1 .0)
+
+fits-gives : (s : tie.Start) → 8 * s .args .h .vertices ≤ length (s .args .gives .now)
+fits-gives s = omega (arith, s .pre .0 .heads .vertices-are, s .pre .1 .1 .1 .1 .1 .1 .1 .0)
+
+fits-passes : (s : tie.Start) → 8 * s .args .h .vertices ≤ length (s .args .passes .now)
+fits-passes s = omega (arith, s .pre .0 .heads .vertices-are, s .pre .1 .1 .1 .1 .1 .1 .1 .1)
+
+mul-all : tie.Need-mul-all
+mul-all c = let s = c .before .before .before .before .before .before .before .before .before .before .before in omega (arith, small s)
+
+slice-relend-prefix-plan-with : tie.Need-slice-relend-prefix-plan-with
+slice-relend-prefix-plan-with c = fits-order (c .before .before .before .before .before .before .before .before .before .before .before .before)
+
+slice-aggregate-plan-with : tie.Need-slice-aggregate-plan-with
+slice-aggregate-plan-with c = let s = c .before .before .before .before .before .before .before .before .before .before .before .before .before in sym (length-take-le _ (s .args .order .now) (fits-order s))
+
+slice-relend-prefix-plan-with-2 : tie.Need-slice-relend-prefix-plan-with-2
+slice-relend-prefix-plan-with-2 c = fits-versions (c .before .before .before .before .before .before .before .before .before .before .before .before .before)
+
+slice-aggregate-plan-with-2 : tie.Need-slice-aggregate-plan-with-2
+slice-aggregate-plan-with-2 c = let s = c .before .before .before .before .before .before .before .before .before .before .before .before .before .before in sym (length-take-le _ (s .args .versions .now) (fits-versions s))
+
+slice-relend-prefix-plan-with-3 : tie.Need-slice-relend-prefix-plan-with-3
+slice-relend-prefix-plan-with-3 c = fits-uses (c .before .before .before .before .before .before .before .before .before .before .before .before .before .before)
+
+slice-aggregate-plan-with-3 : tie.Need-slice-aggregate-plan-with-3
+slice-aggregate-plan-with-3 c = let s = c .before .before .before .before .before .before .before .before .before .before .before .before .before .before .before in sym (length-take-le _ (s .args .uses .now) (fits-uses s))
+
+slice-relend-prefix-plan-with-4 : tie.Need-slice-relend-prefix-plan-with-4
+slice-relend-prefix-plan-with-4 c = fits-letters (c .before .before .before .before .before .before .before .before .before .before .before .before .before .before .before)
+
+slice-aggregate-plan-with-4 : tie.Need-slice-aggregate-plan-with-4
+slice-aggregate-plan-with-4 c = let s = c .before .before .before .before .before .before .before .before .before .before .before .before .before .before .before .before in sym (length-take-le _ (s .args .letters .now) (fits-letters s))
+
+slice-relend-prefix-plan-with-5 : tie.Need-slice-relend-prefix-plan-with-5
+slice-relend-prefix-plan-with-5 c = fits-reaching (c .before .before .before .before .before .before .before .before .before .before .before .before .before .before .before .before)
+
+slice-aggregate-plan-with-5 : tie.Need-slice-aggregate-plan-with-5
+slice-aggregate-plan-with-5 c = let s = c .before .before .before .before .before .before .before .before .before .before .before .before .before .before .before .before .before in sym (length-take-le _ (s .args .reaching .now) (fits-reaching s))
+
+slice-relend-prefix-plan-with-6 : tie.Need-slice-relend-prefix-plan-with-6
+slice-relend-prefix-plan-with-6 c = fits-kept (c .before .before .before .before .before .before .before .before .before .before .before .before .before .before .before .before .before)
+
+slice-aggregate-plan-with-6 : tie.Need-slice-aggregate-plan-with-6
+slice-aggregate-plan-with-6 c = let s = c .before .before .before .before .before .before .before .before .before .before .before .before .before .before .before .before .before .before in sym (length-take-le _ (s .args .kept .now) (fits-kept s))
+
+slice-relend-prefix-plan-with-7 : tie.Need-slice-relend-prefix-plan-with-7
+slice-relend-prefix-plan-with-7 c = fits-gives (c .before .before .before .before .before .before .before .before .before .before .before .before .before .before .before .before .before .before)
+
+slice-aggregate-plan-with-7 : tie.Need-slice-aggregate-plan-with-7
+slice-aggregate-plan-with-7 c = let s = c .before .before .before .before .before .before .before .before .before .before .before .before .before .before .before .before .before .before .before in sym (length-take-le _ (s .args .gives .now) (fits-gives s))
+
+slice-relend-prefix-plan-with-8 : tie.Need-slice-relend-prefix-plan-with-8
+slice-relend-prefix-plan-with-8 c = fits-passes (c .before .before .before .before .before .before .before .before .before .before .before .before .before .before .before .before .before .before .before)
+
+slice-aggregate-plan-with-8 : tie.Need-slice-aggregate-plan-with-8
+slice-aggregate-plan-with-8 c = let s = c .before .before .before .before .before .before .before .before .before .before .before .before .before .before .before .before .before .before .before .before in sym (length-take-le _ (s .args .passes .now) (fits-passes s))
+
+plan-with-requires : tie.Need-plan-with-requires
+plan-with-requires c κs =
+    let s = c .before .before .before .before .before .before .before .before .before .before .before .before .before .before .before .before .before .before .before .before in
+    let all = ap (λ (n : ℕ). 8 * n) (s .pre .0 .heads .vertices-are) in
+    (s .pre .0, (length-take-le _ (s .args .order .now) (fits-order s) ∙ s .pre .0 .heads .edges-are, (length-take-le _ (s .args .versions .now) (fits-versions s) ∙ all, (length-take-le _ (s .args .uses .now) (fits-uses s) ∙ all, (length-take-le _ (s .args .letters .now) (fits-letters s) ∙ all, (length-take-le _ (s .args .reaching .now) (fits-reaching s) ∙ all, (length-take-le _ (s .args .kept .now) (fits-kept s) ∙ all, (length-take-le _ (s .args .gives .now) (fits-gives s) ∙ all, length-take-le _ (s .args .passes .now) (fits-passes s) ∙ all))))))))
+
+same-length : tie.Need-same-length
+same-length c = search needs
+
+same-length-2 : tie.Need-same-length-2
+same-length-2 c = search needs
+
+same-length-3 : tie.Need-same-length-3
+same-length-3 c = search needs
+
+same-length-4 : tie.Need-same-length-4
+same-length-4 c = search needs
+
+same-length-5 : tie.Need-same-length-5
+same-length-5 c = search needs
+
+same-length-6 : tie.Need-same-length-6
+same-length-6 c = search needs
+
+same-length-7 : tie.Need-same-length-7
+same-length-7 c = search needs
+
+same-length-8 : tie.Need-same-length-8
+same-length-8 c = search needs
+
+same-length-9 : tie.Need-same-length-9
+same-length-9 c = search needs
+
+returns : tie.Need-returns
+returns c = search needs
+
+pub plan-within-spec : {M : Type 1} → statement M
+plan-within-spec =
+    tie.close
+    (tie.spec
+    mul-all
+    slice-relend-prefix-plan-with
+    slice-aggregate-plan-with
+    slice-relend-prefix-plan-with-2
+    slice-aggregate-plan-with-2
+    slice-relend-prefix-plan-with-3
+    slice-aggregate-plan-with-3
+    slice-relend-prefix-plan-with-4
+    slice-aggregate-plan-with-4
+    slice-relend-prefix-plan-with-5
+    slice-aggregate-plan-with-5
+    slice-relend-prefix-plan-with-6
+    slice-aggregate-plan-with-6
+    slice-relend-prefix-plan-with-7
+    slice-aggregate-plan-with-7
+    slice-relend-prefix-plan-with-8
+    slice-aggregate-plan-with-8
+    plan-with-requires
+    same-length
+    same-length-2
+    same-length-3
+    same-length-4
+    same-length-5
+    same-length-6
+    same-length-7
+    same-length-8
+    same-length-9
+    returns)
