@@ -8,23 +8,22 @@ use lib.Dec.{eqb}
 use lib.ListN.{length, getD}
 use Rattle.labels.specs.Events.{exit, event}
 use Rattle.labels.specs.Kept.{keptOf}
-use Rattle.labels.specs.Letters.{letterTable}
+use Rattle.labels.specs.Tables.{Cells, Letters}
 use Rattle.labels.specs.Uses.{useOf}
 use Rattle.routine.specs.Actions.{isRemap}
 use Rattle.routine.specs.Arrays.{arrayOf}
-use Rattle.routine.specs.Layout.{arrays, vertices}
 use Rattle.state.specs.Current.{stampBy, settled}
 use Rattle.state.specs.Exit.{left}
 use Rattle.state.specs.Vertex.{labelled, relabelled}
 use Rattle.state.specs.declared.State.{State}
 use Rattle.run.specs.Records.{recordsAt}
 use Rattle.run.specs.Report.{stateOf, recordsBytes}
-use Rattle.words.specs.Tables.{table, rows, wrote}
+use Rattle.words.specs.Tables.{rows, wrote}
 
--- tables of letters and kept sets: a row for each array, an entry for each vertex
+-- tables of letters and kept sets
 pub record Tabled (file letters kept : List ℕ) : Type 0 where
-  pub letters-are : letters ≡ rows (letterTable file) (arrays file)
-  pub kept-are : kept ≡ rows (λ a. table (keptOf file a) (vertices file)) (arrays file)
+  pub letters-are : Letters file letters
+  pub kept-are : Cells file (keptOf file) kept
 
 -- an array's state, held as a state, its current version, and the stamp of its current copy
 pub record Stands (want s : State) (version stamp : ℕ) : Type 0 where

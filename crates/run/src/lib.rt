@@ -5,6 +5,7 @@ mod report;
 mod walk;
 
 use labels::checks;
+use labels::events;
 use labels::tables;
 use routine::header::Header;
 use routine::reader;
@@ -15,55 +16,109 @@ use routine::refusal::Verdict;
 ghost use mathlib.Core.Path.{_≡_};
 ghost use Prim.Native.Nat.{_*_};
 ghost use lib.ListN.{length};
-ghost use Rattle.labels.specs.Routines.{ReadAs};
-ghost use Rattle.routine.specs.Layout.{arrays, vertices};
+ghost use Rattle.labels.specs.Checks.{programmerCheck};
+ghost use Rattle.labels.specs.Routines.{ReadAs, Edges};
+ghost use Rattle.labels.specs.Tables.{Versions, UseGives};
+ghost use Rattle.routine.specs.Layout.{vertices, edges};
 ghost use Rattle.run.specs.Calls.{RanRead, Ran};
 ghost use Rattle.run.specs.Walks.{Tabled};
+
+// Fills in an order of the edges.
+fn fill_order(file: &[u8], h: Header, order: &mut [u16])
+    requires { ⌜ ReadAs (now file) h ⌝ }
+    requires { ⌜ length (now order) ≡ edges (now file) ⌝ }
+    ensures { λ _. ⌜ Edges (now (file .entry)) (now (order .exit)) ⌝ }
+{
+    let at = h.edges_at();
+    flow::order::fill(&file[at..], order);
+}
+
+// Refusals 20 and 21. `order`, `versions` and `uses` are left for `tabulate`; the other tables are work slices.
+fn check(
+    file: &[u8],
+    h: Header,
+    order: &mut [u16],
+    versions: &mut [u16],
+    uses: &mut [u16],
+    reached: &mut [u16],
+    sets: &mut [u16],
+    gives: &mut [u16],
+    passes: &mut [u16],
+) -> Verdict
+    requires { ⌜ ReadAs (now file) h ⌝ }
+    requires { ⌜ length (now order) ≡ edges (now file) ⌝ }
+    requires { ⌜ length (now versions) ≡ 8 * vertices (now file) ⌝ }
+    requires { ⌜ length (now uses) ≡ 8 * vertices (now file) ⌝ }
+    requires { ⌜ length (now reached) ≡ 8 * vertices (now file) ⌝ }
+    requires { ⌜ length (now sets) ≡ 8 * vertices (now file) ⌝ }
+    requires { ⌜ length (now gives) ≡ 8 * vertices (now file) ⌝ }
+    requires { ⌜ length (now passes) ≡ 8 * vertices (now file) ⌝ }
+    ensures { λ r. ⌜ r ≡ programmerCheck (now (file .entry)) ⌝ }
+    ensures { λ _. ⌜ Edges (now (file .entry)) (now (order .exit)) ⌝ }
+    ensures { λ _. ⌜ Versions (now (file .entry)) (now (versions .exit)) ⌝ }
+    ensures { λ _. ⌜ UseGives (now (file .entry)) (now (uses .exit)) ⌝ }
+{
+    fill_order(file, h, order);
+    events::tabulate(file, h, versions, uses);
+    checks::check(file, h, order, versions, uses, reached, sets, gives, passes)
+}
 
 // The tables of letters and kept sets.
 fn tabulate(
     file: &[u8],
     h: Header,
+    order: &[u16],
+    versions: &[u16],
+    uses: &[u16],
     letters: &mut [u8],
     kept: &mut [u16],
     gives: &mut [u16],
     passes: &mut [u16],
 )
     requires { ⌜ ReadAs (now file) h ⌝ }
-    requires { ⌜ length (now letters) ≡ arrays (now file) * vertices (now file) ⌝ }
-    requires { ⌜ length (now kept) ≡ arrays (now file) * vertices (now file) ⌝ }
-    requires { ⌜ length (now gives) ≡ arrays (now file) * vertices (now file) ⌝ }
-    requires { ⌜ length (now passes) ≡ arrays (now file) * vertices (now file) ⌝ }
+    requires { ⌜ Edges (now file) (now order) ⌝ }
+    requires { ⌜ Versions (now file) (now versions) ⌝ }
+    requires { ⌜ UseGives (now file) (now uses) ⌝ }
+    requires { ⌜ length (now letters) ≡ 8 * vertices (now file) ⌝ }
+    requires { ⌜ length (now kept) ≡ 8 * vertices (now file) ⌝ }
+    requires { ⌜ length (now gives) ≡ 8 * vertices (now file) ⌝ }
+    requires { ⌜ length (now passes) ≡ 8 * vertices (now file) ⌝ }
     ensures { λ _. ⌜ Tabled (now (file .entry)) (now (letters .exit)) (now (kept .exit)) ⌝ }
 {
-    tables::letters(file, h, letters, gives, passes, kept);
-    tables::kept(file, h, letters, kept, gives, passes);
+    tables::letters(file, h, order, uses, letters, kept, passes);
+    tables::kept(file, h, order, versions, letters, kept, gives, passes);
 }
 
-// Runs a path through a routine that was read. `counts` and `reached` hold an entry for each vertex, the other tables one for each array
-// and vertex.
+// Runs a path through a routine that was read. `order` holds an entry for each edge, `counts` one for each vertex, the other tables eight for
+// each vertex.
 fn run_with(
     file: &[u8],
     h: Header,
     path: &[u8],
     out: &mut [u8],
+    order: &mut [u16],
+    versions: &mut [u16],
+    uses: &mut [u16],
     letters: &mut [u8],
     kept: &mut [u16],
     counts: &mut [u8],
-    reached: &mut [u64],
+    reached: &mut [u16],
     gives: &mut [u16],
     passes: &mut [u16],
 ) -> Reply
     requires { ⌜ ReadAs (now file) h ⌝ }
-    requires { ⌜ length (now letters) ≡ arrays (now file) * vertices (now file) ⌝ }
-    requires { ⌜ length (now kept) ≡ arrays (now file) * vertices (now file) ⌝ }
+    requires { ⌜ length (now order) ≡ edges (now file) ⌝ }
+    requires { ⌜ length (now versions) ≡ 8 * vertices (now file) ⌝ }
+    requires { ⌜ length (now uses) ≡ 8 * vertices (now file) ⌝ }
+    requires { ⌜ length (now letters) ≡ 8 * vertices (now file) ⌝ }
+    requires { ⌜ length (now kept) ≡ 8 * vertices (now file) ⌝ }
     requires { ⌜ length (now counts) ≡ vertices (now file) ⌝ }
-    requires { ⌜ length (now reached) ≡ vertices (now file) ⌝ }
-    requires { ⌜ length (now gives) ≡ arrays (now file) * vertices (now file) ⌝ }
-    requires { ⌜ length (now passes) ≡ arrays (now file) * vertices (now file) ⌝ }
+    requires { ⌜ length (now reached) ≡ 8 * vertices (now file) ⌝ }
+    requires { ⌜ length (now gives) ≡ 8 * vertices (now file) ⌝ }
+    requires { ⌜ length (now passes) ≡ 8 * vertices (now file) ⌝ }
     ensures { λ r. ⌜ RanRead (now (file .entry)) (now (path .entry)) (now (out .entry)) r (now (out .exit)) ⌝ }
 {
-    let checked = checks::check(file, h, kept, reached, gives, passes);
+    let checked = check(file, h, order, versions, uses, reached, kept, gives, passes);
     if let Verdict::Failed(r) = checked {
         return Reply::Denied(r);
     }
@@ -75,7 +130,7 @@ fn run_with(
     if out.len() < needed {
         return Reply::Denied(Refusal::ShortReportBuffer { needed });
     }
-    tabulate(file, h, letters, kept, gives, passes);
+    tabulate(file, h, order, versions, uses, letters, kept, gives, passes);
     walk::write(file, h, path, letters, kept, out);
     Reply::Written(needed)
 }
@@ -86,33 +141,43 @@ fn run_within(
     h: Header,
     path: &[u8],
     out: &mut [u8],
+    order: &mut [u16],
+    versions: &mut [u16],
+    uses: &mut [u16],
     letters: &mut [u8],
     kept: &mut [u16],
     counts: &mut [u8],
-    reached: &mut [u64],
+    reached: &mut [u16],
     gives: &mut [u16],
     passes: &mut [u16],
 ) -> Reply
     requires { ⌜ ReadAs (now file) h ⌝ }
+    requires { ⌜ length (now order) ≡ 1024 ⌝ }
+    requires { ⌜ length (now versions) ≡ 2048 ⌝ }
+    requires { ⌜ length (now uses) ≡ 2048 ⌝ }
     requires { ⌜ length (now letters) ≡ 2048 ⌝ }
     requires { ⌜ length (now kept) ≡ 2048 ⌝ }
     requires { ⌜ length (now counts) ≡ 256 ⌝ }
-    requires { ⌜ length (now reached) ≡ 256 ⌝ }
+    requires { ⌜ length (now reached) ≡ 2048 ⌝ }
     requires { ⌜ length (now gives) ≡ 2048 ⌝ }
     requires { ⌜ length (now passes) ≡ 2048 ⌝ }
     ensures { λ r. ⌜ RanRead (now (file .entry)) (now (path .entry)) (now (out .entry)) r (now (out .exit)) ⌝ }
 {
+    let e = h.edges;
     let n = h.vertices;
-    let all = h.arrays * n;
+    let all = flow::COLUMNS * n;
     run_with(
         file,
         h,
         path,
         out,
+        &mut order[..e],
+        &mut versions[..all],
+        &mut uses[..all],
         &mut letters[..all],
         &mut kept[..all],
         &mut counts[..n],
-        &mut reached[..n],
+        &mut reached[..all],
         &mut gives[..all],
         &mut passes[..all],
     )
@@ -122,10 +187,13 @@ fn run_read(file: &[u8], h: Header, path: &[u8], out: &mut [u8]) -> Reply
     requires { ⌜ ReadAs (now file) h ⌝ }
     ensures { λ r. ⌜ RanRead (now (file .entry)) (now (path .entry)) (now (out .entry)) r (now (out .exit)) ⌝ }
 {
+    let mut order = [0u16; 1024];
+    let mut versions = [0u16; 2048];
+    let mut uses = [0u16; 2048];
     let mut letters = [0u8; 2048];
     let mut kept = [0u16; 2048];
     let mut counts = [0u8; 256];
-    let mut reached = [0u64; 256];
+    let mut reached = [0u16; 2048];
     let mut gives = [0u16; 2048];
     let mut passes = [0u16; 2048];
     run_within(
@@ -133,6 +201,9 @@ fn run_read(file: &[u8], h: Header, path: &[u8], out: &mut [u8]) -> Reply
         h,
         path,
         out,
+        &mut order,
+        &mut versions,
+        &mut uses,
         &mut letters,
         &mut kept,
         &mut counts,

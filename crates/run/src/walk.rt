@@ -160,7 +160,7 @@ fn relabel(
 {
     let r = array::record_of(file, a);
     let x = event::at(file, h, r, a, v);
-    let place = a * h.vertices + v;
+    let place = flow::COLUMNS * v + a;
     let t = state::relabelled(state::settled(s, stamp), r, x, letters[place], kept[place]);
     state::leave(t, r, v == h.vertices - 1)
 }

@@ -23,8 +23,17 @@ slice-aggregate-run-within-5 c = search needs
 slice-aggregate-run-within-6 : tie.Need-slice-aggregate-run-within-6
 slice-aggregate-run-within-6 c = search needs
 
+slice-aggregate-run-within-7 : tie.Need-slice-aggregate-run-within-7
+slice-aggregate-run-within-7 c = search needs
+
+slice-aggregate-run-within-8 : tie.Need-slice-aggregate-run-within-8
+slice-aggregate-run-within-8 c = search needs
+
+slice-aggregate-run-within-9 : tie.Need-slice-aggregate-run-within-9
+slice-aggregate-run-within-9 c = search needs
+
 run-within-requires : tie.Need-run-within-requires
-run-within-requires c κs = (c .before .before .before .before .before .before .before .before .before .before .pre, (refl, (refl, (refl, (refl, (refl, refl))))))
+run-within-requires c κs = (c .before .before .before .before .before .before .before .before .before .before .before .before .before .pre, (refl, (refl, (refl, (refl, (refl, (refl, (refl, (refl, refl)))))))))
 
 same-length : tie.Need-same-length
 same-length c = search needs
@@ -42,6 +51,9 @@ run-read-spec =
     slice-aggregate-run-within-4
     slice-aggregate-run-within-5
     slice-aggregate-run-within-6
+    slice-aggregate-run-within-7
+    slice-aggregate-run-within-8
+    slice-aggregate-run-within-9
     run-within-requires
     same-length
     returns)

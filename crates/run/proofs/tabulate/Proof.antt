@@ -7,15 +7,15 @@ use Rattle.run.proofs.tabulate.Tie as tie
 
 letters-requires : tie.Need-letters-requires
 letters-requires c κs =
-    let p = c .before .before .before .before .before .before .before .before .before .pre in
-    (p .0, (p .1 .0, (p .1 .1 .1 .0, (p .1 .1 .1 .1, p .1 .1 .0))))
+    let p = c .before .before .before .before .before .before .before .before .before .before .before .pre in
+    (p .0, (p .1 .0, (p .1 .1 .1 .0, (p .1 .1 .1 .1 .0, (p .1 .1 .1 .1 .1 .0, p .1 .1 .1 .1 .1 .1 .1)))))
 
 kept-requires : tie.Need-kept-requires
 kept-requires c κs =
-    let x = c .before .before .before .before .before .before .before .before .before .before .before .before in
-    let p = x .before .before .before .before .before .before .before .before .before .before .pre in
+    let x = c .before .before .before .before .before .before .before .before .before .before in
+    let p = x .before .before .before .before .before .before .before .before .before .before .before .before .pre in
     let l = x .letters in
-    (p .0, (l .ensures, (l .kept .1 .1 .1 .1 .1 .0 ∙ p .1 .1 .0, (l .kept .1 .1 .1 .0 ∙ p .1 .1 .1 .0, l .kept .1 .1 .1 .1 .0 ∙ p .1 .1 .1 .1))))
+    (p .0, (p .1 .0, (p .1 .1 .0, (l .ensures, (l .kept .1 .1 .1 .1 .1 .0 ∙ p .1 .1 .1 .1 .1 .0, (p .1 .1 .1 .1 .1 .1 .0, l .kept .1 .1 .1 .1 .1 .1 .0 ∙ p .1 .1 .1 .1 .1 .1 .1))))))
 
 same-length : tie.Need-same-length
 same-length c = search needs
