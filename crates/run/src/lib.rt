@@ -6,6 +6,7 @@ mod walk;
 
 use labels::checks;
 use labels::events;
+use labels::pass;
 use labels::tables;
 use routine::header::Header;
 use routine::reader;
@@ -22,16 +23,6 @@ ghost use Rattle.labels.specs.Tables.{Versions, UseGives};
 ghost use Rattle.routine.specs.Layout.{vertices, edges};
 ghost use Rattle.run.specs.Calls.{RanRead, Ran};
 ghost use Rattle.run.specs.Walks.{Tabled};
-
-// Fills in an order of the edges.
-fn fill_order(file: &[u8], h: Header, order: &mut [u16])
-    requires { ⌜ ReadAs (now file) h ⌝ }
-    requires { ⌜ length (now order) ≡ edges (now file) ⌝ }
-    ensures { λ _. ⌜ Edges (now (file .entry)) (now (order .exit)) ⌝ }
-{
-    let at = h.edges_at();
-    flow::order::fill(&file[at..], order);
-}
 
 // Refusals 20 and 21. `order`, `versions` and `uses` are left for `tabulate`; the other tables are work slices.
 fn check(
@@ -58,7 +49,7 @@ fn check(
     ensures { λ _. ⌜ Versions (now (file .entry)) (now (versions .exit)) ⌝ }
     ensures { λ _. ⌜ UseGives (now (file .entry)) (now (uses .exit)) ⌝ }
 {
-    fill_order(file, h, order);
+    pass::order(file, h, order);
     events::tabulate(file, h, versions, uses);
     checks::check(file, h, order, versions, uses, reached, sets, gives, passes)
 }

@@ -4,8 +4,8 @@ use borrow.Author.Needs.{needs}
 use Rattle.run.proofs.check.Statement.{statement}
 use Rattle.run.proofs.check.Tie as tie
 
-fill-order-requires : tie.Need-fill-order-requires
-fill-order-requires c κs = search needs
+order-requires : tie.Need-order-requires
+order-requires c κs = search needs
 
 tabulate-requires : tie.Need-tabulate-requires
 tabulate-requires c κs = search needs
@@ -15,7 +15,7 @@ check-requires c κs =
     let t = c .before .before .before .before .before .before .before .before .before .before .before in
     let f = t .before .before .before .before .before in
     let p = f .before .before .before .before .before .before .before .before .before .before .pre in
-    (p .0, (f .fill-order .ensures, (t .tabulate .ensures .0, (t .tabulate .ensures .1, p .1 .1 .1 .1))))
+    (p .0, (f .order .ensures, (t .tabulate .ensures .0, (t .tabulate .ensures .1, p .1 .1 .1 .1))))
 
 same-length : tie.Need-same-length
 same-length c = search needs
@@ -43,13 +43,13 @@ returns c =
     let k = c .before .before .before .before .before .before .before .before in
     let t = k .before .before .before .before .before .before .before .before .before .before .before .before in
     let f = t .before .before .before .before .before in
-    (k .check .ensures .answers, (f .fill-order .ensures, t .tabulate .ensures))
+    (k .check .ensures .answers, (f .order .ensures, t .tabulate .ensures))
 
 pub check-spec : {M : Type 1} → statement M
 check-spec =
     tie.close
     (tie.spec
-    fill-order-requires
+    order-requires
     tabulate-requires
     check-requires
     same-length
