@@ -81,10 +81,6 @@ module _ {file : List ℕ} (well : WellFormed file) where
         (table-ext (vertices file) (λ u in-u. g .cells a u in-a in-u)) (table-ext (vertices file) (λ u in-u. p .cells a u in-a in-u)));
   }
 
--- the same cells by another name
-pub cells-are : {file : List ℕ} {f g : ℕ → ℕ → ℕ} {s : List ℕ} → Cells file f s → ((a v : ℕ) → a < arrays file → v < vertices file → f a v ≡ g a v) → Cells file g s
-cells-are h e = record { size = h .size; cells = λ a v in-a in-v. h .cells a v in-a in-v ∙ e a v in-a in-v }
-
 -- ---- by the header
 
 module _ {file : List ℕ} {h : Header} (is : ReadAs file h) {a v : ℕ} (in-a : a < arrays file) (in-v : v < vertices file) where

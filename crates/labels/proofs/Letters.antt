@@ -41,9 +41,3 @@ n-or-r b = by (eqb b 78) (eqb b 68) (eqb b 82) refl refl
     by false true false e f = refl
     by false false true e f = refl
     by false false false e f = refl
-
--- a kept label, by its event and its letter
-pub kept-is : (file : List ℕ) (a v : ℕ) {x : Action} {u : Use} {k : Bool}
-    → x ≡ event file a v → u ≡ useOf file a v → k ≡ (isRemap x && not (isN u)) → k ≡ isKept file a v
-unfolding isKept
-kept-is file a v e f g = cc

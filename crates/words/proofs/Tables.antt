@@ -5,11 +5,11 @@ use mathlib.Core.Bool.{Bool, true, false, cond}
 use mathlib.Core.List.{List, [], _∷_, _++_, append-assoc, append-nil}
 use mathlib.Core.Logic.{⊎-elim}
 use Prim.Native.Nat.{ℕ, zero, suc, _+_, _*_, _≤_, _<_, zero-le}
-use native.Mathlib.Nat.{zero-mul, eq-or-lt-of-le, le-of-suc-le-suc, le-of-eq, mul-le-mul-right}
+use native.Mathlib.Nat.{zero-mul, eq-or-lt-of-le, le-of-suc-le-suc}
 use native.Mathlib.Numerals.{add-one}
 use native.Mathlib.Omega.{arith}
-use lib.ListN.{length, getD, set, take, drop, length-append, length-drop, List·getD-append, drop-of-length-le}
-use lib.Seq.{set-at, getD-at, drop-cons, drop-at, drop-append-le, take-append-le, getD-drop, getD-take, take-all}
+use lib.ListN.{length, getD, set, drop, length-append, length-drop, List·getD-append, drop-of-length-le}
+use lib.Seq.{set-at, getD-at, drop-cons}
 use Rattle.words.specs.Tables.{table, rows}
 
 -- ---- one for each that a test counts
@@ -83,23 +83,3 @@ module _ (row : ℕ → List ℕ) (w : ℕ) (wide : (a : ℕ) → length (row a)
   unfolding rows
   rows-length zero = sym (zero-mul w)
   rows-length (suc n) = length-append (rows row n) (row n) ∙ (let e : length (rows row n) + length (row n) ≡ suc n * w = omega (arith, rows-length n, wide n) in e)
-
-  -- row a stands at a * w
-  pub rows-part : (n a : ℕ) → a < n → take w (drop (a * w) (rows row n)) ≡ row a
-  unfolding rows
-  rows-part zero a h = absurd (omega arith)
-  rows-part (suc n) a h =
-      ⊎-elim
-      (λ (e : a ≡ n).
-      ap (λ (l : List ℕ). take w l) (drop-at (rows row n) (row n) (a * w) (rows-length n ∙ ap (λ (m : ℕ). m * w) (sym e)))
-      ∙ take-all w (row n) (le-of-eq (wide n)) ∙ ap row (sym e))
-      (λ (l : a < n).
-      let fits : a * w + w ≤ length (rows row n) = omega (arith, rows-length n, mul-le-mul-right w l) in
-      ap (λ (l : List ℕ). take w l) (drop-append-le (a * w) (rows row n) (row n) (omega arith))
-      ∙ take-append-le w (drop (a * w) (rows row n)) (row n) (omega (arith, length-drop (a * w) (rows row n))) ∙ rows-part n a l)
-      (eq-or-lt-of-le (le-of-suc-le-suc h))
-
-  pub rows-at : (n a v : ℕ) → a < n → v < w → getD (rows row n) (a * w + v) 0 ≡ getD (row a) v 0
-  rows-at n a v ha hv =
-      sym (getD-drop (a * w) (rows row n) v 0) ∙ sym (getD-take w (drop (a * w) (rows row n)) v 0 hv)
-      ∙ ap (λ (l : List ℕ). getD l v 0) (rows-part n a ha)

@@ -22,11 +22,6 @@ use Rattle.labels.proofs.Rules.Arrivals.{last-exact}
 use Rattle.labels.proofs.Rules.Tests.{is-true}
 use Rattle.labels.proofs.Rules.Versions.{all-but, versions-exact, versions-fit}
 
--- one set for each vertex
-pub arriving-length : (file : List ℕ) (a : ℕ) → length (arrivingSets file a) ≡ vertices file
-unfolding arrivingSets
-arriving-length file a = solution-length (edgeBytes file) false (table (arriveGives file a) (vertices file)) (table (arrivePasses file a) (vertices file)) (vertices file)
-
 module _ (file : List ℕ) (a : ℕ) (proper : Proper file a) (v : ℕ) where
   -- an arriving set is a 16-bit mask
   pub arriving-fits : getD (arrivingSets file a) v 0 < 2 ^ width

@@ -32,11 +32,6 @@ all-pass (u ∷ us) = (tt, all-pass us)
 
 -- ---- which vertices are reached
 
--- one set for each vertex
-pub reached-length : (file : List ℕ) → length (reachedSets file) ≡ vertices file
-unfolding reachedSets
-reached-length file = solution-length (edgeBytes file) false (table (λ v. cond (eqb v entry) 1 0) (vertices file)) (table (λ v. 1) (vertices file)) (vertices file)
-
 module _ (file : List ℕ) (ends : Ends (edgeBytes file) (vertices file)) where
   from-entry : (v : ℕ) → T (isReached file v) ↔ ((v ≡ entry) ⊎ Finds (edgeBytes file) false (λ u. true) (λ u. u ≡ entry) v)
   unfolding isReached reachedSets has

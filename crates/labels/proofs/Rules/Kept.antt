@@ -23,11 +23,6 @@ use Rattle.labels.specs.Uses.{useOf, isN, isKept, Leaves}
 use Rattle.labels.proofs.Rules.Tests.{member-cond, member-single}
 use Rattle.labels.proofs.Rules.Versions.{single-fits, versions-exact, versions-fit}
 
--- one set for each vertex
-pub kept-length : (file : List ℕ) (a : ℕ) → length (keptSets file a) ≡ vertices file
-unfolding keptSets
-kept-length file a = solution-length (edgeBytes file) true (table (leavingSet file a) (vertices file)) (table (λ v. cond (passesKept file a v) everyVersion 0) (vertices file)) (vertices file)
-
 module _ (file : List ℕ) (a : ℕ) (proper : Proper file a) (v : ℕ) where
   -- the leaving version if there is one
   leaving-exact : (k : ℕ) → T (has (leavingSet file a v) k) ↔ Leaves file a v k

@@ -26,11 +26,6 @@ use Rattle.labels.proofs.Rules.Tables.{Finds}
 use Rattle.labels.proofs.Rules.Tests.{is-false, eqb-iff, member-cond, member-single}
 use Rattle.labels.proofs.Rules.Versions.{all-but, single-fits, versions-exact, versions-fit}
 
--- one set for each vertex
-pub reach-length : (file : List ℕ) (a : ℕ) → length (reachSets file a) ≡ vertices file
-unfolding reachSets
-reach-length file a = solution-length (edgeBytes file) false (table (reachGives file a) (vertices file)) (table (reachPasses file a) (vertices file)) (vertices file)
-
 -- the entry's version is the initial one
 entry-version : (file : List ℕ) (a u : ℕ) → u ≡ entry → version file a u ≡ initial file a
 unfolding version event

@@ -64,12 +64,6 @@ module _ (file : List ℕ) (a v : ℕ) where
 
 -- ---- use sets
 
-module _ (file : List ℕ) (a : ℕ) where
-  -- one for each vertex
-  pub use-length : length (useSets file a) ≡ vertices file
-  unfolding useSets
-  use-length = solution-length (edgeBytes file) true (table (λ v. useGives (event file a v)) (vertices file)) (table (λ v. usePasses (event file a v)) (vertices file)) (vertices file)
-
 module _ (file : List ℕ) (a : ℕ) (proper : Proper file a) (v : ℕ) where
   -- the use set of v
   abbrev mask : ℕ
