@@ -37,7 +37,7 @@ fn leaving(version: u16, letter: u8) -> u8
     if letter == b'N' {
         return 255;
     }
-    sets::lowest(version)
+    sets::one_of(version)
 }
 
 // Writes the label of array a at vertex v, if there is one, and returns how many bytes that is.

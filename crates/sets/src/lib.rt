@@ -36,8 +36,8 @@ pub fn more_than_one(set: u16) -> bool
     u16::count_ones(set) > 1
 }
 
-// The lowest version of the set.
-pub fn lowest(set: u16) -> u8
+// A version of the set.
+pub fn one_of(set: u16) -> u8
     requires { ⌜ 0 < set ⌝ }
     ensures { λ r. ⌜ r < 16 ⌝ }
     ensures { λ r. ⌜ has set r ≡ true ⌝ }

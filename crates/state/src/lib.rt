@@ -226,7 +226,7 @@ fn clear(stamps: [u16; 16], dead: u16) -> [u16; 16]
     let mut left = stamps;
     let mut rest = dead;
     while rest != 0 {
-        let version = sets::lowest(rest);
+        let version = sets::one_of(rest);
         let at = version as usize;
         left[at] = 0;
         rest = sets::difference(rest, sets::single(version));

@@ -20,8 +20,8 @@ abbrev μ-loop : tie.MeasureT-loop
 loop-holds : tie.Need-loop-holds Inv-loop μ-loop
 loop-holds c = refl
 
-lowest-requires : tie.Need-lowest-requires Inv-loop μ-loop
-lowest-requires c κs = search needs
+one-of-requires : tie.Need-one-of-requires Inv-loop μ-loop
+one-of-requires c κs = search needs
 
 cast-at : tie.Need-cast-at Inv-loop μ-loop
 cast-at c = search needs
@@ -41,14 +41,14 @@ difference-requires c κs = search needs
 loop-less : tie.Need-loop-less Inv-loop μ-loop
 loop-less c =
     let l = c .before .before .before .before .loop in
-    let low = c .before .before .lowest in
+    let low = c .before .before .one-of in
     let left = c .difference .ensures ∙ ap (minus (l .rest)) (c .before .single .ensures) in
     rw left (falls (l .rest) (low .result) (low .ensures .1))
 
 loop-again : tie.Need-loop-again Inv-loop μ-loop
 loop-again c =
     let l = c .before .before .before .before .loop in
-    let low = c .before .before .lowest in
+    let low = c .before .before .one-of in
     let left = c .difference .ensures ∙ ap (minus (l .rest)) (c .before .single .ensures) in
     ap (λ (n : ℕ). cleared n (set (l .left) (low .result) 0) 16) left
     ∙ cleared-first (l .rest) (low .result) (l .left) (low .ensures .1) (low .ensures .0)
@@ -67,7 +67,7 @@ clear-spec =
     Inv-loop
     μ-loop
     loop-holds
-    lowest-requires
+    one-of-requires
     cast-at
     mul-left
     array-write-left

@@ -17,11 +17,11 @@ letter-n {b} e = rw e
 returns : tie.Need-returns
 returns c = record { none = λ e. refl; some = λ e. absurd (true≢false (sym (letter-n (c .if1 .taken)) ∙ e)) }
 
-lowest-requires : tie.Need-lowest-requires
-lowest-requires c κs = search needs
+one-of-requires : tie.Need-one-of-requires
+one-of-requires c κs = search needs
 
 returns-2 : tie.Need-returns-2
-returns-2 c = record { none = λ e. absurd (true≢false (sym e ∙ not-true (isN (useOfByte (c .before .before .args .letter))) (sym (not-n (c .before .before .args .letter)) ∙ ap not (ne-eqb _ _ (c .before .if1 .left))))); some = λ e. c .lowest .ensures .1 }
+returns-2 c = record { none = λ e. absurd (true≢false (sym e ∙ not-true (isN (useOfByte (c .before .before .args .letter))) (sym (not-n (c .before .before .args .letter)) ∙ ap not (ne-eqb _ _ (c .before .if1 .left))))); some = λ e. c .one-of .ensures .1 }
 
 pub leaving-spec : {M : Type 1} → statement M
-leaving-spec = tie.close (tie.spec returns lowest-requires returns-2)
+leaving-spec = tie.close (tie.spec returns one-of-requires returns-2)
