@@ -3,7 +3,6 @@
 // The laws of masks are stated once for any width, in `proofs/Laws.antt`; the functions here are those laws at 16 bits.
 ghost use mathlib.Core.Path.{_≡_};
 ghost use Prim.Native.Nat.{_<_, _^_};
-ghost use Rattle.sets.specs.Lanes.{lane, four};
 ghost use Rattle.sets.specs.Sets.{has, minus, several};
 
 // Whether version k is in the set.
@@ -34,19 +33,4 @@ pub fn more_than_one(set: u16) -> bool
     ensures { λ r. ⌜ r ≡ several set ⌝ }
 {
     u16::count_ones(set) > 1
-}
-
-// Four sets in one word.
-pub fn four(a: u16, b: u16, c: u16, d: u16) -> u64
-    ensures { λ r. ⌜ r ≡ four 16 a b c d ⌝ }
-{
-    (a as u64) | (((b as u64) << 16) | (((c as u64) << 32) | ((d as u64) << 48)))
-}
-
-// The set in lane j of a word.
-pub fn lane(word: u64, j: u8) -> u16
-    requires { ⌜ j < 4 ⌝ }
-    ensures { λ r. ⌜ r ≡ lane 16 j word ⌝ }
-{
-    ((word >> (16 * j)) % 65536) as u16
 }
