@@ -3,6 +3,7 @@
 
 #[path = "../../tests/compare/src/bindings.rs"]
 mod bindings;
+mod order;
 mod rounds;
 
 use std::hint::black_box;
@@ -29,6 +30,16 @@ fn acceptable(draw: impl Fn(&mut Rng) -> Draft) -> Vec<u8> {
     let mut draft = draw(&mut rng);
     routines::make_acceptable(&mut rng, &mut draft);
     draft.bytes()
+}
+
+/// A structured program of eight arrays: the first one drawn that has so many vertices.
+fn structured(rng: &mut Rng, vertices: usize) -> Draft {
+    loop {
+        let draft = routines::program(rng, Size::LARGEST);
+        if draft.rows.len() == vertices {
+            return draft;
+        }
+    }
 }
 
 /// The vertices of a ring that has room for another vertex beside each.
@@ -65,8 +76,12 @@ fn lines() -> Vec<(&'static str, Input)> {
     vec![
         ("plan P", Input::plan(builder::p().bytes())),
         (
+            "plan, structured, 51 vertices",
+            Input::plan(acceptable(|rng| structured(rng, 51))),
+        ),
+        (
             "plan, structured, 256 vertices",
-            Input::plan(acceptable(|rng| routines::program(rng, Size::LARGEST))),
+            Input::plan(acceptable(|rng| structured(rng, MAX_VERTICES))),
         ),
         (
             "plan, 256 vertices, 1,024 edges",

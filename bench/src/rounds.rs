@@ -1,16 +1,18 @@
 //! How many rounds over the edges each pass of the planner takes, the last one, which alters
-//! nothing, included. A round takes the edges in place: those of a pass along them from the
-//! last to the first, those of a pass against them from the first to the last; from the third
-//! round on, every second round goes the other way.
+//! nothing, included. A round takes the edges in place, in the order of [`ordered`]: those of a
+//! pass along them from the last to the first, those of a pass against them from the first to the
+//! last. It is a mirror of crates/flow/src/lib.rt: the library does not hand its rounds out.
 
 use std::fmt;
 
 use oracle::labels::{Label, Use, fixpoint};
 use oracle::routine::{Event, Kind, Reference, Routine};
 
+use crate::order::ordered;
+
 const EVERY: u16 = 0xffff;
 
-/// The most rounds of a pass for any array.
+/// The most rounds of a pass for any array: the library solves all arrays at once.
 #[derive(Default)]
 pub struct Rounds {
     reached: usize,
@@ -34,7 +36,7 @@ impl Rounds {
     /// The rounds of the passes on a routine; what they find is held against the oracle.
     pub fn of(routine: &Routine) -> Rounds {
         let vertices = routine.vertex_count();
-        let edges: Vec<(usize, usize)> = routine.edges().collect();
+        let edges = ordered(&routine.edges().collect::<Vec<_>>(), vertices);
         let (mut reached, rounds) = solve(&edges, false, vertices, |v| (u16::from(v == 0), 1));
         reached[0] = 1;
         let mut most = Rounds {
@@ -72,8 +74,8 @@ impl Rounds {
     }
 }
 
-/// The sets of a pass and its rounds, from what each vertex gives and passes: a set grows by
-/// what the far end of an edge gives, and by what that end holds and passes.
+/// The sets of a pass and its rounds over ordered edges, from what each vertex gives and passes:
+/// a set grows by what the far end of an edge gives, and by what that end holds and passes.
 fn solve(
     edges: &[(usize, usize)],
     along: bool,
@@ -86,19 +88,13 @@ fn solve(
     } else {
         edges.to_vec()
     };
-    let the_other_way: Vec<(usize, usize)> = far_and_near.iter().rev().copied().collect();
     let mut sets = vec![0; vertices];
     let mut rounds = 0;
     let mut altered = true;
     while altered {
         altered = false;
-        let turned = rounds > 1 && rounds % 2 == 0;
         rounds += 1;
-        for &(far, near) in if turned {
-            &the_other_way
-        } else {
-            &far_and_near
-        } {
+        for &(far, near) in &far_and_near {
             let handed = gives[far] | sets[far] & passes[far];
             altered |= handed & !sets[near] != 0;
             sets[near] |= handed;
@@ -134,6 +130,7 @@ fn letter(facts: u16) -> Use {
 
 /// One array of a routine.
 struct Array<'a> {
+    /// In their order.
     edges: &'a [(usize, usize)],
     /// 1 for each vertex that a path from the entry reaches.
     reached: &'a [u16],

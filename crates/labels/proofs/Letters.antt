@@ -1,20 +1,16 @@
--- Letters as bytes, and by event and letter a label is kept.
+-- Letters as bytes.
 -- Assumes nothing.
 use mathlib.Core.Path.{_≡_, refl}
-use mathlib.Core.Bool.{Bool, true, false, not, _&&_, _||_, cond}
-use mathlib.Core.List.{List}
+use mathlib.Core.Bool.{Bool, true, false, not, _||_, cond}
 use Prim.Native.Nat.{ℕ}
 use native.Mathlib.Omega.{arith}
 use borrow.Author.Tests.{eqb-true}
 use lib.Dec.{eqb}
-use Rattle.labels.specs.Events.{event}
 use Rattle.labels.specs.Kept.{isNOrR}
 use Rattle.labels.specs.Letters.{letterByte, useOfByte}
-use Rattle.labels.specs.Uses.{useOf, isN, isKept}
+use Rattle.labels.specs.Uses.{isN}
 use Rattle.labels.specs.declared.Use.{Use}
 use Rattle.labels.specs.declared.Use.the-variants.{N, D, R, W}
-use Rattle.routine.specs.Actions.{isRemap}
-use Rattle.routine.specs.declared.action.Action.{Action}
 
 pub letter-use : (u : Use) → useOfByte (letterByte u) ≡ u
 letter-use N = refl
