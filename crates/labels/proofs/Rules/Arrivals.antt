@@ -7,15 +7,12 @@ use mathlib.Core.Logic.{_↔_, _⊎_, inl, inr, ⊎-elim}
 use mathlib.Core.Option.{Option, none, some, Option·none-ne-some}
 use Prim.Native.Nat.{ℕ}
 use lib.Dec.{T, eqb}
-use lib.ListN.{length}
 use Rattle.flow.specs.Paths.{Edge, Path, last, next, Joined, AllPass}
 use Rattle.flow.specs.Solver.{Ends}
 use Rattle.flow.proofs.Tests.{either, or-iff}
 use Rattle.flow.proofs.Paths.{list-iff, extend}
-use Rattle.flow.proofs.Exact.{solution-length}
 use Rattle.routine.specs.Layout.{vertices}
 use Rattle.sets.specs.Sets.{has}
-use Rattle.words.specs.Tables.{table}
 use Rattle.labels.specs.Events.{edgeBytes, entry}
 use Rattle.labels.specs.Reaching.{ArrivesBy, orLast, lastVersion, reachedSets, isReached}
 use Rattle.labels.proofs.Rules.Tables.{Finds, solved}
@@ -31,11 +28,6 @@ all-pass [] = tt
 all-pass (u ∷ us) = (tt, all-pass us)
 
 -- ---- which vertices are reached
-
--- one set for each vertex
-pub reached-length : (file : List ℕ) → length (reachedSets file) ≡ vertices file
-unfolding reachedSets
-reached-length file = solution-length (edgeBytes file) false (table (λ v. cond (eqb v entry) 1 0) (vertices file)) (table (λ v. 1) (vertices file)) (vertices file)
 
 module _ (file : List ℕ) (ends : Ends (edgeBytes file) (vertices file)) where
   from-entry : (v : ℕ) → T (isReached file v) ↔ ((v ≡ entry) ⊎ Finds (edgeBytes file) false (λ u. true) (λ u. u ≡ entry) v)

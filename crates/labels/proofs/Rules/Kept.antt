@@ -7,26 +7,18 @@ use mathlib.Core.Logic.{_↔_, Iff·rfl}
 use Prim.Native.Nat.{ℕ, _^_, _<_}
 use lib.Bits.{bitOr, or-lt, or-zero-r}
 use lib.Dec.{T}
-use lib.ListN.{length, getD}
+use lib.ListN.{getD}
 use lib.Pow.{pow-pos}
 use Rattle.flow.proofs.Tests.{member-or}
-use Rattle.flow.proofs.Exact.{solution-length}
-use Rattle.routine.specs.Layout.{vertices}
 use Rattle.sets.specs.Sets.{has}
-use Rattle.words.specs.Tables.{table}
 use Rattle.labels.specs.declared.Use.{Use}
 use Rattle.labels.specs.declared.Use.the-variants.{N, D, R, W}
-use Rattle.labels.specs.Events.{width, everyVersion, edgeBytes, version, isLabel}
+use Rattle.labels.specs.Events.{width, version, isLabel}
 use Rattle.labels.specs.Kept.{isNOrR, passesKept, KeepsFor, InKept, leavingSet, keptSets, keptOf}
 use Rattle.labels.specs.Proper.{Proper}
 use Rattle.labels.specs.Uses.{useOf, isN, isKept, Leaves}
 use Rattle.labels.proofs.Rules.Tests.{member-cond, member-single}
 use Rattle.labels.proofs.Rules.Versions.{single-fits, versions-exact, versions-fit}
-
--- one set for each vertex
-pub kept-length : (file : List ℕ) (a : ℕ) → length (keptSets file a) ≡ vertices file
-unfolding keptSets
-kept-length file a = solution-length (edgeBytes file) true (table (leavingSet file a) (vertices file)) (table (λ v. cond (passesKept file a v) everyVersion 0) (vertices file)) (vertices file)
 
 module _ (file : List ℕ) (a : ℕ) (proper : Proper file a) (v : ℕ) where
   -- the leaving version if there is one
