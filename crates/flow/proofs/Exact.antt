@@ -328,5 +328,5 @@ module _ (es : List ℕ) (along : Bool) (gives passes : List ℕ) where
           further es along gives passes ord n ends r h
           ∙ ext-getD 0 _ _ (after-length es along gives passes ord n n ∙ sym (solution-length n))
           (λ v l. alike _ _
-            (λ k h. exact v k .1 (exactly es along gives passes ord n ends v k .0 h))
-            (λ k h. exactly es along gives passes ord n ends v k .1 (exact v k .0 h)))
+          (λ k h. exact v k .1 (exactly es along gives passes ord n ends v k .0 h))
+          (λ k h. exactly es along gives passes ord n ends v k .1 (exact v k .0 h)))

@@ -46,9 +46,9 @@ unfolding withRow
 below-grown s v row zero l x = le-refl _
 below-grown s v row (suc m) l x =
     elim (ℕ-discrete x (8 * v + m)) [
-      yes e ↦ subst (λ (y : ℕ). getD s y 0 ≤ getD (grown s v row (suc m)) y 0) (sym e)
+      | yes e ↦ subst (λ (y : ℕ). getD s y 0 ≤ getD (grown s v row (suc m)) y 0) (sym e)
           (subst (λ (y : ℕ). getD s (8 * v + m) 0 ≤ y) (sym (getD-set-same (grown s v row m) (8 * v + m) _ 0 (omega (arith, grown-length s v row m)))) (or-le _ _))
-    | no e ↦ subst (λ (y : ℕ). getD s x 0 ≤ y) (sym (getD-set-other (grown s v row m) (8 * v + m) x _ 0 e)) (below-grown s v row m (omega arith) x)
+      | no e ↦ subst (λ (y : ℕ). getD s x 0 ≤ y) (sym (getD-set-other (grown s v row m) (8 * v + m) x _ 0 e)) (below-grown s v row m (omega arith) x)
     ]
 
 -- lists that grow no further than where they began
@@ -66,11 +66,11 @@ module _ (n a : ℕ) (col : a < 8) where
       (λ w l. let in-w : w < n = subst (λ (x : ℕ). w < x) (table-length (λ u. getD (grown s v row 8) (8 * u + a) 0) n) l in
       table-at (λ u. getD (grown s v row 8) (8 * u + a) 0) n w in-w
       ∙ elim (ℕ-discrete w v) [
-        yes e ↦ subst (λ (x : ℕ). getD (grown s v row 8) (8 * x + a) 0 ≡ getD (set (column s n a) v (bitOr (getD (column s n a) v 0) (getD row a 0))) x 0) (sym e)
+        | yes e ↦ subst (λ (x : ℕ). getD (grown s v row 8) (8 * x + a) 0 ≡ getD (set (column s n a) v (bitOr (getD (column s n a) v 0) (getD row a 0))) x 0) (sym e)
             (grown-at s v row 8 a col (omega arith)
             ∙ ap (λ (x : ℕ). bitOr x (getD row a 0)) (sym (table-at (λ u. getD s (8 * u + a) 0) n v h))
             ∙ sym (getD-set-same (column s n a) v _ 0 (subst (λ (x : ℕ). v < x) (sym (table-length (λ u. getD s (8 * u + a) 0) n)) h)))
-      | no e ↦ row-other s v (grows s v row) 8 (8 * w + a) (λ b lb eq. e (omega arith))
+        | no e ↦ row-other s v (grows s v row) 8 (8 * w + a) (λ b lb eq. e (omega arith))
             ∙ sym (table-at (λ u. getD s (8 * u + a) 0) n w in-w)
             ∙ sym (getD-set-other (column s n a) v w _ 0 e)
       ])
@@ -100,7 +100,7 @@ columns-all n s t es et h =
     (λ x l. let row : x / 8 < n = omega arith in
     let place : 8 * (x / 8) + x % 8 ≡ x = omega arith in
     let cell : (q : List ℕ) → getD (column q n (x % 8)) (x / 8) 0 ≡ getD q x 0 =
-        λ q. table-at (λ v. getD q (8 * v + x % 8) 0) n (x / 8) row ∙ ap (λ (y : ℕ). getD q y 0) place in
+    λ q. table-at (λ v. getD q (8 * v + x % 8) 0) n (x / 8) row ∙ ap (λ (y : ℕ). getD q y 0) place in
     sym (cell s) ∙ ap (λ (c : List ℕ). getD c (x / 8) 0) (h (x % 8) (omega arith)) ∙ cell t)
 
 -- ---- notes: nothing where the sets are as before, and something only where they are not
@@ -133,7 +133,7 @@ module _ (note s t : List ℕ) (v : ℕ) (row : List ℕ) (fits : 8 * v + 8 ≤ 
   notes-more = record {
     none = λ all.
         let parts : (a : ℕ) → a < 8 → (getD note a 0 ≡ 0) × (minus (getD row a 0) (getD t (8 * v + a) 0) ≡ 0) =
-            λ a l. or-none (getD note a 0) (minus (getD row a 0) (getD t (8 * v + a) 0)) (sym (noted-at a l) ∙ all a l) in
+        λ a l. or-none (getD note a 0) (minus (getD row a 0) (getD t (8 * v + a) 0)) (sym (noted-at a l) ∙ all a l) in
         row-still t v (grows t v row) 8 (λ a l. lacks-none _ _ (parts a l .1)) ∙ h .none (λ a l. parts a l .0);
     some = λ same a l.
         let old : t ≡ s = squeezed s t (grown t v row 8) size st (below-grown t v row 8 fits) same in

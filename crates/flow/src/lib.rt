@@ -120,7 +120,7 @@ fn round(
     requires { ⌜ Tables (now edges) (now gives) (now passes) (now sets) ⌝ }
     ensures { λ r. ⌜ Advanced
         (swept (relaxedRow (now (edges .entry)) along (now (gives .entry)) (now (passes .entry)))
-            (now (order .entry)) along (now (sets .entry)) (length (now (order .entry))))
+        (now (order .entry)) along (now (sets .entry)) (length (now (order .entry))))
         (now (sets .entry)) r (now (sets .exit)) ⌝ }
 {
     let count = order.len();

@@ -62,9 +62,9 @@ module _ {file : List ℕ} (well : WellFormed file) where
     size = row-length s w r (arrays file) ∙ h .size;
     cells = λ a v in-a in-v.
         elim (ℕ-discrete v w) [
-          yes e ↦ subst (λ (x : ℕ). getD (withRow s w r (arrays file)) (8 * x + a) 0 ≡ g a x) (sym e)
+          | yes e ↦ subst (λ (x : ℕ). getD (withRow s w r (arrays file)) (8 * x + a) 0 ≡ g a x) (sym e)
               (row-at s w r (arrays file) a in-a (omega (arith, h .size, well .laid .limits .few-arrays)) ∙ new a in-a)
-        | no e ↦ row-other s w r (arrays file) (8 * v + a) (λ b in-b q. e (omega (arith, in-eight in-a, in-eight in-b))) ∙ h .cells a v in-a in-v ∙ old a v in-a e
+          | no e ↦ row-other s w r (arrays file) (8 * v + a) (λ b in-b q. e (omega (arith, in-eight in-a, in-eight in-b))) ∙ h .cells a v in-a in-v ∙ old a v in-a e
         ];
   }
 

@@ -158,7 +158,7 @@ module _ {file : List ℕ} (well : WellFormed file) where
   letters-are {gives} {passes} {sets} {mid} {s} g p h e f =
       let found = letter-sets g p h in
       let first : Cells file (λ a v. letterByte (letterOf (getD (useSets file a) v 0))) mid =
-          cells-table well (λ i. letterByte (letterOf (getD sets i 0))) (found .size) e (λ a v in-a in-v. ap (λ (m : ℕ). letterByte (letterOf m)) (found .cells a v in-a in-v)) in
+      cells-table well (λ i. letterByte (letterOf (getD sets i 0))) (found .size) e (λ a v in-a in-v. ap (λ (m : ℕ). letterByte (letterOf m)) (found .cells a v in-a in-v)) in
       subst (Letters file) (sym f)
       (cells-row well (λ a. letterByte (exitUse (kind file a))) (exit file) (omega (arith, well .laid .limits .two-vertices)) first
       (λ a in-a. letter-exit a) (λ a v in-a away. letter-elsewhere a v away))
@@ -205,10 +205,10 @@ module _ {file : List ℕ} (well : WellFormed file) where
         → Cells file (reachGives file) s
     reach-gives {reached} {mid} {s} h e f =
         let first : Cells file (λ a v. cond (isReached file v && isKept file a v) (2 ^ version file a v) 0) mid =
-            cells-table well (λ i. cond (reachedCell i (getD reached i 0)) (leaving i) 0) (vs .size) e
-            (λ a v in-a in-v.
-            ap₂ (λ (b : Bool) (x : ℕ). cond b x 0) (reached-at h a v in-a in-v) (leaving-at a v in-a in-v)
-            ∙ cond-and (isReached file v) (isKept file a v) (2 ^ version file a v)) in
+        cells-table well (λ i. cond (reachedCell i (getD reached i 0)) (leaving i) 0) (vs .size) e
+        (λ a v in-a in-v.
+        ap₂ (λ (b : Bool) (x : ℕ). cond b x 0) (reached-at h a v in-a in-v) (leaving-at a v in-a in-v)
+        ∙ cond-and (isReached file v) (isKept file a v) (2 ^ version file a v)) in
         subst (Cells file (reachGives file)) (sym f)
         (cells-row well (λ a. cond (not (isN (useOfByte (getD letters a 0))) || isInOrInout (kind file a)) (2 ^ initial file a) 0) entry
         (omega (arith, well .laid .limits .two-vertices)) first (λ a in-a. reach-entry a in-a) (λ a v in-a away. reach-elsewhere a v away))

@@ -69,14 +69,7 @@ fn check_writes(file: &[u8], h: Header, uses: &[u16]) -> Verdict
 }
 
 // Whether vertex v refers to array a, and two versions arrive there.
-fn is_ambiguous(
-    file: &[u8],
-    h: Header,
-    v: usize,
-    a: usize,
-    uses: &[u16],
-    arriving: &[u16],
-) -> bool
+fn is_ambiguous(file: &[u8], h: Header, v: usize, a: usize, uses: &[u16], arriving: &[u16]) -> bool
     requires { ⌜ ReadAs (now file) h ⌝ }
     requires { ⌜ UseGives (now file) (now uses) ⌝ }
     requires { ⌜ v < vertices (now file) ⌝ }
@@ -88,13 +81,7 @@ fn is_ambiguous(
     sets::member(uses[at], 0) & sets::more_than_one(arriving[at])
 }
 
-fn check_ambiguous_at(
-    file: &[u8],
-    h: Header,
-    v: usize,
-    uses: &[u16],
-    arriving: &[u16],
-) -> Verdict
+fn check_ambiguous_at(file: &[u8], h: Header, v: usize, uses: &[u16], arriving: &[u16]) -> Verdict
     requires { ⌜ ReadAs (now file) h ⌝ }
     requires { ⌜ UseGives (now file) (now uses) ⌝ }
     requires { ⌜ v < vertices (now file) ⌝ }
@@ -162,8 +149,6 @@ pub fn check(
         return writes;
     }
     tables::reached(file, h, order, reached, gives, passes);
-    tables::arriving(
-        file, h, order, versions, reached, sets, gives, passes,
-    );
+    tables::arriving(file, h, order, versions, reached, sets, gives, passes);
     check_ambiguous(file, h, uses, sets)
 }

@@ -28,7 +28,7 @@ pub fn fill(versions: &[u16], letters: &[u8], gives: &mut [u16], passes: &mut [u
         ≡ table (λ i. cond (not (isN (useOfByte (getD (now (letters .entry)) i 0)))) (getD (now (versions .entry)) i 0) 0) (length (now (versions .entry))) ⌝ }
     ensures { λ _. ⌜ now (passes .exit)
         ≡ table (λ i. cond (eqb (getD (now (versions .entry)) i 0) 0 || isNOrR (useOfByte (getD (now (letters .entry)) i 0))) everyVersion 0)
-            (length (now (versions .entry))) ⌝ }
+        (length (now (versions .entry))) ⌝ }
 {
     let n = versions.len();
     let mut i = 0;
@@ -47,7 +47,7 @@ pub fn join(letters: &[u8], leaving: &[u16], sets: &mut [u16])
     requires { ⌜ length (now leaving) ≡ length (now sets) ⌝ }
     ensures { λ _. ⌜ now (sets .exit)
         ≡ table (λ i. bitOr (getD (now (leaving .entry)) i 0) (cond (isNOrR (useOfByte (getD (now (letters .entry)) i 0))) (getD (now (sets .entry)) i 0) 0))
-            (length (now (sets .entry))) ⌝ }
+        (length (now (sets .entry))) ⌝ }
 {
     let n = sets.len();
     let mut i = 0;

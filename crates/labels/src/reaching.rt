@@ -53,10 +53,10 @@ pub fn fill(
     requires { ⌜ length (now passes) ≡ length (now versions) ⌝ }
     ensures { λ _. ⌜ now (gives .exit)
         ≡ table (λ i. cond (reachedCell i (getD (now (reached .entry)) i 0))
-            (cond (not (isN (useOfByte (getD (now (letters .entry)) i 0)))) (getD (now (versions .entry)) i 0) 0) 0) (length (now (versions .entry))) ⌝ }
+        (cond (not (isN (useOfByte (getD (now (letters .entry)) i 0)))) (getD (now (versions .entry)) i 0) 0) 0) (length (now (versions .entry))) ⌝ }
     ensures { λ _. ⌜ now (passes .exit)
         ≡ table (λ i. cond (eqb (cond (not (isN (useOfByte (getD (now (letters .entry)) i 0)))) (getD (now (versions .entry)) i 0) 0) 0) everyVersion 0)
-            (length (now (versions .entry))) ⌝ }
+        (length (now (versions .entry))) ⌝ }
 {
     let n = versions.len();
     let mut i = 0;
@@ -75,8 +75,8 @@ pub fn enter_gives(file: &[u8], h: Header, letters: &[u8], gives: &mut [u16])
     requires { ⌜ 8 ≤ length (now gives) ⌝ }
     ensures { λ _. ⌜ now (gives .exit)
         ≡ withRow (now (gives .entry)) entry
-            (λ a. cond (not (isN (useOfByte (getD (now (letters .entry)) a 0))) || isInOrInout (kind (now (file .entry)) a)) (2 ^ initial (now (file .entry)) a) 0)
-            (arrays (now (file .entry))) ⌝ }
+        (λ a. cond (not (isN (useOfByte (getD (now (letters .entry)) a 0))) || isInOrInout (kind (now (file .entry)) a)) (2 ^ initial (now (file .entry)) a) 0)
+        (arrays (now (file .entry))) ⌝ }
 {
     let m = h.arrays;
     let mut a = 0;

@@ -82,7 +82,7 @@ loop-again c =
     let a = l .loop .a in
     let v = s .args .v in
     let old : getD (l .loop .sets) (8 * v + a) 0 ≡ getD (s .args .sets .now) (8 * v + a) 0 =
-        ap (λ (t : List ℕ). getD t (8 * v + a) 0) (l .loop .inv .0) ∙ row-other (s .args .sets .now) v _ a (8 * v + a) (λ b h e. omega arith) in (
+    ap (λ (t : List ℕ). getD t (8 * v + a) 0) (l .loop .inv .0) ∙ row-other (s .args .sets .now) v _ a (8 * v + a) (λ b h e. omega arith) in (
       ap₂ (λ (t : List ℕ) (x : ℕ). set t (8 * v + a) (bitOr x (getD (s .args .t3) a 0))) (l .loop .inv .0) old ∙ ap (grown (s .args .sets .now) v (s .args .t3)) (sym (add-one a)),
       length-set (l .loop .sets) _ _ ∙ l .loop .inv .1,
       onward (l .loop .inv .2) (c .before .before .loop-test .taken)
