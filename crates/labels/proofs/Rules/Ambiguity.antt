@@ -1,21 +1,18 @@
 -- Ambiguous references: the computed arriving sets hold what paths from the entry bring, and a reference with more than one is ambiguous.
 -- Assumes nothing.
-use mathlib.Core.Path.{_≡_, refl, sym, subst}
+use mathlib.Core.Path.{refl, sym, subst}
 use mathlib.Core.Bool.{false, not, _&&_}
 use mathlib.Core.List.{List}
 use mathlib.Core.Logic.{_↔_, Iff·rfl}
 use Prim.Native.Nat.{ℕ, _^_, _<_}
 use lib.Dec.{T}
-use lib.ListN.{length, getD}
+use lib.ListN.{getD}
 use Rattle.flow.proofs.Tests.{and-iff}
-use Rattle.flow.proofs.Exact.{solution-length}
 use Rattle.routine.specs.Actions.{isReference}
-use Rattle.routine.specs.Layout.{vertices}
 use Rattle.sets.specs.Sets.{has, several}
 use Rattle.sets.proofs.Laws.{several-two, two-several}
-use Rattle.words.specs.Tables.{table}
 use Rattle.labels.specs.Ambiguity.{Brings, Ambiguous, arriveGives, arrivePasses, arrivingSets, isAmbiguous}
-use Rattle.labels.specs.Events.{width, edgeBytes, event, isLabel, version}
+use Rattle.labels.specs.Events.{width, event, isLabel, version}
 use Rattle.labels.specs.Proper.{Proper}
 use Rattle.labels.specs.Reaching.{isReached}
 use Rattle.labels.proofs.Rules.Arrivals.{last-exact}

@@ -7,15 +7,12 @@ use mathlib.Core.Logic.{_↔_, _⊎_, inl, inr, ⊎-elim}
 use mathlib.Core.Option.{Option, none, some, Option·none-ne-some}
 use Prim.Native.Nat.{ℕ}
 use lib.Dec.{T, eqb}
-use lib.ListN.{length}
 use Rattle.flow.specs.Paths.{Edge, Path, last, next, Joined, AllPass}
 use Rattle.flow.specs.Solver.{Ends}
 use Rattle.flow.proofs.Tests.{either, or-iff}
 use Rattle.flow.proofs.Paths.{list-iff, extend}
-use Rattle.flow.proofs.Exact.{solution-length}
 use Rattle.routine.specs.Layout.{vertices}
 use Rattle.sets.specs.Sets.{has}
-use Rattle.words.specs.Tables.{table}
 use Rattle.labels.specs.Events.{edgeBytes, entry}
 use Rattle.labels.specs.Reaching.{ArrivesBy, orLast, lastVersion, reachedSets, isReached}
 use Rattle.labels.proofs.Rules.Tables.{Finds, solved}

@@ -7,16 +7,13 @@ use mathlib.Core.Logic.{_↔_, Iff·rfl}
 use Prim.Native.Nat.{ℕ, _^_, _<_}
 use lib.Bits.{bitOr, or-lt, or-zero-r}
 use lib.Dec.{T}
-use lib.ListN.{length, getD}
+use lib.ListN.{getD}
 use lib.Pow.{pow-pos}
 use Rattle.flow.proofs.Tests.{member-or}
-use Rattle.flow.proofs.Exact.{solution-length}
-use Rattle.routine.specs.Layout.{vertices}
 use Rattle.sets.specs.Sets.{has}
-use Rattle.words.specs.Tables.{table}
 use Rattle.labels.specs.declared.Use.{Use}
 use Rattle.labels.specs.declared.Use.the-variants.{N, D, R, W}
-use Rattle.labels.specs.Events.{width, everyVersion, edgeBytes, version, isLabel}
+use Rattle.labels.specs.Events.{width, version, isLabel}
 use Rattle.labels.specs.Kept.{isNOrR, passesKept, KeepsFor, InKept, leavingSet, keptSets, keptOf}
 use Rattle.labels.specs.Proper.{Proper}
 use Rattle.labels.specs.Uses.{useOf, isN, isKept, Leaves}

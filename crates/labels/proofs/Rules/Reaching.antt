@@ -7,16 +7,14 @@ use mathlib.Core.Logic.{_↔_, Iff·rfl, _⊎_, inl, inr, ⊎-elim}
 use mathlib.Core.Option.{Option, none, some, Option·none-ne-some}
 use Prim.Native.Nat.{ℕ, _^_, _<_}
 use lib.Dec.{T, eqb, T-not, not-T}
-use lib.ListN.{length, getD}
+use lib.ListN.{getD}
 use lib.Pow.{pow-pos}
 use Rattle.flow.specs.Paths.{Edge, Joined}
 use Rattle.flow.proofs.Tests.{either, or-iff, and-iff}
 use Rattle.flow.proofs.Paths.{list-iff}
-use Rattle.flow.proofs.Exact.{solution-length}
 use Rattle.routine.specs.Layout.{vertices}
 use Rattle.sets.specs.Sets.{has}
 use Rattle.sets.proofs.Laws.{has-zero, same}
-use Rattle.words.specs.Tables.{table}
 use Rattle.labels.specs.Events.{width, edgeBytes, entry, kind, initial, isInOrInout, event, version}
 use Rattle.labels.specs.Proper.{Proper}
 use Rattle.labels.specs.Reaching.{ArrivesBy, lastVersion, orInitial, Reaches, isReached, reachGives, reachPasses, reachSets, reachingOf}

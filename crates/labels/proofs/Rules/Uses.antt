@@ -6,15 +6,13 @@ use mathlib.Core.List.{List}
 use mathlib.Core.Logic.{_↔_, Iff·rfl, _⊎_, inl, inr, ⊎-elim}
 use Prim.Native.Nat.{ℕ}
 use lib.Dec.{T, eqb}
-use lib.ListN.{length, getD}
+use lib.ListN.{getD}
 use Rattle.flow.specs.Paths.{Edge, Path, last, next}
 use Rattle.flow.proofs.Paths.{weaken, split-first}
-use Rattle.flow.proofs.Exact.{solution-length}
 use Rattle.routine.specs.Actions.{isReference, isRemap}
 use Rattle.routine.specs.Layout.{vertices}
 use Rattle.routine.specs.declared.action.Action.{Action}
 use Rattle.sets.specs.Sets.{has}
-use Rattle.words.specs.Tables.{table}
 use Rattle.labels.specs.declared.Use.{Use}
 use Rattle.labels.specs.declared.Use.the-variants.{N, D, R, W}
 use Rattle.labels.specs.Events.{edgeBytes, exit, kind, event, isRead, isDefine, isWrite, needsValue}
