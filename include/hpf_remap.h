@@ -1,7 +1,7 @@
 /* Array remapping by copies: planner and run-time.
  *
  * Two calls. Both read bytes that the caller lends and write bytes into a buffer that the caller lends. They keep no state and
- * take no memory of their own but at most 40 KiB of stack: any number of threads may call them at once, each with its own
+ * take no memory of their own but at most 48 KiB of stack: any number of threads may call them at once, each with its own
  * buffers. Every call ends.
  *
  * Each pointer is that of as many bytes as the length beside it says, or null if that length is 0. The buffer that a call writes

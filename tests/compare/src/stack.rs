@@ -9,7 +9,7 @@ use std::ffi::{c_int, c_void};
 use std::ptr::null_mut;
 
 /// What include/hpf_remap.h says.
-pub const LIMIT: usize = 40 * 1024;
+pub const LIMIT: usize = 48 * 1024;
 
 const SIZE: usize = 256 * 1024;
 const PAINT: u8 = 0xa5;
