@@ -227,8 +227,8 @@ fn clear(stamps: [u16; 16], dead: u16) -> [u16; 16]
     let mut rest = dead;
     while rest != 0 {
         let version = sets::one_of(rest);
-        let at = version as usize;
-        left[at] = 0;
+        let cleared = with(left, version as usize, 0);
+        left = cleared;
         rest = sets::difference(rest, sets::single(version));
     }
     left

@@ -1,7 +1,8 @@
 -- `clear` meets its contract. The loop's invariant: what is left to clear decides. The measure is the set of what is left.
 -- Assumes nothing.
 use mathlib.Core.Path.{_≡_, refl, sym, ap, _∙_}
-use Prim.Native.Nat.{ℕ}
+use mathlib.Core.List.{List}
+use Prim.Native.Nat.{ℕ, _^_}
 use native.Mathlib.Omega.{arith}
 use borrow.Author.Needs.{needs}
 use lib.ListN.{set}
@@ -23,14 +24,11 @@ loop-holds c = refl
 one-of-requires : tie.Need-one-of-requires Inv-loop μ-loop
 one-of-requires c κs = search needs
 
-cast-at : tie.Need-cast-at Inv-loop μ-loop
-cast-at c = search needs
+cast-with : tie.Need-cast-with Inv-loop μ-loop
+cast-with c = search needs
 
-mul-left : tie.Need-mul-left Inv-loop μ-loop
-mul-left c = search needs
-
-array-write-left : tie.Need-array-write-left Inv-loop μ-loop
-array-write-left c = search needs
+with-requires : tie.Need-with-requires Inv-loop μ-loop
+with-requires c κs = search needs
 
 single-requires : tie.Need-single-requires Inv-loop μ-loop
 single-requires c κs = search needs
@@ -40,17 +38,18 @@ difference-requires c κs = search needs
 
 loop-less : tie.Need-loop-less Inv-loop μ-loop
 loop-less c =
-    let l = c .before .before .before .before .loop in
-    let low = c .before .before .one-of in
+    let l = c .before .before .before .before .before .loop in
+    let low = c .before .before .before .one-of in
     let left = c .difference .ensures ∙ ap (minus (l .rest)) (c .before .single .ensures) in
     rw left (falls (l .rest) (low .result) (low .ensures .1))
 
 loop-again : tie.Need-loop-again Inv-loop μ-loop
 loop-again c =
-    let l = c .before .before .before .before .loop in
-    let low = c .before .before .one-of in
+    let l = c .before .before .before .before .before .loop in
+    let low = c .before .before .before .one-of in
     let left = c .difference .ensures ∙ ap (minus (l .rest)) (c .before .single .ensures) in
-    ap (λ (n : ℕ). cleared n (set (l .left) (low .result) 0) 16) left
+    ap (λ (n : ℕ). cleared n (c .before .before .with .result) 16) left
+    ∙ ap (λ (stamps : List ℕ). cleared (minus (l .rest) (2 ^ low .result)) stamps 16) (c .before .before .with .ensures)
     ∙ cleared-first (l .rest) (low .result) (l .left) (low .ensures .1) (low .ensures .0)
     ∙ l .inv
 
@@ -68,9 +67,8 @@ clear-spec =
     μ-loop
     loop-holds
     one-of-requires
-    cast-at
-    mul-left
-    array-write-left
+    cast-with
+    with-requires
     single-requires
     difference-requires
     loop-less
