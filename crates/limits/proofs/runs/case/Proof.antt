@@ -3,8 +3,8 @@
 use native.Mathlib.Omega.{arith}
 use borrow.Author.Needs.{needs}
 use lib.ListN.{length-take}
-use Rattle.cases.proofs.plans.case.Statement.{statement}
-use Rattle.cases.proofs.plans.case.Tie as tie
+use Rattle.limits.proofs.runs.case.Statement.{statement}
+use Rattle.limits.proofs.runs.case.Tie as tie
 
 buffer-requires : tie.Need-buffer-requires
 buffer-requires c κs = search needs
@@ -24,11 +24,17 @@ array-share-prefix-file c = search needs
 slice-aggregate-write-answer : tie.Need-slice-aggregate-write-answer
 slice-aggregate-write-answer c = simp length-take (omega arith)
 
-array-borrow-prefix-out : tie.Need-array-borrow-prefix-out
-array-borrow-prefix-out c = search needs
+array-share-prefix-path : tie.Need-array-share-prefix-path
+array-share-prefix-path c = search needs
 
 slice-aggregate-write-answer-2 : tie.Need-slice-aggregate-write-answer-2
 slice-aggregate-write-answer-2 c = simp length-take (omega arith)
+
+array-borrow-prefix-out : tie.Need-array-borrow-prefix-out
+array-borrow-prefix-out c = search needs
+
+slice-aggregate-write-answer-3 : tie.Need-slice-aggregate-write-answer-3
+slice-aggregate-write-answer-3 c = simp length-take (omega arith)
 
 write-answer-requires : tie.Need-write-answer-requires
 write-answer-requires c κs = search needs
@@ -46,7 +52,9 @@ case-spec =
     text-requires-2
     array-share-prefix-file
     slice-aggregate-write-answer
-    array-borrow-prefix-out
+    array-share-prefix-path
     slice-aggregate-write-answer-2
+    array-borrow-prefix-out
+    slice-aggregate-write-answer-3
     write-answer-requires
     returns)

@@ -3,8 +3,8 @@
 use native.Mathlib.Omega.{arith}
 use borrow.Author.Needs.{needs}
 use lib.ListN.{length-take}
-use Rattle.cases.proofs.runs.u_on.Statement.{statement}
-use Rattle.cases.proofs.runs.u_on.Tie as tie
+use Rattle.limits.proofs.runs.u_on.Statement.{statement}
+use Rattle.limits.proofs.runs.u_on.Tie as tie
 
 buffer-requires : tie.Need-buffer-requires
 buffer-requires c κs = search needs

@@ -2,8 +2,8 @@
 -- Assumes nothing.
 use Prim.Native.Nat.{_≤_, _-_}
 use borrow.Author.Needs.{needs}
-use Rattle.cases.proofs.build.put_rising.Statement.{statement}
-use Rattle.cases.proofs.build.put_rising.Tie as tie
+use Rattle.limits.proofs.build.put_rising.Statement.{statement}
+use Rattle.limits.proofs.build.put_rising.Tie as tie
 
 abbrev Inv-loop : tie.InvT-loop
 Inv-loop path₀ vertices i₀ path i = i ≤ vertices

@@ -1,13 +1,10 @@
--- `case` is safe: the parts lie within their arrays.
+-- `case` is safe: the part lies within the buffer.
 -- Assumes nothing.
 use native.Mathlib.Omega.{arith}
 use borrow.Author.Needs.{needs}
 use lib.ListN.{length-take}
-use Rattle.cases.proofs.runs.case.Statement.{statement}
-use Rattle.cases.proofs.runs.case.Tie as tie
-
-buffer-requires : tie.Need-buffer-requires
-buffer-requires c κs = search needs
+use Rattle.limits.proofs.reads.case.Statement.{statement}
+use Rattle.limits.proofs.reads.case.Tie as tie
 
 text-requires : tie.Need-text-requires
 text-requires c κs = search needs
@@ -24,18 +21,6 @@ array-share-prefix-file c = search needs
 slice-aggregate-write-answer : tie.Need-slice-aggregate-write-answer
 slice-aggregate-write-answer c = simp length-take (omega arith)
 
-array-share-prefix-path : tie.Need-array-share-prefix-path
-array-share-prefix-path c = search needs
-
-slice-aggregate-write-answer-2 : tie.Need-slice-aggregate-write-answer-2
-slice-aggregate-write-answer-2 c = simp length-take (omega arith)
-
-array-borrow-prefix-out : tie.Need-array-borrow-prefix-out
-array-borrow-prefix-out c = search needs
-
-slice-aggregate-write-answer-3 : tie.Need-slice-aggregate-write-answer-3
-slice-aggregate-write-answer-3 c = simp length-take (omega arith)
-
 write-answer-requires : tie.Need-write-answer-requires
 write-answer-requires c κs = search needs
 
@@ -46,15 +31,10 @@ pub case-spec : {M : Type 1} → statement M
 case-spec =
     tie.close
     (tie.spec
-    buffer-requires
     text-requires
     slice-aggregate-text
     text-requires-2
     array-share-prefix-file
     slice-aggregate-write-answer
-    array-share-prefix-path
-    slice-aggregate-write-answer-2
-    array-borrow-prefix-out
-    slice-aggregate-write-answer-3
     write-answer-requires
     returns)

@@ -2,8 +2,8 @@
 -- Assumes nothing.
 use Prim.Native.Nat.{_≤_, _-_}
 use borrow.Author.Needs.{needs}
-use Rattle.cases.proofs.build.put_edges.Statement.{statement}
-use Rattle.cases.proofs.build.put_edges.Tie as tie
+use Rattle.limits.proofs.build.put_edges.Statement.{statement}
+use Rattle.limits.proofs.build.put_edges.Tie as tie
 
 abbrev Inv-loop : tie.InvT-loop
 Inv-loop file₀ at edges i₀ file i = i ≤ edges

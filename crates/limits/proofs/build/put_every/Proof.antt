@@ -2,8 +2,8 @@
 -- Assumes nothing.
 use Prim.Native.Nat.{_≤_, _+_, _-_, _*_}
 use borrow.Author.Needs.{needs}
-use Rattle.cases.proofs.build.put_every.Statement.{statement}
-use Rattle.cases.proofs.build.put_every.Tie as tie
+use Rattle.limits.proofs.build.put_every.Statement.{statement}
+use Rattle.limits.proofs.build.put_every.Tie as tie
 
 abbrev Inv-loop : tie.InvT-loop
 Inv-loop file₀ at step count byte i₀ next₀ file i next = (i ≤ count) × (next ≤ 8192 + 4 * i)

@@ -1,10 +1,13 @@
--- `case` is safe: the part lies within the buffer.
+-- `case` is safe: the parts lie within their arrays.
 -- Assumes nothing.
 use native.Mathlib.Omega.{arith}
 use borrow.Author.Needs.{needs}
 use lib.ListN.{length-take}
-use Rattle.cases.proofs.reads.case.Statement.{statement}
-use Rattle.cases.proofs.reads.case.Tie as tie
+use Rattle.limits.proofs.plans.case.Statement.{statement}
+use Rattle.limits.proofs.plans.case.Tie as tie
+
+buffer-requires : tie.Need-buffer-requires
+buffer-requires c κs = search needs
 
 text-requires : tie.Need-text-requires
 text-requires c κs = search needs
@@ -21,6 +24,12 @@ array-share-prefix-file c = search needs
 slice-aggregate-write-answer : tie.Need-slice-aggregate-write-answer
 slice-aggregate-write-answer c = simp length-take (omega arith)
 
+array-borrow-prefix-out : tie.Need-array-borrow-prefix-out
+array-borrow-prefix-out c = search needs
+
+slice-aggregate-write-answer-2 : tie.Need-slice-aggregate-write-answer-2
+slice-aggregate-write-answer-2 c = simp length-take (omega arith)
+
 write-answer-requires : tie.Need-write-answer-requires
 write-answer-requires c κs = search needs
 
@@ -31,10 +40,13 @@ pub case-spec : {M : Type 1} → statement M
 case-spec =
     tie.close
     (tie.spec
+    buffer-requires
     text-requires
     slice-aggregate-text
     text-requires-2
     array-share-prefix-file
     slice-aggregate-write-answer
+    array-borrow-prefix-out
+    slice-aggregate-write-answer-2
     write-answer-requires
     returns)

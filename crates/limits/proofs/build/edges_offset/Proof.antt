@@ -3,8 +3,8 @@
 use native.Mathlib.Nat.{mul-le-mul}
 use native.Mathlib.Omega.{arith}
 use borrow.Author.Needs.{needs}
-use Rattle.cases.proofs.build.edges_offset.Statement.{statement}
-use Rattle.cases.proofs.build.edges_offset.Tie as tie
+use Rattle.limits.proofs.build.edges_offset.Statement.{statement}
+use Rattle.limits.proofs.build.edges_offset.Tie as tie
 
 mul-result : tie.Need-mul-result
 mul-result c = search needs
