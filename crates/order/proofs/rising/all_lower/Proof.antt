@@ -1,9 +1,9 @@
--- `flow::order::all_lower` reads within the table. The measure is what is left of it.
+-- `order::rising::all_lower` reads within the table. The measure is what is left of it.
 -- Assumes nothing.
 use Prim.Native.Nat.{_-_, _≤_}
 use borrow.Author.Needs.{needs}
-use Rattle.flow.proofs.order.all_lower.Statement.{statement}
-use Rattle.flow.proofs.order.all_lower.Tie as tie
+use Rattle.order.proofs.rising.all_lower.Statement.{statement}
+use Rattle.order.proofs.rising.all_lower.Tie as tie
 
 abbrev Inv-loop : tie.InvT-loop
 Inv-loop lowest lower₀ v₀ lower v = v ≤ 256

@@ -1,12 +1,12 @@
--- `flow::order::swap` meets its contract: both edges and both places are there, and the stores are a swap.
+-- `order::search::swap` meets its contract: both edges and both places are there, and the stores are a swap.
 -- Assumes nothing.
 use Prim.Native.Nat.{_<_}
 use native.Mathlib.Omega.{arith}
 use borrow.Author.Needs.{needs}
 use lib.ListN.{length, getD, length-set}
-use Rattle.flow.proofs.Turns.{swapped}
-use Rattle.flow.proofs.order.swap.Statement.{statement}
-use Rattle.flow.proofs.order.swap.Tie as tie
+use Rattle.order.proofs.Turns.{swapped}
+use Rattle.order.proofs.search.swap.Statement.{statement}
+use Rattle.order.proofs.search.swap.Tie as tie
 
 -- edge i has a place, and there is an edge in the slot
 there : (c : tie.After-slice-known2)

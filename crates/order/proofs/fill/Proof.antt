@@ -1,13 +1,13 @@
--- `flow::order::fill` meets its contract: the identity is an order.
+-- `order::fill` meets its contract: the identity is an order.
 -- Assumes nothing.
 use mathlib.Core.Path.{subst}
 use Prim.Native.Nat.{ℕ}
 use borrow.Author.Needs.{needs}
-use Rattle.flow.specs.Order.{Identity}
+use Rattle.order.specs.Places.{Identity}
 use Rattle.flow.specs.Paths.{edgeCount}
-use Rattle.flow.proofs.Turns.{identity-order}
-use Rattle.flow.proofs.order.fill.Statement.{statement}
-use Rattle.flow.proofs.order.fill.Tie as tie
+use Rattle.order.proofs.Turns.{identity-order}
+use Rattle.order.proofs.fill.Statement.{statement}
+use Rattle.order.proofs.fill.Tie as tie
 
 -- the order is the identity at first
 first : (c : tie.After-identity) → Identity (edgeCount (c .before .before .before .before .args .edges .now)) (c .identity .last .0)

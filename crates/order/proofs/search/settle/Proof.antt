@@ -1,14 +1,14 @@
--- `flow::order::settle` meets its contract. The invariant: every edge has its place. The measure is the slots that are left.
+-- `order::search::settle` meets its contract. The invariant: every edge has its place. The measure is the slots that are left.
 -- Assumes nothing.
 use mathlib.Core.Path.{sym, subst}
 use Prim.Native.Nat.{ℕ, _≤_, _<_}
 use native.Mathlib.Omega.{arith}
 use borrow.Author.Tests.{not-false}
 use borrow.Author.Needs.{needs}
-use Rattle.flow.specs.Order.{Placed}
+use Rattle.order.specs.Places.{Placed}
 use Rattle.flow.specs.Paths.{edgeCount}
-use Rattle.flow.proofs.order.settle.Statement.{statement}
-use Rattle.flow.proofs.order.settle.Tie as tie
+use Rattle.order.proofs.search.settle.Statement.{statement}
+use Rattle.order.proofs.search.settle.Tie as tie
 
 abbrev Inv-loop : tie.InvT-loop
 Inv-loop edges order₀ place₀ v first slot left₀ i₀ order place left i = Placed (edgeCount edges) order place × (left ≤ edgeCount edges)

@@ -1,12 +1,12 @@
--- `flow::order::search` meets its contract. The invariant: every edge has its place. The measure is the steps that are left.
+-- `order::search::search` meets its contract. The invariant: every edge has its place. The measure is the steps that are left.
 -- Assumes nothing.
 use Prim.Native.Nat.{_-_, _≤_, _<_}
 use native.Mathlib.Omega.{arith}
 use borrow.Author.Needs.{needs}
-use Rattle.flow.specs.Order.{Placed}
+use Rattle.order.specs.Places.{Placed}
 use Rattle.flow.specs.Paths.{edgeCount}
-use Rattle.flow.proofs.order.search.Statement.{statement}
-use Rattle.flow.proofs.order.search.Tie as tie
+use Rattle.order.proofs.search.search.Statement.{statement}
+use Rattle.order.proofs.search.search.Tie as tie
 
 abbrev Inv-loop : tie.InvT-loop
 Inv-loop edges start next₀ parent₀ order₀ place₀ root slot left₀ v₀ i₀ step₀ step-end next parent order place left v i step =

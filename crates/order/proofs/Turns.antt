@@ -12,7 +12,8 @@ use borrow.Author.Tests.{eqb-true, eqb-false}
 use lib.Dec.{eqb}
 use lib.ListN.{length, getD, set, length-set}
 use lib.Seq.{getD-set-same, getD-set-other}
-use Rattle.flow.specs.Order.{Order, Identity, Placed}
+use Rattle.flow.specs.Order.{Order}
+use Rattle.order.specs.Places.{Identity, Placed}
 
 -- two numbers are equal or not
 equal : (j k : ℕ) → (j ≡ k) ⊎ (j ≡ k → ⊥)

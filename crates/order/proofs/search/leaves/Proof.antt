@@ -1,9 +1,9 @@
--- `flow::order::leaves` meets its contract.
+-- `order::search::leaves` meets its contract.
 -- Assumes nothing.
 use mathlib.Core.Bool.{false≢true}
 use borrow.Author.Needs.{needs}
-use Rattle.flow.proofs.order.leaves.Statement.{statement}
-use Rattle.flow.proofs.order.leaves.Tie as tie
+use Rattle.order.proofs.search.leaves.Statement.{statement}
+use Rattle.order.proofs.search.leaves.Tie as tie
 
 returns : tie.Need-returns
 returns c = λ e. absurd (false≢true e)

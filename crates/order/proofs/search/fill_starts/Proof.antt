@@ -1,9 +1,9 @@
--- `flow::order::fill_starts` stores within the table. The measure is what is left of the edges.
+-- `order::search::fill_starts` stores within the table. The measure is what is left of the edges.
 -- Assumes nothing.
 use Prim.Native.Nat.{_-_, _≤_}
 use borrow.Author.Needs.{needs}
-use Rattle.flow.proofs.order.fill_starts.Statement.{statement}
-use Rattle.flow.proofs.order.fill_starts.Tie as tie
+use Rattle.order.proofs.search.fill_starts.Statement.{statement}
+use Rattle.order.proofs.search.fill_starts.Tie as tie
 
 abbrev Inv-loop : tie.InvT-loop
 Inv-loop edges start₀ count j₀ start j = j ≤ count

@@ -1,10 +1,10 @@
--- `flow::order::by_search` meets its contract: the order starts as the identity, and every edge has its place after the searches.
+-- `order::by_search` meets its contract: the order starts as the identity, and every edge has its place after the searches.
 -- Assumes nothing.
 use borrow.Author.Needs.{needs}
 use Rattle.flow.specs.Paths.{edgeCount}
-use Rattle.flow.proofs.Turns.{identity-placed, placed-order}
-use Rattle.flow.proofs.order.by_search.Statement.{statement}
-use Rattle.flow.proofs.order.by_search.Tie as tie
+use Rattle.order.proofs.Turns.{identity-placed, placed-order}
+use Rattle.order.proofs.by_search.Statement.{statement}
+use Rattle.order.proofs.by_search.Tie as tie
 
 slice-aggregate-identity : tie.Need-slice-aggregate-identity
 slice-aggregate-identity c = search needs

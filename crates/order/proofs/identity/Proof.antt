@@ -1,13 +1,13 @@
--- `flow::order::identity` meets its contract. The invariant: the first j numbers stand at their own places. The measure is what is left.
+-- `order::identity` meets its contract. The invariant: the first j numbers stand at their own places. The measure is what is left.
 -- Assumes nothing.
 use mathlib.Core.Path.{_≡_, refl}
 use Prim.Native.Nat.{ℕ, _-_, _≤_, _<_}
 use native.Mathlib.Omega.{arith}
 use borrow.Author.Needs.{needs}
 use lib.ListN.{length, getD, length-set}
-use Rattle.flow.proofs.Turns.{identity-more}
-use Rattle.flow.proofs.order.identity.Statement.{statement}
-use Rattle.flow.proofs.order.identity.Tie as tie
+use Rattle.order.proofs.Turns.{identity-more}
+use Rattle.order.proofs.identity.Statement.{statement}
+use Rattle.order.proofs.identity.Tie as tie
 
 abbrev Inv-loop : tie.InvT-loop
 Inv-loop t₀ j₀ j-end t j = (j ≤ j-end) × (length t ≡ length t₀) × ((k : ℕ) → k < j → getD t k 0 ≡ k)

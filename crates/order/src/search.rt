@@ -1,71 +1,27 @@
-// The order in which the solver takes the edges: by the place of the vertex that they leave in a reverse postorder, so that a round by
-// rising place carries a fact along every path without a loop, whatever the numbers of the vertices.
-// Vertices are below 256: the low byte of an edge's end names it.
+// Depth-first searches: the edges of a vertex that is finished take the highest places that are left.
 ghost use mathlib.Core.Bool.{true};
 ghost use mathlib.Core.Path.{_≡_};
 ghost use Prim.Native.Nat.{_≤_, _<_};
 ghost use lib.ListN.{length};
 ghost use Rattle.flow.specs.Paths.{edgeCount};
-ghost use Rattle.flow.specs.Order.{Order, Identity, Placed};
+ghost use Rattle.order.specs.Places.{Placed};
 
 // What the table of next edges holds for a vertex that the search has not met.
-const NEW: u16 = 0xffff;
-
-// Puts each number at its own place.
-fn identity(t: &mut [u16])
-    requires { ⌜ length (now t) ≤ 1024 ⌝ }
-    ensures { λ r. ⌜ Identity (length (now (t .entry))) (now (t .exit)) ⌝ }
-{
-    for j in 0..t.len() {
-        t[j] = j as u16;
-    }
-}
-
-// A vertex as an index.
-fn index(v: u8) -> usize
-    ensures { λ r. ⌜ r < 256 ⌝ }
-{
-    v as usize
-}
+pub const NEW: u16 = 0xffff;
 
 // An edge's number as an index.
 fn number(i: u16) -> usize {
     i as usize
 }
 
-// The lowest vertex with an edge to each vertex, in a table of zeros. Edges rise by the vertex that they leave: the last store is the lowest.
-fn fill_lowest(edges: &[u8], lowest: &mut [u8; 256]) {
-    let count = edges.len() / 4;
-    for j in 0..count {
-        let at = 4 * (count - 1 - j);
-        lowest[index(edges[at + 2])] = edges[at];
-    }
-}
-
-// Whether each vertex but the entry has a lower one in the table.
-fn all_lower(lowest: &[u8; 256]) -> bool {
-    let mut lower = true;
-    for v in 1..256 {
-        lower = (lowest[v] < v as u8) & lower;
-    }
-    lower
-}
-
-// Whether each vertex that edges enter is entered from a lower one: a round by rising number then carries a fact from the entry to all.
-fn rises(edges: &[u8]) -> bool {
-    let mut lowest = [0u8; 256];
-    fill_lowest(edges, &mut lowest);
-    all_lower(&lowest)
-}
-
 // The first edge of each vertex that edges leave.
-fn fill_starts(edges: &[u8], start: &mut [u16; 256])
+pub fn fill_starts(edges: &[u8], start: &mut [u16; 256])
     requires { ⌜ edgeCount (now edges) ≤ 1024 ⌝ }
 {
     let count = edges.len() / 4;
     for j in 0..count {
         let i = count - 1 - j;
-        start[index(edges[4 * i])] = i as u16;
+        start[crate::index(edges[4 * i])] = i as u16;
     }
 }
 
@@ -123,9 +79,9 @@ fn settle(
 
 // Goes from v to a new vertex. The search takes up v again at edge i.
 fn enter(next: &mut [u16; 256], parent: &mut [u8; 256], v: u8, i: u16, to: u8) {
-    next[index(v)] = i;
-    next[index(to)] = 0;
-    parent[index(to)] = v;
+    next[crate::index(v)] = i;
+    next[crate::index(to)] = 0;
+    parent[crate::index(to)] = v;
 }
 
 // Depth-first search from a root. The edges of a vertex that is finished take the highest slots before `slot` that are left. Returns the
@@ -147,31 +103,31 @@ fn search(
 {
     let mut left = slot;
     let mut v = root;
-    let mut i = number(start[index(root)]);
+    let mut i = number(start[crate::index(root)]);
     for step in 0..edges.len() / 4 + 256 {
         if leaves(edges, i, v) {
             let to = edges[4 * i + 2];
             i += 1;
-            if next[index(to)] != NEW {
+            if next[crate::index(to)] != NEW {
                 continue;
             }
             enter(next, parent, v, i as u16, to);
             v = to;
-            i = number(start[index(to)]);
+            i = number(start[crate::index(to)]);
             continue;
         }
-        left = settle(edges, order, place, v, number(start[index(v)]), left);
+        left = settle(edges, order, place, v, number(start[crate::index(v)]), left);
         if v == root {
             return left;
         }
-        v = parent[index(v)];
-        i = number(next[index(v)]);
+        v = parent[crate::index(v)];
+        i = number(next[crate::index(v)]);
     }
     left
 }
 
 // Searches from each vertex that is new, the entry first, until all edges are settled.
-fn search_all(
+pub fn search_all(
     edges: &[u8],
     start: &[u16; 256],
     next: &mut [u16; 256],
@@ -193,32 +149,4 @@ fn search_all(
         next[v] = 0;
         slot = search(edges, start, next, parent, order, place, v as u8, slot);
     }
-}
-
-// Puts the edges into the order that searches find.
-fn by_search(edges: &[u8], order: &mut [u16])
-    requires { ⌜ edgeCount (now edges) ≤ 1024 ⌝ }
-    requires { ⌜ Identity (edgeCount (now edges)) (now order) ⌝ }
-    ensures { λ r. ⌜ Order (edgeCount (now (edges .entry))) (now (order .exit)) ⌝ }
-{
-    let mut place = [0u16; 1024];
-    identity(&mut place);
-    let mut start = [0u16; 256];
-    fill_starts(edges, &mut start);
-    let mut next = [NEW; 256];
-    let mut parent = [0u8; 256];
-    search_all(edges, &start, &mut next, &mut parent, order, &mut place);
-}
-
-// Fills in an order of the edges: by number if that is good, else by searches.
-pub fn fill(edges: &[u8], order: &mut [u16])
-    requires { ⌜ edgeCount (now edges) ≤ 1024 ⌝ }
-    requires { ⌜ length (now order) ≡ edgeCount (now edges) ⌝ }
-    ensures { λ r. ⌜ Order (edgeCount (now (edges .entry))) (now (order .exit)) ⌝ }
-{
-    identity(order);
-    if rises(edges) {
-        return;
-    }
-    by_search(edges, order);
 }

@@ -1,9 +1,9 @@
--- `flow::order::fill_lowest` stores within the table. The measure is what is left of the edges.
+-- `order::rising::fill_lowest` stores within the table. The measure is what is left of the edges.
 -- Assumes nothing.
 use Prim.Native.Nat.{_-_, _≤_}
 use borrow.Author.Needs.{needs}
-use Rattle.flow.proofs.order.fill_lowest.Statement.{statement}
-use Rattle.flow.proofs.order.fill_lowest.Tie as tie
+use Rattle.order.proofs.rising.fill_lowest.Statement.{statement}
+use Rattle.order.proofs.rising.fill_lowest.Tie as tie
 
 abbrev Inv-loop : tie.InvT-loop
 Inv-loop edges lowest₀ count j₀ lowest j = j ≤ count

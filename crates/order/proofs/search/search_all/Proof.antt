@@ -1,12 +1,12 @@
--- `flow::order::search_all` meets its contract. The invariant: every edge has its place. The measure is what is left of the vertices.
+-- `order::search::search_all` meets its contract. The invariant: every edge has its place. The measure is what is left of the vertices.
 -- Assumes nothing.
 use Prim.Native.Nat.{_-_, _≤_}
 use native.Mathlib.Omega.{arith}
 use borrow.Author.Needs.{needs}
-use Rattle.flow.specs.Order.{Placed}
+use Rattle.order.specs.Places.{Placed}
 use Rattle.flow.specs.Paths.{edgeCount}
-use Rattle.flow.proofs.order.search_all.Statement.{statement}
-use Rattle.flow.proofs.order.search_all.Tie as tie
+use Rattle.order.proofs.search.search_all.Statement.{statement}
+use Rattle.order.proofs.search.search_all.Tie as tie
 
 abbrev Inv-loop : tie.InvT-loop
 Inv-loop edges start next₀ parent₀ order₀ place₀ slot₀ v₀ next parent order place slot v = Placed (edgeCount edges) order place × (slot ≤ edgeCount edges) × (v ≤ 256)
