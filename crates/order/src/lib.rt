@@ -36,11 +36,7 @@ fn by_search(edges: &[u8], order: &mut [u16])
 {
     let mut place = [0u16; 1024];
     identity(&mut place);
-    let mut start = [0u16; 256];
-    search::fill_starts(edges, &mut start);
-    let mut next = [search::NEW; 256];
-    let mut parent = [0u8; 256];
-    search::search_all(edges, &start, &mut next, &mut parent, order, &mut place);
+    search::settle_all(edges, order, &mut place);
 }
 
 // Fills in an order of the edges: by number if that is good, else by searches.

@@ -6,16 +6,24 @@ ghost use lib.ListN.{length};
 ghost use Rattle.flow.specs.Paths.{edgeCount};
 ghost use Rattle.order.specs.Places.{Placed};
 
-// What the table of next edges holds for a vertex that the search has not met.
-pub const NEW: u16 = 0xffff;
+// What the table of entering edges holds for a vertex that no search has met.
+const NEW: u16 = 0xffff;
+
+// What it holds for a vertex that a search starts from.
+const ROOT: u16 = 0xfffe;
 
 // An edge's number as an index.
 fn number(i: u16) -> usize {
     i as usize
 }
 
+// The edge that a table has for a vertex.
+fn at(table: &[u16; 256], v: u8) -> usize {
+    number(table[v as usize])
+}
+
 // The first edge of each vertex that edges leave.
-pub fn fill_starts(edges: &[u8], start: &mut [u16; 256])
+fn fill_starts(edges: &[u8], start: &mut [u16; 256])
     requires { ⌜ edgeCount (now edges) ≤ 1024 ⌝ }
 {
     let count = edges.len() / 4;
@@ -50,13 +58,13 @@ fn leaves(edges: &[u8], i: usize, v: u8) -> bool
     edges[4 * i] == v
 }
 
-// Puts the edges of v, from its first on, at the slots before `slot`, and returns the lowest that is taken.
+// Puts the edges of v at the slots before `slot`, and returns the lowest that is taken.
 fn settle(
     edges: &[u8],
+    start: &[u16; 256],
     order: &mut [u16],
     place: &mut [u16],
     v: u8,
-    first: usize,
     slot: usize,
 ) -> usize
     requires { ⌜ Placed (edgeCount (now edges)) (now order) (now place) ⌝ }
@@ -65,7 +73,7 @@ fn settle(
     ensures { λ r. ⌜ r ≤ edgeCount (now (edges .entry)) ⌝ }
 {
     let mut left = slot;
-    let mut i = first;
+    let mut i = at(start, v);
     while left > 0 {
         if !leaves(edges, i, v) {
             return left;
@@ -77,61 +85,65 @@ fn settle(
     left
 }
 
-// Goes from v to a new vertex. The search takes up v again at edge i.
-fn enter(next: &mut [u16; 256], parent: &mut [u8; 256], v: u8, i: u16, to: u8) {
-    next[crate::index(v)] = i;
-    next[crate::index(to)] = 0;
-    parent[crate::index(to)] = v;
+// Enters a vertex by edge i, if it is new. Says whether it was.
+fn enter(entered: &mut [u16; 256], v: u8, i: u16) -> bool {
+    let index = v as usize;
+    if entered[index] != NEW {
+        return false;
+    }
+    entered[index] = i;
+    true
 }
 
-// Depth-first search from a root. The edges of a vertex that is finished take the highest slots before `slot` that are left. Returns the
-// lowest that is taken.
+// Goes on from a vertex at its edge `first`, always to a new vertex, and returns the one that no edge leads on from. Each step takes an
+// edge.
+fn descend(edges: &[u8], start: &[u16; 256], entered: &mut [u16; 256], from: u8, first: usize) -> u8
+    requires { ⌜ edgeCount (now edges) ≤ 1024 ⌝ }
+{
+    let mut v = from;
+    let mut i = first;
+    for step in 0..edges.len() / 4 + 1 {
+        if !leaves(edges, i, v) {
+            return v;
+        }
+        let to = edges[4 * i + 2];
+        if enter(entered, to, i as u16) {
+            v = to;
+            i = at(start, to);
+            continue;
+        }
+        i += 1;
+    }
+    v
+}
+
+// Enters the first new vertex from v on, as a root.
+fn enter_root(entered: &mut [u16; 256], v: u8) -> u8 {
+    for root in v as usize..256 {
+        if enter(entered, root as u8, ROOT) {
+            return root as u8;
+        }
+    }
+    v
+}
+
+// The vertex that is finished after v. At first v is the entry, which is new.
+fn after(edges: &[u8], start: &[u16; 256], entered: &mut [u16; 256], v: u8) -> u8
+    requires { ⌜ edgeCount (now edges) ≤ 1024 ⌝ }
+{
+    let i = at(entered, v);
+    if i < edges.len() / 4 {
+        return descend(edges, start, entered, edges[4 * i], i + 1);
+    }
+    let root = enter_root(entered, v);
+    descend(edges, start, entered, root, at(start, root))
+}
+
+// Searches from each vertex that is new, the entry first, until all edges are settled. Each step finishes a vertex.
 fn search(
     edges: &[u8],
     start: &[u16; 256],
-    next: &mut [u16; 256],
-    parent: &mut [u8; 256],
-    order: &mut [u16],
-    place: &mut [u16],
-    root: u8,
-    slot: usize,
-) -> usize
-    requires { ⌜ Placed (edgeCount (now edges)) (now order) (now place) ⌝ }
-    requires { ⌜ slot ≤ edgeCount (now edges) ⌝ }
-    ensures { λ r. ⌜ Placed (edgeCount (now (edges .entry))) (now (order .exit)) (now (place .exit)) ⌝ }
-    ensures { λ r. ⌜ r ≤ edgeCount (now (edges .entry)) ⌝ }
-{
-    let mut left = slot;
-    let mut v = root;
-    let mut i = number(start[crate::index(root)]);
-    for step in 0..edges.len() / 4 + 256 {
-        if leaves(edges, i, v) {
-            let to = edges[4 * i + 2];
-            i += 1;
-            if next[crate::index(to)] != NEW {
-                continue;
-            }
-            enter(next, parent, v, i as u16, to);
-            v = to;
-            i = number(start[crate::index(to)]);
-            continue;
-        }
-        left = settle(edges, order, place, v, number(start[crate::index(v)]), left);
-        if v == root {
-            return left;
-        }
-        v = parent[crate::index(v)];
-        i = number(next[crate::index(v)]);
-    }
-    left
-}
-
-// Searches from each vertex that is new, the entry first, until all edges are settled.
-pub fn search_all(
-    edges: &[u8],
-    start: &[u16; 256],
-    next: &mut [u16; 256],
-    parent: &mut [u8; 256],
+    entered: &mut [u16; 256],
     order: &mut [u16],
     place: &mut [u16],
 )
@@ -139,14 +151,23 @@ pub fn search_all(
     ensures { λ r. ⌜ Placed (edgeCount (now (edges .entry))) (now (order .exit)) (now (place .exit)) ⌝ }
 {
     let mut slot = edges.len() / 4;
-    for v in 0..256 {
+    let mut v: u8 = 0;
+    for step in 0..256usize {
+        v = after(edges, start, entered, v);
+        slot = settle(edges, start, order, place, v, slot);
         if slot == 0 {
             return;
         }
-        if next[v] != NEW {
-            continue;
-        }
-        next[v] = 0;
-        slot = search(edges, start, next, parent, order, place, v as u8, slot);
     }
+}
+
+// Puts all edges into the order that searches find.
+pub fn settle_all(edges: &[u8], order: &mut [u16], place: &mut [u16])
+    requires { ⌜ Placed (edgeCount (now edges)) (now order) (now place) ⌝ }
+    ensures { λ r. ⌜ Placed (edgeCount (now (edges .entry))) (now (order .exit)) (now (place .exit)) ⌝ }
+{
+    let mut start = [0u16; 256];
+    fill_starts(edges, &mut start);
+    let mut entered = [NEW; 256];
+    search(edges, &start, &mut entered, order, place);
 }

@@ -12,15 +12,12 @@ slice-aggregate-identity c = search needs
 identity-requires : tie.Need-identity-requires
 identity-requires c κs = search needs
 
-fill-starts-requires : tie.Need-fill-starts-requires
-fill-starts-requires c κs = search needs
+slice-aggregate-settle-all : tie.Need-slice-aggregate-settle-all
+slice-aggregate-settle-all c = search needs
 
-slice-aggregate-search-all : tie.Need-slice-aggregate-search-all
-slice-aggregate-search-all c = search needs
-
-search-all-requires : tie.Need-search-all-requires
-search-all-requires c κs =
-    let i = c .before .before .before .before .before .before .before .before in
+settle-all-requires : tie.Need-settle-all-requires
+settle-all-requires c κs =
+    let i = c .before .before .before in
     let s = i .before .before .before .before in
     identity-placed (edgeCount (s .args .edges .now)) (s .args .order .now) (i .identity .last .0) (s .pre .0) (s .pre .1) (i .identity .ensures)
 
@@ -29,7 +26,7 @@ same-length c = search needs
 
 returns : tie.Need-returns
 returns c =
-    let x = c .before .before .before .search-all in
+    let x = c .before .before .before .settle-all in
     placed-order _ _ _ (x .ensures)
 
 pub by-search-spec : {M : Type 1} → statement M
@@ -38,8 +35,7 @@ by-search-spec =
     (tie.spec
     slice-aggregate-identity
     identity-requires
-    fill-starts-requires
-    slice-aggregate-search-all
-    search-all-requires
+    slice-aggregate-settle-all
+    settle-all-requires
     same-length
     returns)

@@ -11,16 +11,19 @@ use Rattle.order.proofs.search.settle.Statement.{statement}
 use Rattle.order.proofs.search.settle.Tie as tie
 
 abbrev Inv-loop : tie.InvT-loop
-Inv-loop edges order₀ place₀ v first slot left₀ i₀ order place left i = Placed (edgeCount edges) order place × (left ≤ edgeCount edges)
+Inv-loop edges start order₀ place₀ v slot left₀ i₀ order place left i = Placed (edgeCount edges) order place × (left ≤ edgeCount edges)
 
 abbrev μ-loop : tie.MeasureT-loop
-μ-loop edges order₀ place₀ v first slot left₀ i₀ order place left i = left
+μ-loop edges start order₀ place₀ v slot left₀ i₀ order place left i = left
+
+at-requires : tie.Need-at-requires Inv-loop μ-loop
+at-requires c κs = search needs
 
 loop-holds : tie.Need-loop-holds Inv-loop μ-loop
 loop-holds c = search needs
 
 -- edge i is there
-listed : (c : tie.Else1 Inv-loop μ-loop) → c .before .before .before .loop .i < edgeCount (c .before .before .before .before .before .before .before .args .edges .now)
+listed : (c : tie.Else1 Inv-loop μ-loop) → c .before .before .before .loop .i < edgeCount (c .before .before .before .before .before .before .before .before .args .edges .now)
 listed c = c .before .leaves .ensures (not-false _ (c .if1 .left))
 
 leaves-requires : tie.Need-leaves-requires Inv-loop μ-loop
@@ -72,6 +75,7 @@ settle-spec =
     (tie.spec
     Inv-loop
     μ-loop
+    at-requires
     loop-holds
     leaves-requires
     same-length
