@@ -1,4 +1,4 @@
-//! The order in which the planner takes the edges, as crates/flow/src/order.rt makes it. It is a
+//! The order in which the planner takes the edges, as crates/order makes it. It is a
 //! mirror: the library does not hand its order out.
 
 type Edge = (usize, usize);

@@ -3,4 +3,3 @@ pub mod Paths
 pub mod Rounds
 pub mod Rows
 pub mod Tests
-pub mod Turns

@@ -2,7 +2,7 @@
 -- Assumes nothing.
 use mathlib.Core.Path.{_≡_}
 use mathlib.Core.List.{List}
-use Prim.Native.Nat.{ℕ, _≤_, _<_}
+use Prim.Native.Nat.{ℕ, _<_}
 use lib.ListN.{length, getD}
 use Rattle.words.specs.Tables.{table}
 
@@ -15,17 +15,3 @@ pub record Order (c : ℕ) (order : List ℕ) : Type 0 where
 -- the edges by their numbers
 abbrev pub natural : ℕ → List ℕ
 natural c = table (λ i. i) c
-
--- each number stands at its own place
-pub record Identity (n : ℕ) (t : List ℕ) : Type 0 where
-  pub all : length t ≡ n
-  pub same : (j : ℕ) → j < n → getD t j 0 ≡ j
-
--- `place` says where each edge stands in the order
-pub record Placed (c : ℕ) (order place : List ℕ) : Type 0 where
-  pub all : length order ≡ c
-  pub most : c ≤ 1024
-  pub room : length place ≡ 1024
-  pub within : (j : ℕ) → j < c → getD order j 0 < c
-  pub known : (i : ℕ) → i < c → getD place i 0 < c
-  pub stands : (i : ℕ) → i < c → getD order (getD place i 0) 0 ≡ i

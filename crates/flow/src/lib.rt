@@ -1,8 +1,6 @@
 // One solver on version sets over the edges of a routine: bit k is in the set of a vertex if a path from it, through vertices that
 // pass k, arrives at a vertex that gives k. It goes by rounds over the edges until a round alters no set.
 // A table has eight columns, one for each array that a routine may have: the set of vertex v in column a stands at 8 v + a.
-pub mod order;
-
 ghost use mathlib.Core.Path.{_≡_};
 ghost use mathlib.Core.Bool.{cond, not};
 ghost use Prim.Native.Nat.{_+_, _*_, _≤_, _<_};

@@ -14,7 +14,7 @@ pub fn order(file: &[u8], h: Header, order: &mut [u16])
     ensures { λ _. ⌜ Edges (now (file .entry)) (now (order .exit)) ⌝ }
 {
     let at = h.edges_at();
-    flow::order::fill(&file[at..], order);
+    order::fill(&file[at..], order);
 }
 
 // Fills in the sets by what each vertex gives and passes, along the edges or against them.

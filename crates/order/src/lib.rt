@@ -1,0 +1,53 @@
+// The order in which the solver takes the edges: by the place of the vertex that they leave in a reverse postorder, so that a round by
+// rising place carries a fact along every path without a loop, whatever the numbers of the vertices.
+// Vertices are below 256: the low byte of an edge's end names it.
+mod rising;
+mod search;
+
+ghost use mathlib.Core.Path.{_≡_};
+ghost use Prim.Native.Nat.{_≤_, _<_};
+ghost use lib.ListN.{length};
+ghost use Rattle.flow.specs.Order.{Order};
+ghost use Rattle.flow.specs.Paths.{edgeCount};
+ghost use Rattle.order.specs.Places.{Identity};
+
+// Puts each number at its own place.
+fn identity(t: &mut [u16])
+    requires { ⌜ length (now t) ≤ 1024 ⌝ }
+    ensures { λ r. ⌜ Identity (length (now (t .entry))) (now (t .exit)) ⌝ }
+{
+    for j in 0..t.len() {
+        t[j] = j as u16;
+    }
+}
+
+// A vertex as an index.
+fn index(v: u8) -> usize
+    ensures { λ r. ⌜ r < 256 ⌝ }
+{
+    v as usize
+}
+
+// Puts the edges into the order that searches find.
+fn by_search(edges: &[u8], order: &mut [u16])
+    requires { ⌜ edgeCount (now edges) ≤ 1024 ⌝ }
+    requires { ⌜ Identity (edgeCount (now edges)) (now order) ⌝ }
+    ensures { λ r. ⌜ Order (edgeCount (now (edges .entry))) (now (order .exit)) ⌝ }
+{
+    let mut place = [0u16; 1024];
+    identity(&mut place);
+    search::settle_all(edges, order, &mut place);
+}
+
+// Fills in an order of the edges: by number if that is good, else by searches.
+pub fn fill(edges: &[u8], order: &mut [u16])
+    requires { ⌜ edgeCount (now edges) ≤ 1024 ⌝ }
+    requires { ⌜ length (now order) ≡ edgeCount (now edges) ⌝ }
+    ensures { λ r. ⌜ Order (edgeCount (now (edges .entry))) (now (order .exit)) ⌝ }
+{
+    identity(order);
+    if rising::rises(edges) {
+        return;
+    }
+    by_search(edges, order);
+}
