@@ -22,15 +22,15 @@ abbrev μ-loop : tie.MeasureT-loop
 loop-holds : tie.Need-loop-holds Inv-loop μ-loop
 loop-holds c = start _ _
 
-check-ambiguous-at-requires : tie.Need-check-ambiguous-at-requires Inv-loop μ-loop
-check-ambiguous-at-requires c κs = let p = c .before .before .before .before .before .pre in (p .0, (p .1 .0, (omega arith, p .1 .1)))
+check-ambiguous-row-requires : tie.Need-check-ambiguous-row-requires Inv-loop μ-loop
+check-ambiguous-row-requires c κs = let p = c .before .before .before .before .before .pre in (p .0, (p .1 .0, (omega arith, p .1 .1)))
 
 enum-told : tie.Need-enum-told Inv-loop μ-loop
 enum-told c = search needs
 
 returns : tie.Need-returns Inv-loop μ-loop
 unfolding check21
-returns c = stop (c .before .before .before .before .loop .inv) (omega arith) (c .before .before .check-ambiguous-at .ensures) (c .enum-told .given .1)
+returns c = stop (c .before .before .before .before .loop .inv) (omega arith) (c .before .before .check-ambiguous-row .ensures) (c .enum-told .given .1)
 
 enum-told-2 : tie.Need-enum-told-2 Inv-loop μ-loop
 enum-told-2 c = search needs
@@ -42,7 +42,7 @@ loop-less : tie.Need-loop-less Inv-loop μ-loop
 loop-less c = omega arith
 
 loop-again : tie.Need-loop-again Inv-loop μ-loop
-loop-again c = next (c .before .before .before .before .loop .inv) (omega arith) (c .before .before .check-ambiguous-at .ensures) (c .enum-told2 .given .1)
+loop-again c = next (c .before .before .before .before .loop .inv) (omega arith) (c .before .before .check-ambiguous-row .ensures) (c .enum-told2 .given .1)
 
 returns-2 : tie.Need-returns-2 Inv-loop μ-loop
 unfolding check21
@@ -55,7 +55,7 @@ check-ambiguous-spec =
     Inv-loop
     μ-loop
     loop-holds
-    check-ambiguous-at-requires
+    check-ambiguous-row-requires
     enum-told
     returns
     enum-told-2

@@ -13,23 +13,26 @@ use Rattle.passes.proofs.checks.check_writes.Statement.{statement}
 use Rattle.passes.proofs.checks.check_writes.Tie as tie
 
 abbrev Inv-loop : tie.InvT-loop
-Inv-loop file h uses n v₀ v = Undecided (λ v. firstFailed (λ a. holds (not (writesIn file a v)) (WritesInArgument v a)) 0 (arrays file)) (vertices file) v
+Inv-loop file h uses masks n v₀ v = Undecided (λ v. firstFailed (λ a. holds (not (writesIn file a v)) (WritesInArgument v a)) 0 (arrays file)) (vertices file) v
 
 abbrev μ-loop : tie.MeasureT-loop
-μ-loop file h uses n v₀ v = n - v
+μ-loop file h uses masks n v₀ v = n - v
+
+in-masks-requires : tie.Need-in-masks-requires Inv-loop μ-loop
+in-masks-requires c κs = search needs
 
 loop-holds : tie.Need-loop-holds Inv-loop μ-loop
 loop-holds c = start _ _
 
-check-writes-at-requires : tie.Need-check-writes-at-requires Inv-loop μ-loop
-check-writes-at-requires c κs = let p = c .before .before .before .before .pre in (p .0, (p .1, omega arith))
+check-writes-row-requires : tie.Need-check-writes-row-requires Inv-loop μ-loop
+check-writes-row-requires c κs = let s = c .before .before .before .before .before in (s .pre .0, (s .pre .1, (omega arith, c .before .before .in-masks .ensures)))
 
 enum-told : tie.Need-enum-told Inv-loop μ-loop
 enum-told c = search needs
 
 returns : tie.Need-returns Inv-loop μ-loop
 unfolding check20
-returns c = stop (c .before .before .before .before .loop .inv) (omega arith) (c .before .before .check-writes-at .ensures) (c .enum-told .given .1)
+returns c = stop (c .before .before .before .before .loop .inv) (omega arith) (c .before .before .check-writes-row .ensures) (c .enum-told .given .1)
 
 enum-told-2 : tie.Need-enum-told-2 Inv-loop μ-loop
 enum-told-2 c = search needs
@@ -41,7 +44,7 @@ loop-less : tie.Need-loop-less Inv-loop μ-loop
 loop-less c = omega arith
 
 loop-again : tie.Need-loop-again Inv-loop μ-loop
-loop-again c = next (c .before .before .before .before .loop .inv) (omega arith) (c .before .before .check-writes-at .ensures) (c .enum-told2 .given .1)
+loop-again c = next (c .before .before .before .before .loop .inv) (omega arith) (c .before .before .check-writes-row .ensures) (c .enum-told2 .given .1)
 
 returns-2 : tie.Need-returns-2 Inv-loop μ-loop
 unfolding check20
@@ -53,8 +56,9 @@ check-writes-spec =
     (tie.spec
     Inv-loop
     μ-loop
+    in-masks-requires
     loop-holds
-    check-writes-at-requires
+    check-writes-row-requires
     enum-told
     returns
     enum-told-2

@@ -1,25 +1,13 @@
 -- `is_ambiguous` meets its contract.
 -- Assumes nothing.
-use mathlib.Core.Path.{_≡_, ap, ap₂, _∙_}
-use mathlib.Core.Bool.{Bool, _&&_}
-use mathlib.Core.List.{List}
-use Prim.Native.Nat.{ℕ}
+use mathlib.Core.Path.{ap₂, _∙_}
+use mathlib.Core.Bool.{_&&_}
 use native.Mathlib.Omega.{arith}
 use borrow.Author.Needs.{needs}
-use lib.ListN.{getD}
-use Rattle.sets.specs.Sets.{has, several}
-use Rattle.labels.specs.Ambiguity.{arrivingSets, isAmbiguous}
-use Rattle.labels.specs.Events.{event}
-use Rattle.labels.specs.Uses.{useGives}
 use Rattle.passes.proofs.Cells.{few-cells, in-table}
-use Rattle.passes.proofs.Steps.{use-reference}
+use Rattle.passes.proofs.Faults.{ambiguous-cell}
 use Rattle.passes.proofs.checks.is_ambiguous.Statement.{statement}
 use Rattle.passes.proofs.checks.is_ambiguous.Tie as tie
-
--- the answer, by what the calls say
-told : (file : List ℕ) (a v : ℕ) {r m : Bool} → r ≡ has (useGives (event file a v)) 0 → m ≡ several (getD (arrivingSets file a) v 0) → (r && m) ≡ isAmbiguous file a v
-unfolding isAmbiguous
-told file a v e f = ap₂ _&&_ (e ∙ use-reference (event file a v)) f
 
 mul-at : tie.Need-mul-at
 mul-at c = let s = c .before .before .before in omega (arith, few-cells (s .pre .0) (s .pre .1 .1 .1 .0) (s .pre .1 .1 .0))
@@ -49,9 +37,8 @@ returns : tie.Need-returns
 returns c =
     let s = c .before .before .before .before .before .before .before in
     let p = s .pre in
-    told (s .args .file .now) (s .args .a) (s .args .v)
-    (c .before .before .member .ensures ∙ ap (λ (x : ℕ). has x 0) (p .1 .0 .cells (s .args .a) (s .args .v) (p .1 .1 .1 .0) (p .1 .1 .0)))
-    (c .more-than-one .ensures ∙ ap several (p .1 .1 .1 .1 .cells (s .args .a) (s .args .v) (p .1 .1 .1 .0) (p .1 .1 .0)))
+    ap₂ _&&_ (c .before .before .member .ensures) (c .more-than-one .ensures)
+    ∙ ambiguous-cell (p .1 .0) (s .args .v) (p .1 .1 .0) (s .args .a) (p .1 .1 .1 .0) (p .1 .1 .1 .1)
 
 pub is-ambiguous-spec : {M : Type 1} → statement M
 is-ambiguous-spec =
