@@ -1,7 +1,2 @@
-pub mod Bounds
-pub mod Cells
-pub mod Edges
 pub mod Faults
-pub mod Letters
 pub mod Rules
-pub mod Steps

@@ -1,19 +1,15 @@
 -- Document 01, "Who can cause a refusal", the routine's programmer: 20 and 21, first by vertex, then by array.
 -- Assumes nothing.
-use mathlib.Core.Path.{_≡_}
 use mathlib.Core.Bool.{Bool, not, _&&_}
 use mathlib.Core.List.{List}
-use Prim.Native.Nat.{ℕ, _*_, _<_}
-use lib.ListN.{length}
+use Prim.Native.Nat.{ℕ, _<_}
 use Rattle.routine.specs.Checks.{_andThen_, holds, firstFailed}
 use Rattle.routine.specs.Layout.{arrays, vertices}
 use Rattle.routine.specs.declared.refusal.Refusal.{Refusal}
 use Rattle.routine.specs.declared.refusal.Refusal.the-variants.{WritesInArgument, AmbiguousReference}
 use Rattle.routine.specs.declared.refusal.Verdict.{Verdict}
-use Rattle.routine.specs.declared.refusal.Verdict.the-variants.{Passed}
 use Rattle.labels.specs.Events.{kind, isIn, event, isWrite}
 use Rattle.labels.specs.Ambiguity.{isAmbiguous}
-use Rattle.labels.specs.Tables.{Reached}
 
 -- the first vertex, and there the first array, at which a fault stands
 unfoldable pub firstFault : (ℕ → ℕ → Bool) → (ℕ → ℕ → Refusal) → List ℕ → Verdict
@@ -47,9 +43,3 @@ check21 file = firstFault (λ v a. isAmbiguous file a v) AmbiguousReference file
 unfoldable pub programmerCheck : List ℕ → Verdict
 unfolding check20 check21
 programmerCheck file = check20 file andThen check21 file
-
--- the answer, and where it passes the table of reached vertices
-pub record Checked (file : List ℕ) (answer : Verdict) (reached : List ℕ) : Type 0 where
-  pub answers : answer ≡ programmerCheck file
-  pub size : length reached ≡ 8 * vertices file
-  pub reaches : answer ≡ Passed → Reached file reached

@@ -6,5 +6,4 @@ pub mod Letters
 pub mod Proper
 pub mod Reaching
 pub mod Routines
-pub mod Tables
 pub mod Uses

@@ -2,17 +2,15 @@
 use crate::Use;
 use routine::action;
 use routine::action::Action;
-use routine::array;
 use routine::array::ArrayRecord;
 use routine::header::Header;
 ghost use mathlib.Core.Path.{_≡_};
 ghost use mathlib.Core.Bool.{cond, not, _&&_};
-ghost use Prim.Native.Nat.{_*_, _<_};
+ghost use Prim.Native.Nat.{_<_};
 ghost use Rattle.labels.specs.Events.{event, versionOf, versionSet, everyVersion, isInOrInout};
-ghost use Rattle.labels.specs.Routines.{ReadAs, OfArray};
-ghost use Rattle.labels.specs.Tables.{cellEvent};
+ghost use Rattle.labels.specs.Routines.{OfArray};
 ghost use Rattle.labels.specs.Uses.{isN};
-ghost use Rattle.routine.specs.Actions.{isReference, isRemap};
+ghost use Rattle.routine.specs.Actions.{isRemap};
 ghost use Rattle.routine.specs.Layout.{vertices};
 
 // Every version.
@@ -31,39 +29,11 @@ pub fn at(file: &[u8], h: Header, r: ArrayRecord, a: usize, v: usize) -> Action
     action::at(file, h, v, a)
 }
 
-// What a cell stands for: what vertex i / 8 does with array i % 8; nothing where there is no such array.
-pub fn cell(file: &[u8], h: Header, i: usize) -> Action
-    requires { ⌜ ReadAs (now file) h ⌝ }
-    requires { ⌜ i < 8 * vertices (now file) ⌝ }
-    ensures { λ x. ⌜ x ≡ cellEvent (now (file .entry)) i ⌝ }
-{
-    let a = i % flow::COLUMNS;
-    if a >= h.arrays {
-        return Action::Nothing;
-    }
-    at(file, h, array::record_of(file, a), a, i / flow::COLUMNS)
-}
-
-pub fn is_reference(x: Action) -> bool
-    ensures { λ r. ⌜ r ≡ isReference x ⌝ }
-{
-    match x {
-        Action::Reference(_) => true,
-        Action::Nothing => false,
-        Action::Remap(_) => false,
-        Action::Unknown => false,
-    }
-}
-
+// A label is a remapping.
 pub fn is_label(x: Action) -> bool
     ensures { λ r. ⌜ r ≡ isRemap x ⌝ }
 {
-    match x {
-        Action::Remap(_) => true,
-        Action::Nothing => false,
-        Action::Reference(_) => false,
-        Action::Unknown => false,
-    }
+    x.is_remap()
 }
 
 fn is_n(u: Use) -> bool

@@ -1,14 +1,6 @@
-// The label rules of document 01: for each label its use, leaving version, reaching set and kept set; and refusals 20 and 21.
-// One pass of the solver for each rule; the tables have an entry for each array and vertex.
-mod ambiguity;
-pub mod checks;
+// The label rules of document 01 by paths, and as computed: for each label its use, leaving version, reaching set and kept set; and
+// refusals 20 and 21. Here are events and letters; the rules are computed in `passes`.
 pub mod event;
-pub mod events;
-mod kept;
-pub mod pass;
-mod reaching;
-pub mod tables;
-mod uses;
 
 ghost use mathlib.Core.Path.{_≡_};
 ghost use Rattle.labels.specs.Letters.{letterByte, useOfByte};

@@ -23,8 +23,8 @@ use Rattle.routine.specs.Layout.{arrays, vertices}
 use Rattle.sets.specs.Sets.{has}
 use Rattle.sets.proofs.Laws.{has-single}
 use Rattle.words.specs.Tables.{wrote}
-use Rattle.labels.proofs.Cells.{few-cells, in-table}
-use Rattle.labels.proofs.Letters.{letter-use}
+use Rattle.passes.proofs.Cells.{few-cells, in-table}
+use Rattle.passes.proofs.Letters.{letter-use}
 
 -- ---- an entry's bytes
 

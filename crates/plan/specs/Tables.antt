@@ -7,7 +7,7 @@ use Prim.Native.Nat.{ℕ}
 use Rattle.labels.specs.Kept.{keptOf}
 use Rattle.labels.specs.Letters.{useOfByte}
 use Rattle.labels.specs.Reaching.{reachingOf}
-use Rattle.labels.specs.Tables.{Cells, Versions, Letters}
+use Rattle.passes.specs.Tables.{Cells, Versions, Letters}
 use Rattle.labels.specs.Uses.{isN}
 use Rattle.sets.specs.Sets.{has}
 

@@ -8,7 +8,7 @@ ghost use Prim.Native.Nat.{_*_, _≤_, _<_};
 ghost use lib.Dec.{eqb};
 ghost use lib.ListN.{length, getD};
 ghost use Rattle.labels.specs.Routines.{ReadAs};
-ghost use Rattle.labels.specs.Tables.{Versions};
+ghost use Rattle.passes.specs.Tables.{Versions};
 ghost use Rattle.plan.specs.Plan.{labelsAt, labelCount, planLength, contents};
 ghost use Rattle.routine.specs.Layout.{vertices};
 ghost use Rattle.words.specs.Tables.{wrote};

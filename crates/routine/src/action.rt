@@ -42,7 +42,7 @@ impl Action {
         }
     }
 
-    fn is_reference(self) -> bool
+    pub fn is_reference(self) -> bool
         ensures { λ r. ⌜ r ≡ isReference self ⌝ }
     {
         match self {
@@ -53,7 +53,7 @@ impl Action {
         }
     }
 
-    fn is_remap(self) -> bool
+    pub fn is_remap(self) -> bool
         ensures { λ r. ⌜ r ≡ isRemap self ⌝ }
     {
         match self {

@@ -13,8 +13,8 @@ use Rattle.labels.specs.Events.{exit, event, versionOf}
 use Rattle.labels.specs.Kept.{keptOf}
 use Rattle.labels.specs.Letters.{letterByte, useOfByte}
 use Rattle.labels.specs.Uses.{useOf}
-use Rattle.labels.proofs.Bounds.{event-below}
-use Rattle.labels.proofs.Letters.{letter-use}
+use Rattle.passes.proofs.Bounds.{event-below}
+use Rattle.passes.proofs.Letters.{letter-use}
 use Rattle.routine.specs.Actions.{isReference}
 use Rattle.routine.specs.Arrays.{arrayOf}
 use Rattle.routine.specs.Layout.{arrays}

@@ -8,7 +8,7 @@ use lib.Dec.{eqb}
 use lib.ListN.{length, getD}
 use Rattle.labels.specs.Events.{exit, event}
 use Rattle.labels.specs.Kept.{keptOf}
-use Rattle.labels.specs.Tables.{Cells, Letters}
+use Rattle.passes.specs.Tables.{Cells, Letters}
 use Rattle.labels.specs.Uses.{useOf}
 use Rattle.routine.specs.Actions.{isRemap}
 use Rattle.routine.specs.Arrays.{arrayOf}

@@ -30,7 +30,7 @@ fn reference_at(file: &[u8], h: Header, v: usize, a: usize) -> usize
     requires { ⌜ a < arrays (now file) ⌝ }
     ensures { λ r. ⌜ r ≡ cond (isReference (event (now (file .entry)) a v)) 1 0 ⌝ }
 {
-    let reference = event::is_reference(event::at(file, h, array::record_of(file, a), a, v));
+    let reference = event::at(file, h, array::record_of(file, a), a, v).is_reference();
     if reference {
         return 1;
     }

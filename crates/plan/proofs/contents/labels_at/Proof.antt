@@ -10,7 +10,7 @@ use Rattle.plan.specs.Plan.{labelsAmong, labelsAt}
 use Rattle.plan.proofs.Cells.{counts-label}
 use Rattle.plan.proofs.Sizes.{among-more, among-few, at-few}
 use Rattle.routine.specs.Layout.{arrays}
-use Rattle.labels.proofs.Cells.{few-cells, in-table}
+use Rattle.passes.proofs.Cells.{few-cells, in-table}
 use Rattle.words.proofs.Tables.{at-most-one}
 use Rattle.plan.proofs.contents.labels_at.Statement.{statement}
 use Rattle.plan.proofs.contents.labels_at.Tie as tie

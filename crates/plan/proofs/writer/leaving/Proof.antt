@@ -7,7 +7,7 @@ use borrow.Author.Needs.{needs}
 use borrow.Author.Tests.{ne-eqb, not-true}
 use Rattle.labels.specs.Letters.{useOfByte}
 use Rattle.labels.specs.Uses.{isN}
-use Rattle.labels.proofs.Letters.{not-n}
+use Rattle.passes.proofs.Letters.{not-n}
 use Rattle.plan.proofs.writer.leaving.Statement.{statement}
 use Rattle.plan.proofs.writer.leaving.Tie as tie
 

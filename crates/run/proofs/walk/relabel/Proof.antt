@@ -9,8 +9,8 @@ use lib.Dec.{eqb}
 use lib.ListN.{length, getD}
 use Rattle.labels.specs.Events.{event}
 use Rattle.labels.specs.Letters.{useOfByte}
-use Rattle.labels.proofs.Bounds.{initial-below}
-use Rattle.labels.proofs.Cells.{few-cells, in-table}
+use Rattle.passes.proofs.Bounds.{initial-below}
+use Rattle.passes.proofs.Cells.{few-cells, in-table}
 use Rattle.routine.specs.Layout.{vertices}
 use Rattle.routine.specs.declared.action.Action.{Action}
 use Rattle.routine.specs.declared.array.ArrayRecord.{ArrayRecord}

@@ -1,0 +1,92 @@
+-- Laws of tables of eight columns: the cell of vertex v and array a stands at 8 v + a.
+-- Assumes nothing.
+use mathlib.Core.Path.{_≡_, refl, sym, ap, ap₂, subst, _∙_}
+use mathlib.Core.Bool.{Bool, true, cond}
+use mathlib.Core.List.{List}
+use Prim.Native.Nat.{ℕ, _+_, _*_, _/_, _%_, _≤_, _<_}
+use native.Mathlib.Decide.{ℕ-discrete}
+use native.Mathlib.Omega.{arith}
+use borrow.Author.Tests.{lt-ltb}
+use lib.Dec.{ltb}
+use lib.ListN.{length, getD}
+use Rattle.flow.specs.Solver.{column, solution}
+use Rattle.routine.specs.Layout.{arrays, vertices}
+use Rattle.routine.specs.Reader.{WellFormed}
+use Rattle.routine.specs.declared.action.Action.the-variants.{Nothing}
+use Rattle.routine.specs.declared.header.Header.{Header}
+use Rattle.words.specs.Tables.{table, withRow}
+use Rattle.words.proofs.Fills.{table-ext}
+use Rattle.words.proofs.Rows.{row-length, row-other, row-at}
+use Rattle.words.proofs.Tables.{table-length, table-at}
+use Rattle.labels.specs.Events.{edgeBytes, event}
+use Rattle.labels.specs.Routines.{ReadAs}
+use Rattle.passes.specs.Tables.{Cells, cellEvent, Pass}
+
+-- ---- places
+
+pub row-of : (v a : ℕ) → a < 8 → (8 * v + a) / 8 ≡ v
+row-of v a h = omega arith
+
+pub column-of : (v a : ℕ) → a < 8 → (8 * v + a) % 8 ≡ a
+column-of v a h = omega arith
+
+module _ {file : List ℕ} (well : WellFormed file) where
+  -- a column for each array
+  pub in-eight : {a : ℕ} → a < arrays file → a < 8
+  in-eight h = omega (arith, well .laid .limits .few-arrays)
+
+  pub in-cells : {a v : ℕ} → a < arrays file → v < vertices file → 8 * v + a < 8 * vertices file
+  in-cells h k = omega (arith, in-eight h)
+
+  -- what a cell stands for
+  pub cell-event : {a : ℕ} (v : ℕ) → a < arrays file → cellEvent file (8 * v + a) ≡ event file a v
+  unfolding cellEvent
+  cell-event {a} v h =
+      ap₂ (λ (x y : ℕ). cond (ltb x (arrays file)) (event file x y) Nothing) (column-of v a (in-eight h)) (row-of v a (in-eight h))
+      ∙ ap (λ (b : Bool). cond b (event file a v) Nothing) (lt-ltb a (arrays file) h)
+
+  -- a table that was filled cell by cell
+  pub cells-table : (F : ℕ → ℕ) {f : ℕ → ℕ → ℕ} {s : List ℕ} {n : ℕ} → n ≡ 8 * vertices file → s ≡ table F n
+      → ((a v : ℕ) → a < arrays file → v < vertices file → F (8 * v + a) ≡ f a v) → Cells file f s
+  cells-table F {f} {s} {n} size e h = record {
+    size = ap length e ∙ table-length F n ∙ size;
+    cells = λ a v in-a in-v.
+        ap (λ (t : List ℕ). getD t (8 * v + a) 0) e ∙ table-at F n (8 * v + a) (subst (λ (x : ℕ). 8 * v + a < x) (sym size) (in-cells in-a in-v)) ∙ h a v in-a in-v;
+  }
+
+  -- a row replaced
+  pub cells-row : {f g : ℕ → ℕ → ℕ} (r : ℕ → ℕ) {s : List ℕ} (w : ℕ) → w < vertices file → Cells file f s
+      → ((a : ℕ) → a < arrays file → r a ≡ g a w) → ((a v : ℕ) → a < arrays file → (v ≡ w → ⊥) → f a v ≡ g a v)
+      → Cells file g (withRow s w r (arrays file))
+  cells-row {f} {g} r {s} w in-w h new old = record {
+    size = row-length s w r (arrays file) ∙ h .size;
+    cells = λ a v in-a in-v.
+        elim (ℕ-discrete v w) [
+          | yes e ↦ subst (λ (x : ℕ). getD (withRow s w r (arrays file)) (8 * x + a) 0 ≡ g a x) (sym e)
+              (row-at s w r (arrays file) a in-a (omega (arith, h .size, well .laid .limits .few-arrays)) ∙ new a in-a)
+          | no e ↦ row-other s w r (arrays file) (8 * v + a) (λ b in-b q. e (omega (arith, in-eight in-a, in-eight in-b))) ∙ h .cells a v in-a in-v ∙ old a v in-a e
+        ];
+  }
+
+  -- the sets that a pass leaves
+  pub cells-solved : (G P : ℕ → ℕ → ℕ) {gives passes sets : List ℕ} {along : Bool} → Cells file G gives → Cells file P passes → Pass file along gives passes sets
+      → Cells file (λ a v. getD (solution (edgeBytes file) along (table (G a) (vertices file)) (table (P a) (vertices file)) (vertices file)) v 0) sets
+  cells-solved G P {gives} {passes} {sets} {along} g p h = record {
+    size = h .size;
+    cells = λ a v in-a in-v.
+        sym (table-at (λ u. getD sets (8 * u + a) 0) (vertices file) v in-v)
+        ∙ ap (λ (t : List ℕ). getD t v 0)
+        (h .solved a (in-eight in-a)
+        ∙ ap₂ (λ (x y : List ℕ). solution (edgeBytes file) along x y (vertices file))
+        (table-ext (vertices file) (λ u in-u. g .cells a u in-a in-u)) (table-ext (vertices file) (λ u in-u. p .cells a u in-a in-u)));
+  }
+
+-- ---- by the header
+
+module _ {file : List ℕ} {h : Header} (is : ReadAs file h) {a v : ℕ} (in-a : a < arrays file) (in-v : v < vertices file) where
+  pub few-cells : 8 * v + a < 2048
+  few-cells = omega (arith, in-cells (is .well) in-a in-v, is .well .laid .limits .few-vertices)
+
+  -- the cell is in a table of all vertices
+  pub in-table : (s : List ℕ) → length s ≡ 8 * vertices file → 8 * v + a < length s
+  in-table s e = omega (arith, e, in-cells (is .well) in-a in-v)

@@ -1,0 +1,251 @@
+-- What the tables of each pass say, cell by cell.
+-- Assumes nothing.
+use mathlib.Core.Path.{_≡_, refl, sym, ap, ap₂, subst, _∙_}
+use mathlib.Core.Bool.{Bool, true, false, not, _&&_, _||_, cond}
+use mathlib.Core.List.{List}
+use Prim.Native.Nat.{ℕ, zero, suc, _+_, _*_, _<_, _^_}
+use native.Mathlib.Omega.{arith}
+use borrow.Author.Tests.{lt-ltb, le-ltb, eq-eqb, ne-eqb}
+use lib.Bits.{bitOr}
+use lib.Dec.{eqb, ltb, eqb·suc-zero}
+use lib.ListN.{length, getD}
+use lib.Pow.{pow-pos}
+use Rattle.routine.specs.Actions.{isReference}
+use Rattle.routine.specs.Layout.{arrays, vertices}
+use Rattle.routine.specs.Reader.{WellFormed}
+use Rattle.routine.specs.declared.action.Access.the-variants.{Read, Define, Modify}
+use Rattle.routine.specs.declared.action.Action.{Action}
+use Rattle.routine.specs.declared.action.Action.the-variants.{Nothing, Reference, Remap, Unknown}
+use Rattle.sets.specs.Sets.{has}
+use Rattle.words.specs.Tables.{table, withRow}
+use Rattle.labels.specs.Ambiguity.{arriveGives, arrivePasses, arrivingSets}
+use Rattle.labels.specs.Events.{everyVersion, entry, exit, kind, initial, isInOrInout, event, isLabel, versionOf, version, isWrite}
+use Rattle.labels.specs.Kept.{isNOrR, passesKept, leavingSet, keptSets, keptOf}
+use Rattle.labels.specs.Letters.{letterByte, useOfByte}
+use Rattle.labels.specs.Reaching.{reachedSets, isReached, reachGives, reachPasses, reachSets, reachingOf}
+use Rattle.passes.specs.Tables.{Cells, reachedCell, Versions, UseGives, Reached, Letters, Pass}
+use Rattle.labels.specs.Uses.{useGives, usePasses, passesBy, useSets, letterOf, exitUse, useOf, isN, isKept}
+use Rattle.labels.specs.declared.Use.{Use}
+use Rattle.labels.proofs.Rules.Versions.{all-but}
+use Rattle.passes.proofs.Cells.{in-eight, cells-table, cells-row, cells-solved}
+use Rattle.passes.proofs.Letters.{letter-use}
+
+-- ---- use
+
+pub use-reference : (x : Action) → has (useGives x) 0 ≡ isReference x
+unfolding has
+use-reference Nothing = refl
+use-reference (Reference Read) = refl
+use-reference (Reference Define) = refl
+use-reference (Reference Modify) = refl
+use-reference (Remap k) = refl
+use-reference Unknown = refl
+
+pub use-write : (x : Action) → has (useGives x) 3 ≡ isWrite x
+unfolding has
+use-write Nothing = refl
+use-write (Reference Read) = refl
+use-write (Reference Define) = refl
+use-write (Reference Modify) = refl
+use-write (Remap k) = refl
+use-write Unknown = refl
+
+pub use-passes : (x : Action) → passesBy (useGives x) ≡ usePasses x
+use-passes Nothing = refl
+use-passes (Reference Read) = refl
+use-passes (Reference Define) = refl
+use-passes (Reference Modify) = refl
+use-passes (Remap k) = refl
+use-passes Unknown = refl
+
+-- ---- cells and tests
+
+-- the entry's row
+first-row : (v a : ℕ) → a < 8 → ltb (8 * v + a) 8 ≡ eqb v entry
+first-row zero a h = lt-ltb (8 * 0 + a) 8 (omega arith)
+first-row (suc v) a h = le-ltb (8 * suc v + a) 8 (omega arith) ∙ sym (eqb·suc-zero v)
+
+-- a test within a test
+cond-and : (b c : Bool) (x : ℕ) → cond b (cond c x 0) 0 ≡ cond (b && c) x 0
+cond-and true c x = refl
+cond-and false c x = refl
+
+cond-swap : (b c : Bool) (x : ℕ) → cond b (cond c x 0) 0 ≡ cond (c && b) x 0
+cond-swap true true x = refl
+cond-swap true false x = refl
+cond-swap false true x = refl
+cond-swap false false x = refl
+
+-- a set of one version is not empty
+single-none : (b : Bool) (k : ℕ) → eqb (cond b (2 ^ k) 0) 0 ≡ not b
+single-none true k = ne-eqb (2 ^ k) 0 (λ e. omega (arith, pow-pos k))
+single-none false k = refl
+
+or-none : (b : Bool) → (b || false) ≡ b
+or-none true = refl
+or-none false = refl
+
+module _ {file : List ℕ} (well : WellFormed file) where
+  -- ---- reached vertices
+
+  pub reached-gives : {s : List ℕ} {n : ℕ} → n ≡ 8 * vertices file → s ≡ table (λ i. cond (ltb i 8) 1 0) n → Cells file (λ a v. cond (eqb v entry) 1 0) s
+  reached-gives size e =
+      cells-table well (λ i. cond (ltb i 8) 1 0) size e (λ a v in-a in-v. ap (λ (b : Bool). cond b 1 0) (first-row v a (in-eight well in-a)))
+
+  pub reached-passes : {s : List ℕ} {n : ℕ} → n ≡ 8 * vertices file → s ≡ table (λ i. 1) n → Cells file (λ a v. 1) s
+  reached-passes size e = cells-table well (λ i. 1) size e (λ a v in-a in-v. refl)
+
+  pub reached-sets : {gives passes sets : List ℕ} → Cells file (λ a v. cond (eqb v entry) 1 0) gives → Cells file (λ a v. 1) passes
+      → Pass file false gives passes sets → Reached file sets
+  unfolding reachedSets
+  reached-sets g p h = cells-solved well (λ a v. cond (eqb v entry) 1 0) (λ a v. 1) g p h
+
+  reached-at : {reached : List ℕ} → Reached file reached → (a v : ℕ) → a < arrays file → v < vertices file → reachedCell (8 * v + a) (getD reached (8 * v + a) 0) ≡ isReached file v
+  unfolding isReached
+  reached-at h a v in-a in-v = ap₂ _||_ (first-row v a (in-eight well in-a)) (ap (λ (m : ℕ). has m 0) (h .cells a v in-a in-v))
+
+  -- ---- arriving versions
+
+  module _ {versions : List ℕ} (vs : Versions file versions) where
+    pub arrive-gives : {reached s : List ℕ} → Reached file reached
+        → s ≡ table (λ i. cond (reachedCell i (getD reached i 0)) (getD versions i 0) 0) (length versions) → Cells file (arriveGives file) s
+    unfolding arriveGives version
+    arrive-gives {reached} h e =
+        cells-table well (λ i. cond (reachedCell i (getD reached i 0)) (getD versions i 0) 0) (vs .size) e
+        (λ a v in-a in-v.
+        ap₂ (λ (b : Bool) (x : ℕ). cond b x 0) (reached-at h a v in-a in-v) (vs .cells a v in-a in-v)
+        ∙ cond-and (isReached file v) (isLabel file a v) (2 ^ versionOf (event file a v)))
+
+    pub arrive-passes : {s : List ℕ} → s ≡ table (λ i. cond (eqb (getD versions i 0) 0) everyVersion 0) (length versions) → Cells file (arrivePasses file) s
+    unfolding arrivePasses
+    arrive-passes e =
+        cells-table well (λ i. cond (eqb (getD versions i 0) 0) everyVersion 0) (vs .size) e
+        (λ a v in-a in-v.
+        ap (λ (x : ℕ). cond (eqb x 0) everyVersion 0) (vs .cells a v in-a in-v)
+        ∙ ap (λ (b : Bool). cond b everyVersion 0) (single-none (isLabel file a v) (versionOf (event file a v))) ∙ sym (all-but (isLabel file a v)))
+
+  pub arriving-sets : {gives passes sets : List ℕ} → Cells file (arriveGives file) gives → Cells file (arrivePasses file) passes
+      → Pass file false gives passes sets → Cells file (λ a v. getD (arrivingSets file a) v 0) sets
+  unfolding arrivingSets
+  arriving-sets g p h = cells-solved well (arriveGives file) (arrivePasses file) g p h
+
+  -- ---- letters
+
+  pub letter-passes : {uses s : List ℕ} → UseGives file uses → s ≡ table (λ i. passesBy (getD uses i 0)) (length uses) → Cells file (λ a v. usePasses (event file a v)) s
+  letter-passes {uses} h e =
+      cells-table well (λ i. passesBy (getD uses i 0)) (h .size) e (λ a v in-a in-v. ap passesBy (h .cells a v in-a in-v) ∙ use-passes (event file a v))
+
+  letter-sets : {gives passes sets : List ℕ} → UseGives file gives → Cells file (λ a v. usePasses (event file a v)) passes
+      → Pass file true gives passes sets → Cells file (λ a v. getD (useSets file a) v 0) sets
+  unfolding useSets
+  letter-sets g p h = cells-solved well (λ a v. useGives (event file a v)) (λ a v. usePasses (event file a v)) g p h
+
+  -- away from the exit, and at it
+  letter-elsewhere : (a v : ℕ) → (v ≡ exit file → ⊥) → letterByte (letterOf (getD (useSets file a) v 0)) ≡ letterByte (useOf file a v)
+  unfolding useOf
+  letter-elsewhere a v h = ap (λ (b : Bool). letterByte (cond b (exitUse (kind file a)) (letterOf (getD (useSets file a) v 0)))) (sym (ne-eqb v (exit file) h))
+
+  letter-exit : (a : ℕ) → letterByte (exitUse (kind file a)) ≡ letterByte (useOf file a (exit file))
+  unfolding useOf
+  letter-exit a = ap (λ (b : Bool). letterByte (cond b (exitUse (kind file a)) (letterOf (getD (useSets file a) (exit file) 0)))) (sym (eq-eqb (exit file) (exit file) refl))
+
+  pub letters-are : {gives passes sets mid s : List ℕ} → UseGives file gives → Cells file (λ a v. usePasses (event file a v)) passes → Pass file true gives passes sets
+      → mid ≡ table (λ i. letterByte (letterOf (getD sets i 0))) (length sets)
+      → s ≡ withRow mid (exit file) (λ a. letterByte (exitUse (kind file a))) (arrays file) → Letters file s
+  letters-are {gives} {passes} {sets} {mid} {s} g p h e f =
+      let found = letter-sets g p h in
+      let first : Cells file (λ a v. letterByte (letterOf (getD (useSets file a) v 0))) mid =
+      cells-table well (λ i. letterByte (letterOf (getD sets i 0))) (found .size) e (λ a v in-a in-v. ap (λ (m : ℕ). letterByte (letterOf m)) (found .cells a v in-a in-v)) in
+      subst (Letters file) (sym f)
+      (cells-row well (λ a. letterByte (exitUse (kind file a))) (exit file) (omega (arith, well .laid .limits .two-vertices)) first
+      (λ a in-a. letter-exit a) (λ a v in-a away. letter-elsewhere a v away))
+
+  -- ---- kept labels
+
+  module _ {versions letters : List ℕ} (vs : Versions file versions) (ls : Letters file letters) where
+    abbrev leaving : ℕ → ℕ
+    leaving i = cond (not (isN (useOfByte (getD letters i 0)))) (getD versions i 0) 0
+
+    use-at : (a v : ℕ) → a < arrays file → v < vertices file → useOfByte (getD letters (8 * v + a) 0) ≡ useOf file a v
+    use-at a v in-a in-v = ap useOfByte (ls .cells a v in-a in-v) ∙ letter-use (useOf file a v)
+
+    leaving-at : (a v : ℕ) → a < arrays file → v < vertices file → leaving (8 * v + a) ≡ cond (isKept file a v) (2 ^ version file a v) 0
+    unfolding isKept version
+    leaving-at a v in-a in-v =
+        ap₂ (λ (u : Use) (x : ℕ). cond (not (isN u)) x 0) (use-at a v in-a in-v) (vs .cells a v in-a in-v)
+        ∙ cond-swap (not (isN (useOf file a v))) (isLabel file a v) (2 ^ versionOf (event file a v))
+
+    leaving-none : (a v : ℕ) → a < arrays file → v < vertices file → cond (eqb (leaving (8 * v + a)) 0) everyVersion 0 ≡ cond (isKept file a v) 0 everyVersion
+    leaving-none a v in-a in-v =
+        ap (λ (x : ℕ). cond (eqb x 0) everyVersion 0) (leaving-at a v in-a in-v)
+        ∙ ap (λ (b : Bool). cond b everyVersion 0) (single-none (isKept file a v) (version file a v)) ∙ sym (all-but (isKept file a v))
+
+    -- ---- reaching sets
+
+    -- away from the entry, and at it
+    reach-elsewhere : (a v : ℕ) → (v ≡ entry → ⊥) → cond (isReached file v && isKept file a v) (2 ^ version file a v) 0 ≡ reachGives file a v
+    unfolding reachGives
+    reach-elsewhere a v h =
+        ap (λ (b : Bool). cond (isReached file v && b) (2 ^ version file a v) 0)
+        (sym (or-none (isKept file a v)) ∙ ap (λ (b : Bool). isKept file a v || (b && isInOrInout (kind file a))) (sym (ne-eqb v entry h)))
+
+    reach-entry : (a : ℕ) → a < arrays file
+        → cond (not (isN (useOfByte (getD letters a 0))) || isInOrInout (kind file a)) (2 ^ initial file a) 0 ≡ reachGives file a entry
+    unfolding reachGives isReached isKept version event
+    reach-entry a in-a =
+        let place : a ≡ 8 * entry + a = omega arith in
+        ap (λ (i : ℕ). cond (not (isN (useOfByte (getD letters i 0))) || isInOrInout (kind file a)) (2 ^ initial file a) 0) place
+        ∙ ap (λ (u : Use). cond (not (isN u) || isInOrInout (kind file a)) (2 ^ initial file a) 0) (use-at a entry in-a (omega (arith, well .laid .limits .two-vertices)))
+
+    pub reach-gives : {reached mid s : List ℕ} → Reached file reached → mid ≡ table (λ i. cond (reachedCell i (getD reached i 0)) (leaving i) 0) (length versions)
+        → s ≡ withRow mid entry (λ a. cond (not (isN (useOfByte (getD letters a 0))) || isInOrInout (kind file a)) (2 ^ initial file a) 0) (arrays file)
+        → Cells file (reachGives file) s
+    reach-gives {reached} {mid} {s} h e f =
+        let first : Cells file (λ a v. cond (isReached file v && isKept file a v) (2 ^ version file a v) 0) mid =
+        cells-table well (λ i. cond (reachedCell i (getD reached i 0)) (leaving i) 0) (vs .size) e
+        (λ a v in-a in-v.
+        ap₂ (λ (b : Bool) (x : ℕ). cond b x 0) (reached-at h a v in-a in-v) (leaving-at a v in-a in-v)
+        ∙ cond-and (isReached file v) (isKept file a v) (2 ^ version file a v)) in
+        subst (Cells file (reachGives file)) (sym f)
+        (cells-row well (λ a. cond (not (isN (useOfByte (getD letters a 0))) || isInOrInout (kind file a)) (2 ^ initial file a) 0) entry
+        (omega (arith, well .laid .limits .two-vertices)) first (λ a in-a. reach-entry a in-a) (λ a v in-a away. reach-elsewhere a v away))
+
+    pub reach-passes : {s : List ℕ} → s ≡ table (λ i. cond (eqb (leaving i) 0) everyVersion 0) (length versions) → Cells file (reachPasses file) s
+    unfolding reachPasses
+    reach-passes e = cells-table well (λ i. cond (eqb (leaving i) 0) everyVersion 0) (vs .size) e (λ a v in-a in-v. leaving-none a v in-a in-v)
+
+    -- ---- kept sets
+
+    pub kept-gives : {s : List ℕ} → s ≡ table leaving (length versions) → Cells file (leavingSet file) s
+    unfolding leavingSet
+    kept-gives e = cells-table well leaving (vs .size) e (λ a v in-a in-v. leaving-at a v in-a in-v)
+
+    pub kept-passes : {s : List ℕ} → s ≡ table (λ i. cond (eqb (getD versions i 0) 0 || isNOrR (useOfByte (getD letters i 0))) everyVersion 0) (length versions)
+        → Cells file (λ a v. cond (passesKept file a v) everyVersion 0) s
+    unfolding passesKept
+    kept-passes e =
+        cells-table well (λ i. cond (eqb (getD versions i 0) 0 || isNOrR (useOfByte (getD letters i 0))) everyVersion 0) (vs .size) e
+        (λ a v in-a in-v. ap₂ (λ (b : Bool) (u : Use). cond (b || isNOrR u) everyVersion 0)
+        (ap (λ (x : ℕ). eqb x 0) (vs .cells a v in-a in-v) ∙ single-none (isLabel file a v) (versionOf (event file a v))) (use-at a v in-a in-v))
+
+    pub kept-sets : {gives passes sets s : List ℕ} → Cells file (leavingSet file) gives → Cells file (λ a v. cond (passesKept file a v) everyVersion 0) passes
+        → Pass file true gives passes sets
+        → s ≡ table (λ i. bitOr (getD gives i 0) (cond (isNOrR (useOfByte (getD letters i 0))) (getD sets i 0) 0)) (length sets) → Cells file (keptOf file) s
+    unfolding keptSets keptOf
+    kept-sets {gives} {passes} {sets} g p h e =
+        let found = cells-solved well (leavingSet file) (λ a v. cond (passesKept file a v) everyVersion 0) g p h in
+        cells-table well (λ i. bitOr (getD gives i 0) (cond (isNOrR (useOfByte (getD letters i 0))) (getD sets i 0) 0)) (h .size) e
+        (λ a v in-a in-v. ap₂ bitOr (g .cells a v in-a in-v) (ap₂ (λ (u : Use) (x : ℕ). cond (isNOrR u) x 0) (use-at a v in-a in-v) (found .cells a v in-a in-v)))
+
+  -- away from the entry the reaching set is the solver's
+  reaching-elsewhere : (a v : ℕ) → (v ≡ entry → ⊥) → getD (reachSets file a) v 0 ≡ reachingOf file a v
+  unfolding reachingOf
+  reaching-elsewhere a v h = ap (λ (b : Bool). cond b (cond (isInOrInout (kind file a)) (2 ^ initial file a) 0) (getD (reachSets file a) v 0)) (sym (ne-eqb v entry h))
+
+  pub reaching-sets : {gives passes sets s : List ℕ} → Cells file (reachGives file) gives → Cells file (reachPasses file) passes → Pass file false gives passes sets
+      → s ≡ withRow sets entry (λ a. reachingOf file a entry) (arrays file) → Cells file (reachingOf file) s
+  unfolding reachSets
+  reaching-sets {gives} {passes} {sets} g p h e =
+      subst (Cells file (reachingOf file)) (sym e)
+      (cells-row well (λ a. reachingOf file a entry) entry (omega (arith, well .laid .limits .two-vertices)) (cells-solved well (reachGives file) (reachPasses file) g p h)
+      (λ a in-a. refl) (λ a v in-a away. reaching-elsewhere a v away))

@@ -1,0 +1,108 @@
+-- `kept::fill` meets its contract: two tables are filled.
+-- Assumes nothing.
+use mathlib.Core.Path.{ap, _∙_}
+use mathlib.Core.Bool.{Bool, cond, not, _||_}
+use Prim.Native.Nat.{_-_}
+use lib.Dec.{eqb}
+use lib.ListN.{getD}
+use Rattle.labels.specs.Events.{everyVersion}
+use Rattle.labels.specs.Kept.{isNOrR}
+use Rattle.labels.specs.Letters.{useOfByte}
+use Rattle.labels.specs.Uses.{isN}
+use Rattle.words.proofs.Fills.{Filling, begin, onward, finish}
+use native.Mathlib.Omega.{arith}
+use borrow.Author.Needs.{needs}
+use Rattle.passes.proofs.kept.fill.Statement.{statement}
+use Rattle.passes.proofs.kept.fill.Tie as tie
+
+abbrev Inv-loop : tie.InvT-loop
+Inv-loop versions letters gives₀ passes₀ n i₀ gives passes i =
+    Filling (λ i. cond (not (isN (useOfByte (getD letters i 0)))) (getD versions i 0) 0) n gives₀ gives i
+    × Filling (λ i. cond (eqb (getD versions i 0) 0 || isNOrR (useOfByte (getD letters i 0))) everyVersion 0) n passes₀ passes i
+
+abbrev μ-loop : tie.MeasureT-loop
+μ-loop versions letters gives₀ passes₀ n i₀ gives passes i = n - i
+
+loop-holds : tie.Need-loop-holds Inv-loop μ-loop
+loop-holds c = (begin _ (c .before .before .before .before .pre .1 .0), begin _ (c .before .before .before .before .pre .1 .1))
+
+mul-version : tie.Need-mul-version Inv-loop μ-loop
+mul-version c = omega arith
+
+shared-slice-read-version : tie.Need-shared-slice-read-version Inv-loop μ-loop
+shared-slice-read-version c = omega arith
+
+shared-slice-read-letter : tie.Need-shared-slice-read-letter Inv-loop μ-loop
+shared-slice-read-letter c = omega arith
+
+leaves-requires : tie.Need-leaves-requires Inv-loop μ-loop
+leaves-requires c κs = search needs
+
+set-if-requires : tie.Need-set-if-requires Inv-loop μ-loop
+set-if-requires c κs = search needs
+
+mul-gives : tie.Need-mul-gives Inv-loop μ-loop
+mul-gives c = omega arith
+
+slice-write-gives : tie.Need-slice-write-gives Inv-loop μ-loop
+slice-write-gives c = omega arith
+
+goes-on-requires : tie.Need-goes-on-requires Inv-loop μ-loop
+goes-on-requires c κs = search needs
+
+every-if-requires : tie.Need-every-if-requires Inv-loop μ-loop
+every-if-requires c κs = search needs
+
+mul-passes : tie.Need-mul-passes Inv-loop μ-loop
+mul-passes c = omega arith
+
+slice-write-passes : tie.Need-slice-write-passes Inv-loop μ-loop
+slice-write-passes c = omega arith
+
+add-i : tie.Need-add-i Inv-loop μ-loop
+add-i c = omega arith
+
+loop-less : tie.Need-loop-less Inv-loop μ-loop
+loop-less c = omega arith
+
+loop-again : tie.Need-loop-again Inv-loop μ-loop
+loop-again c =
+    let l = c .before .before .before .before .before .before .before in
+    let version = getD (l .before .before .before .before .before .args .versions .now) (l .loop .i) 0 in (
+      onward (l .loop .inv .0) (c .before .before .before .before .before .before .loop-test .taken) (c .before .before .set-if .ensures ∙ ap (λ (b : Bool). cond b version 0) (c .before .before .before .leaves .ensures)),
+      onward (l .loop .inv .1) (c .before .before .before .before .before .before .loop-test .taken) (c .every-if .ensures ∙ ap (λ (b : Bool). cond (eqb version 0 || b) everyVersion 0) (c .before .goes-on .ensures)),
+    )
+
+same-length : tie.Need-same-length Inv-loop μ-loop
+same-length c = omega arith
+
+same-length-2 : tie.Need-same-length-2 Inv-loop μ-loop
+same-length-2 c = omega arith
+
+returns : tie.Need-returns Inv-loop μ-loop
+returns c = (finish (c .before .loop .inv .0) (c .loop-test .left), finish (c .before .loop .inv .1) (c .loop-test .left))
+
+pub fill-spec : {M : Type 1} → statement M
+fill-spec =
+    tie.close
+    (tie.spec
+    Inv-loop
+    μ-loop
+    loop-holds
+    mul-version
+    shared-slice-read-version
+    shared-slice-read-letter
+    leaves-requires
+    set-if-requires
+    mul-gives
+    slice-write-gives
+    goes-on-requires
+    every-if-requires
+    mul-passes
+    slice-write-passes
+    add-i
+    loop-less
+    loop-again
+    same-length
+    same-length-2
+    returns)

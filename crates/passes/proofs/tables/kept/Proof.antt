@@ -1,0 +1,60 @@
+-- `tables::kept` meets its contract: both tables are filled and solved, and the leaving sets are joined.
+-- Assumes nothing.
+use mathlib.Core.Path.{sym, _∙_}
+use borrow.Author.Needs.{needs}
+use Rattle.passes.proofs.Steps.{kept-gives, kept-passes, kept-sets}
+use Rattle.passes.proofs.tables.kept.Statement.{statement}
+use Rattle.passes.proofs.tables.kept.Tie as tie
+
+fill-requires : tie.Need-fill-requires
+fill-requires c κs =
+    let q = c .before .before .before .before .before .before .before .before .before .pre .1 .1 in
+    let all = sym (q .0 .size) in
+    (q .1 .0 .size ∙ all, (q .1 .1 .1 .0 ∙ all, q .1 .1 .1 .1 ∙ all))
+
+solve-requires : tie.Need-solve-requires
+solve-requires c κs =
+    let f = c .before .before .before .before .before .before .before in
+    let p = f .before .before .before .before .before .before .before .before .before .before .pre in
+    let q = p .1 .1 in
+    let well = p .0 .well in
+    (p .0, (p .1 .0, (kept-gives well (q .0) (q .1 .0) (f .fill .ensures .0) .size, (kept-passes well (q .0) (q .1 .0) (f .fill .ensures .1) .size, q .1 .1 .0))))
+
+join-requires : tie.Need-join-requires
+join-requires c κs =
+    let v = c .before .before .before .before in
+    let f = v .before .before .before .before .before .before .before .before in
+    let p = f .before .before .before .before .before .before .before .before .before .before .pre in
+    let q = p .1 .1 in
+    let all = sym (v .solve .ensures .size) in
+    (q .1 .0 .size ∙ all, kept-gives (p .0 .well) (q .0) (q .1 .0) (f .fill .ensures .0) .size ∙ all)
+
+same-length : tie.Need-same-length
+same-length c = search needs
+
+same-length-2 : tie.Need-same-length-2
+same-length-2 c = search needs
+
+same-length-3 : tie.Need-same-length-3
+same-length-3 c = search needs
+
+returns : tie.Need-returns
+returns c =
+    let v = c .before .before .before .before .before .before .before in
+    let f = v .before .before .before .before .before .before .before .before in
+    let p = f .before .before .before .before .before .before .before .before .before .before .pre in
+    let q = p .1 .1 in
+    let well = p .0 .well in
+    kept-sets well (q .0) (q .1 .0) (kept-gives well (q .0) (q .1 .0) (f .fill .ensures .0)) (kept-passes well (q .0) (q .1 .0) (f .fill .ensures .1)) (v .solve .ensures) (c .before .before .join .ensures)
+
+pub kept-spec : {M : Type 1} → statement M
+kept-spec =
+    tie.close
+    (tie.spec
+    fill-requires
+    solve-requires
+    join-requires
+    same-length
+    same-length-2
+    same-length-3
+    returns)

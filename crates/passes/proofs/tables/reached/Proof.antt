@@ -1,0 +1,38 @@
+-- `tables::reached` meets its contract: both tables are filled and solved.
+-- Assumes nothing.
+use mathlib.Core.Path.{sym, _∙_}
+use borrow.Author.Needs.{needs}
+use Rattle.passes.proofs.Steps.{reached-gives, reached-passes, reached-sets}
+use Rattle.passes.proofs.tables.reached.Statement.{statement}
+use Rattle.passes.proofs.tables.reached.Tie as tie
+
+fill-reached-requires : tie.Need-fill-reached-requires
+fill-reached-requires c κs = let p = c .before .before .before .before .before .before .before .pre .1 .1 .1 in p .1 ∙ sym (p .0)
+
+solve-requires : tie.Need-solve-requires
+solve-requires c κs =
+    let f = c .before .before .before .before .before .before .before in
+    let p = f .before .before .before .before .before .before .before .before .pre in
+    let well = p .0 .well in
+    (p .0, (p .1 .0, (reached-gives well (p .1 .1 .1 .0) (f .fill-reached .ensures .0) .size, (reached-passes well (p .1 .1 .1 .0) (f .fill-reached .ensures .1) .size, p .1 .1 .0))))
+
+same-length : tie.Need-same-length
+same-length c = search needs
+
+same-length-2 : tie.Need-same-length-2
+same-length-2 c = search needs
+
+same-length-3 : tie.Need-same-length-3
+same-length-3 c = search needs
+
+returns : tie.Need-returns
+returns c =
+    let f = c .before .before .before .before .before .before .before .before .before .before in
+    let p = f .before .before .before .before .before .before .before .before .pre in
+    let well = p .0 .well in
+    reached-sets well (reached-gives well (p .1 .1 .1 .0) (f .fill-reached .ensures .0)) (reached-passes well (p .1 .1 .1 .0) (f .fill-reached .ensures .1)) (c .before .before .solve .ensures)
+
+pub reached-spec : {M : Type 1} → statement M
+reached-spec =
+    tie.close
+    (tie.spec fill-reached-requires solve-requires same-length same-length-2 same-length-3 returns)

@@ -1,0 +1,14 @@
+-- `exit_use` meets its contract.
+-- Assumes nothing.
+use borrow.Author.Tests.{eq-eqb, ne-eqb}
+use Rattle.passes.proofs.uses.exit_use.Statement.{statement}
+use Rattle.passes.proofs.uses.exit_use.Tie as tie
+
+returns : tie.Need-returns
+returns c = rw (eq-eqb _ _ (c .if1 .taken))
+
+returns-2 : tie.Need-returns-2
+returns-2 c = rw (ne-eqb _ _ (c .if1 .left))
+
+pub exit-use-spec : {M : Type 1} → statement M
+exit-use-spec = tie.close (tie.spec returns returns-2)

@@ -1,0 +1,21 @@
+-- `passes_by` meets its contract.
+-- Assumes nothing.
+use mathlib.Core.Bool.{cond}
+use lib.Dec.{eqb}
+use borrow.Author.Tests.{eq-eqb, ne-eqb}
+use native.Mathlib.Omega.{arith}
+use borrow.Author.Needs.{needs}
+use Rattle.passes.proofs.uses.passes_by.Statement.{statement}
+use Rattle.passes.proofs.uses.passes_by.Tie as tie
+
+returns : tie.Need-returns
+returns c = rw (c .if1 .taken)
+
+returns-2 : tie.Need-returns-2
+returns-2 c = rw (ne-eqb _ _ (c .before .if1 .left), c .if2 .taken)
+
+returns-3 : tie.Need-returns-3
+returns-3 c = rw (ne-eqb _ _ (c .before .if1 .left), ne-eqb _ _ (c .if2 .left))
+
+pub passes-by-spec : {M : Type 1} → statement M
+passes-by-spec = tie.close (tie.spec returns returns-2 returns-3)

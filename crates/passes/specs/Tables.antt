@@ -1,0 +1,76 @@
+-- Tables of the label rules: the cell of vertex v and array a stands at 8 v + a.
+-- Assumes nothing.
+use mathlib.Core.Path.{_≡_}
+use mathlib.Core.Bool.{Bool, false, _||_, cond}
+use mathlib.Core.List.{List}
+use Prim.Native.Nat.{ℕ, zero, suc, _+_, _*_, _/_, _%_, _<_}
+use lib.Dec.{ltb}
+use lib.ListN.{length, getD}
+use Rattle.flow.specs.Solver.{column, solution}
+use Rattle.routine.specs.Layout.{arrays, vertices}
+use Rattle.routine.specs.declared.action.Action.{Action}
+use Rattle.routine.specs.declared.action.Action.the-variants.{Nothing}
+use Rattle.routine.specs.declared.refusal.Verdict.{Verdict}
+use Rattle.routine.specs.declared.refusal.Verdict.the-variants.{Passed}
+use Rattle.sets.specs.Sets.{has}
+use Rattle.labels.specs.Checks.{programmerCheck}
+use Rattle.labels.specs.Events.{edgeBytes, kind, isIn, event, versionSet}
+use Rattle.labels.specs.Letters.{letterByte}
+use Rattle.labels.specs.Reaching.{reachedSets}
+use Rattle.labels.specs.Uses.{useGives, useOf}
+
+-- a number for each array and vertex
+pub record Cells (file : List ℕ) (f : ℕ → ℕ → ℕ) (s : List ℕ) : Type 0 where
+  pub size : length s ≡ 8 * vertices file
+  pub cells : (a v : ℕ) → a < arrays file → v < vertices file → getD s (8 * v + a) 0 ≡ f a v
+
+-- what cell i stands for; nothing where there is no such array
+unfoldable pub cellEvent : List ℕ → ℕ → Action
+unfolding event
+cellEvent file i = cond (ltb (i % 8) (arrays file)) (event file (i % 8) (i / 8)) Nothing
+
+-- whether cell i is the entry's, or its set says that a path from the entry reaches it
+abbrev pub reachedCell : ℕ → ℕ → Bool
+reachedCell i set = ltb i 8 || has set 0
+
+-- ---- the tables
+
+-- a label's version as a set
+abbrev pub Versions : List ℕ → List ℕ → Type 0
+Versions file s = Cells file (λ a v. versionSet (event file a v)) s
+
+-- what events give to the sets of use
+abbrev pub UseGives : List ℕ → List ℕ → Type 0
+UseGives file s = Cells file (λ a v. useGives (event file a v)) s
+
+-- which vertices a path from the entry reaches
+abbrev pub Reached : List ℕ → List ℕ → Type 0
+Reached file s = Cells file (λ a v. getD (reachedSets file) v 0) s
+
+-- the letters
+abbrev pub Letters : List ℕ → List ℕ → Type 0
+Letters file s = Cells file (λ a v. letterByte (useOf file a v)) s
+
+-- ---- a pass: each column is solved by itself
+pub record Pass (file : List ℕ) (along : Bool) (gives passes sets : List ℕ) : Type 0 where
+  pub size : length sets ≡ 8 * vertices file
+  pub solved : (a : ℕ) → a < 8 → column sets (vertices file) a
+      ≡ solution (edgeBytes file) along (column gives (vertices file) a) (column passes (vertices file) a) (vertices file)
+
+-- ---- 20 and 21
+
+-- whether a test passes below n
+unfoldable pub anyBelow : (ℕ → Bool) → ℕ → Bool
+anyBelow test zero = false
+anyBelow test (suc n) = anyBelow test n || test n
+
+-- a mask for each array: of an in argument bit 3, which its writes give
+pub record InMasks (file masks : List ℕ) : Type 0 where
+  pub size : length masks ≡ 8
+  pub are : (a : ℕ) → a < arrays file → getD masks a 0 ≡ cond (isIn (kind file a)) 0b1000 0
+
+-- the answer, and where it passes the table of reached vertices
+pub record Checked (file : List ℕ) (answer : Verdict) (reached : List ℕ) : Type 0 where
+  pub answers : answer ≡ programmerCheck file
+  pub size : length reached ≡ 8 * vertices file
+  pub reaches : answer ≡ Passed → Reached file reached

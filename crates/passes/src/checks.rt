@@ -1,0 +1,242 @@
+// Refusals 20 and 21, first by vertex, then by array (document 01, "Who can cause a refusal").
+use crate::tables;
+use labels::event;
+use routine::array;
+use routine::header::Header;
+use routine::refusal::Refusal;
+use routine::refusal::Verdict;
+ghost use mathlib.Core.Path.{_≡_};
+ghost use mathlib.Core.Bool.{not, _&&_};
+ghost use Prim.Native.Nat.{_+_, _*_, _≤_, _<_};
+ghost use lib.Bits.{bitAnd};
+ghost use lib.Dec.{eqb};
+ghost use lib.ListN.{length, getD};
+ghost use Rattle.labels.specs.Ambiguity.{arrivingSets, isAmbiguous};
+ghost use Rattle.labels.specs.Checks.{writesIn, check20, check21};
+ghost use Rattle.labels.specs.Routines.{ReadAs, Edges};
+ghost use Rattle.passes.specs.Tables.{Cells, Versions, UseGives, anyBelow, InMasks, Checked};
+ghost use Rattle.routine.specs.Checks.{holds, firstFailed};
+ghost use Rattle.routine.specs.Layout.{arrays, vertices};
+ghost use Rattle.routine.specs.declared.refusal.Refusal.the-variants.{WritesInArgument, AmbiguousReference};
+ghost use Rattle.sets.specs.Sets.{has, several};
+
+// The masks by which a row is tested for 20.
+fn in_masks(file: &[u8], h: Header) -> [u16; flow::COLUMNS]
+    requires { ⌜ ReadAs (now file) h ⌝ }
+    ensures { λ r. ⌜ InMasks (now (file .entry)) r ⌝ }
+{
+    let mut masks = [0u16; flow::COLUMNS];
+    let m = h.arrays;
+    let mut a = 0;
+    while a < m {
+        masks[a] = event::set_if(array::record_of(file, a).kind == 1, 0b1000);
+        a += 1;
+    }
+    masks
+}
+
+// Whether the row of vertex v has a write of an in argument.
+fn row_writes(uses: &[u16], masks: [u16; flow::COLUMNS], v: usize) -> bool
+    requires { ⌜ 8 * v + 8 ≤ length (now uses) ⌝ }
+    requires { ⌜ length masks ≡ 8 ⌝ }
+    ensures { λ r. ⌜ r ≡ anyBelow (λ a. not (eqb (bitAnd (getD (now (uses .entry)) (8 * v + a) 0) (getD masks a 0)) 0)) 8 ⌝ }
+{
+    let mut any = false;
+    let mut a: usize = 0;
+    while a < flow::COLUMNS {
+        let at = flow::COLUMNS * v + a;
+        any = any | (uses[at] & masks[a] != 0);
+        a += 1;
+    }
+    any
+}
+
+// Whether vertex v defines or modifies array a, an in argument.
+fn writes_in(file: &[u8], h: Header, v: usize, a: usize, uses: &[u16]) -> bool
+    requires { ⌜ ReadAs (now file) h ⌝ }
+    requires { ⌜ UseGives (now file) (now uses) ⌝ }
+    requires { ⌜ v < vertices (now file) ⌝ }
+    requires { ⌜ a < arrays (now file) ⌝ }
+    ensures { λ r. ⌜ r ≡ writesIn (now (file .entry)) a v ⌝ }
+{
+    let at = flow::COLUMNS * v + a;
+    let writes = sets::member(uses[at], 3);
+    writes & (array::record_of(file, a).kind == 1)
+}
+
+fn check_writes_at(file: &[u8], h: Header, v: usize, uses: &[u16]) -> Verdict
+    requires { ⌜ ReadAs (now file) h ⌝ }
+    requires { ⌜ UseGives (now file) (now uses) ⌝ }
+    requires { ⌜ v < vertices (now file) ⌝ }
+    ensures { λ r. ⌜ r ≡ firstFailed (λ a. holds (not (writesIn (now (file .entry)) a v)) (WritesInArgument v a)) 0 (arrays (now (file .entry))) ⌝ }
+{
+    let m = h.arrays;
+    let mut a = 0;
+    while a < m {
+        let writes = writes_in(file, h, v, a, uses);
+        if writes {
+            return Verdict::Failed(Refusal::WritesInArgument {
+                vertex: v,
+                array: a,
+            });
+        }
+        a += 1;
+    }
+    Verdict::Passed
+}
+
+// Vertex v, array by array only if its row has a write of an in argument.
+fn check_writes_row(
+    file: &[u8],
+    h: Header,
+    v: usize,
+    uses: &[u16],
+    masks: [u16; flow::COLUMNS],
+) -> Verdict
+    requires { ⌜ ReadAs (now file) h ⌝ }
+    requires { ⌜ UseGives (now file) (now uses) ⌝ }
+    requires { ⌜ v < vertices (now file) ⌝ }
+    requires { ⌜ InMasks (now file) masks ⌝ }
+    ensures { λ r. ⌜ r ≡ firstFailed (λ a. holds (not (writesIn (now (file .entry)) a v)) (WritesInArgument v a)) 0 (arrays (now (file .entry))) ⌝ }
+{
+    let any = row_writes(uses, masks, v);
+    if any {
+        return check_writes_at(file, h, v, uses);
+    }
+    Verdict::Passed
+}
+
+// Refusal 20.
+fn check_writes(file: &[u8], h: Header, uses: &[u16]) -> Verdict
+    requires { ⌜ ReadAs (now file) h ⌝ }
+    requires { ⌜ UseGives (now file) (now uses) ⌝ }
+    ensures { λ r. ⌜ r ≡ check20 (now (file .entry)) ⌝ }
+{
+    let masks = in_masks(file, h);
+    let n = h.vertices;
+    let mut v = 0;
+    while v < n {
+        let verdict = check_writes_row(file, h, v, uses, masks);
+        if let Verdict::Failed(_) = verdict {
+            return verdict;
+        }
+        v += 1;
+    }
+    Verdict::Passed
+}
+
+// Whether the row of vertex v has a reference at which two versions arrive.
+fn row_ambiguous(uses: &[u16], arriving: &[u16], v: usize) -> bool
+    requires { ⌜ 8 * v + 8 ≤ length (now uses) ⌝ }
+    requires { ⌜ 8 * v + 8 ≤ length (now arriving) ⌝ }
+    ensures { λ r. ⌜ r ≡ anyBelow (λ a. has (getD (now (uses .entry)) (8 * v + a) 0) 0 && several (getD (now (arriving .entry)) (8 * v + a) 0)) 8 ⌝ }
+{
+    let mut any = false;
+    let mut a: usize = 0;
+    while a < flow::COLUMNS {
+        let at = flow::COLUMNS * v + a;
+        any = any | (sets::member(uses[at], 0) & sets::more_than_one(arriving[at]));
+        a += 1;
+    }
+    any
+}
+
+// Whether vertex v refers to array a, and two versions arrive there.
+fn is_ambiguous(file: &[u8], h: Header, v: usize, a: usize, uses: &[u16], arriving: &[u16]) -> bool
+    requires { ⌜ ReadAs (now file) h ⌝ }
+    requires { ⌜ UseGives (now file) (now uses) ⌝ }
+    requires { ⌜ v < vertices (now file) ⌝ }
+    requires { ⌜ a < arrays (now file) ⌝ }
+    requires { ⌜ Cells (now file) (λ a v. getD (arrivingSets (now file) a) v 0) (now arriving) ⌝ }
+    ensures { λ r. ⌜ r ≡ isAmbiguous (now (file .entry)) a v ⌝ }
+{
+    let at = flow::COLUMNS * v + a;
+    sets::member(uses[at], 0) & sets::more_than_one(arriving[at])
+}
+
+fn check_ambiguous_at(file: &[u8], h: Header, v: usize, uses: &[u16], arriving: &[u16]) -> Verdict
+    requires { ⌜ ReadAs (now file) h ⌝ }
+    requires { ⌜ UseGives (now file) (now uses) ⌝ }
+    requires { ⌜ v < vertices (now file) ⌝ }
+    requires { ⌜ Cells (now file) (λ a v. getD (arrivingSets (now file) a) v 0) (now arriving) ⌝ }
+    ensures { λ r. ⌜ r ≡ firstFailed (λ a. holds (not (isAmbiguous (now (file .entry)) a v)) (AmbiguousReference v a)) 0 (arrays (now (file .entry))) ⌝ }
+{
+    let m = h.arrays;
+    let mut a = 0;
+    while a < m {
+        let ambiguous = is_ambiguous(file, h, v, a, uses, arriving);
+        if ambiguous {
+            return Verdict::Failed(Refusal::AmbiguousReference {
+                vertex: v,
+                array: a,
+            });
+        }
+        a += 1;
+    }
+    Verdict::Passed
+}
+
+// Vertex v, array by array only if its row has an ambiguous reference.
+fn check_ambiguous_row(file: &[u8], h: Header, v: usize, uses: &[u16], arriving: &[u16]) -> Verdict
+    requires { ⌜ ReadAs (now file) h ⌝ }
+    requires { ⌜ UseGives (now file) (now uses) ⌝ }
+    requires { ⌜ v < vertices (now file) ⌝ }
+    requires { ⌜ Cells (now file) (λ a v. getD (arrivingSets (now file) a) v 0) (now arriving) ⌝ }
+    ensures { λ r. ⌜ r ≡ firstFailed (λ a. holds (not (isAmbiguous (now (file .entry)) a v)) (AmbiguousReference v a)) 0 (arrays (now (file .entry))) ⌝ }
+{
+    let any = row_ambiguous(uses, arriving, v);
+    if any {
+        return check_ambiguous_at(file, h, v, uses, arriving);
+    }
+    Verdict::Passed
+}
+
+// Refusal 21.
+fn check_ambiguous(file: &[u8], h: Header, uses: &[u16], arriving: &[u16]) -> Verdict
+    requires { ⌜ ReadAs (now file) h ⌝ }
+    requires { ⌜ UseGives (now file) (now uses) ⌝ }
+    requires { ⌜ Cells (now file) (λ a v. getD (arrivingSets (now file) a) v 0) (now arriving) ⌝ }
+    ensures { λ r. ⌜ r ≡ check21 (now (file .entry)) ⌝ }
+{
+    let n = h.vertices;
+    let mut v = 0;
+    while v < n {
+        let verdict = check_ambiguous_row(file, h, v, uses, arriving);
+        if let Verdict::Failed(_) = verdict {
+            return verdict;
+        }
+        v += 1;
+    }
+    Verdict::Passed
+}
+
+// Refusals 20 and 21. `reached` is left with what its pass says; `sets`, `gives` and `passes` are work slices.
+pub fn check(
+    file: &[u8],
+    h: Header,
+    order: &[u16],
+    versions: &[u16],
+    uses: &[u16],
+    reached: &mut [u16],
+    sets: &mut [u16],
+    gives: &mut [u16],
+    passes: &mut [u16],
+) -> Verdict
+    requires { ⌜ ReadAs (now file) h ⌝ }
+    requires { ⌜ Edges (now file) (now order) ⌝ }
+    requires { ⌜ Versions (now file) (now versions) ⌝ }
+    requires { ⌜ UseGives (now file) (now uses) ⌝ }
+    requires { ⌜ length (now reached) ≡ 8 * vertices (now file) ⌝ }
+    requires { ⌜ length (now sets) ≡ 8 * vertices (now file) ⌝ }
+    requires { ⌜ length (now gives) ≡ 8 * vertices (now file) ⌝ }
+    requires { ⌜ length (now passes) ≡ 8 * vertices (now file) ⌝ }
+    ensures { λ r. ⌜ Checked (now (file .entry)) r (now (reached .exit)) ⌝ }
+{
+    let writes = check_writes(file, h, uses);
+    if let Verdict::Failed(_) = writes {
+        return writes;
+    }
+    tables::reached(file, h, order, reached, gives, passes);
+    tables::arriving(file, h, order, versions, reached, sets, gives, passes);
+    check_ambiguous(file, h, uses, sets)
+}

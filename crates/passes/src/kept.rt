@@ -1,0 +1,58 @@
+// Kept sets (document 01, "Labels").
+use crate::uses;
+use labels::event;
+ghost use mathlib.Core.Path.{_≡_};
+ghost use mathlib.Core.Bool.{cond, not, _||_};
+ghost use lib.Bits.{bitOr};
+ghost use lib.Dec.{eqb};
+ghost use lib.ListN.{length, getD};
+ghost use Rattle.labels.specs.Events.{everyVersion};
+ghost use Rattle.labels.specs.Kept.{isNOrR};
+ghost use Rattle.labels.specs.Letters.{useOfByte};
+ghost use Rattle.labels.specs.Uses.{isN};
+ghost use Rattle.words.specs.Tables.{table};
+
+// N or R: the kept set goes on to the next label.
+fn goes_on(letter: u8) -> bool
+    ensures { λ r. ⌜ r ≡ isNOrR (useOfByte letter) ⌝ }
+{
+    (letter == b'N') | (letter == b'R')
+}
+
+// The tables of the pass: a kept label gives its version; no label, or one that is N or R, passes every version.
+pub fn fill(versions: &[u16], letters: &[u8], gives: &mut [u16], passes: &mut [u16])
+    requires { ⌜ length (now letters) ≡ length (now versions) ⌝ }
+    requires { ⌜ length (now gives) ≡ length (now versions) ⌝ }
+    requires { ⌜ length (now passes) ≡ length (now versions) ⌝ }
+    ensures { λ _. ⌜ now (gives .exit)
+        ≡ table (λ i. cond (not (isN (useOfByte (getD (now (letters .entry)) i 0)))) (getD (now (versions .entry)) i 0) 0) (length (now (versions .entry))) ⌝ }
+    ensures { λ _. ⌜ now (passes .exit)
+        ≡ table (λ i. cond (eqb (getD (now (versions .entry)) i 0) 0 || isNOrR (useOfByte (getD (now (letters .entry)) i 0))) everyVersion 0)
+        (length (now (versions .entry))) ⌝ }
+{
+    let n = versions.len();
+    let mut i = 0;
+    while i < n {
+        let version = versions[i];
+        let letter = letters[i];
+        gives[i] = event::set_if(uses::leaves(letter), version);
+        passes[i] = event::every_if((version == 0) | goes_on(letter));
+        i += 1;
+    }
+}
+
+// Joins the leaving sets.
+pub fn join(letters: &[u8], leaving: &[u16], sets: &mut [u16])
+    requires { ⌜ length (now letters) ≡ length (now sets) ⌝ }
+    requires { ⌜ length (now leaving) ≡ length (now sets) ⌝ }
+    ensures { λ _. ⌜ now (sets .exit)
+        ≡ table (λ i. bitOr (getD (now (leaving .entry)) i 0) (cond (isNOrR (useOfByte (getD (now (letters .entry)) i 0))) (getD (now (sets .entry)) i 0) 0))
+        (length (now (sets .entry))) ⌝ }
+{
+    let n = sets.len();
+    let mut i = 0;
+    while i < n {
+        sets[i] = leaving[i] | event::set_if(goes_on(letters[i]), sets[i]);
+        i += 1;
+    }
+}

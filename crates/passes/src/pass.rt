@@ -1,0 +1,39 @@
+// One pass of the solver over the edges of a routine, for all arrays.
+use routine::header::Header;
+ghost use mathlib.Core.Path.{_≡_};
+ghost use Prim.Native.Nat.{_*_};
+ghost use lib.ListN.{length};
+ghost use Rattle.labels.specs.Routines.{ReadAs, Edges};
+ghost use Rattle.passes.specs.Tables.{Pass};
+ghost use Rattle.routine.specs.Layout.{vertices, edges};
+
+// The order in which the passes take the edges.
+pub fn order(file: &[u8], h: Header, order: &mut [u16])
+    requires { ⌜ ReadAs (now file) h ⌝ }
+    requires { ⌜ length (now order) ≡ edges (now file) ⌝ }
+    ensures { λ _. ⌜ Edges (now (file .entry)) (now (order .exit)) ⌝ }
+{
+    let at = h.edges_at();
+    order::fill(&file[at..], order);
+}
+
+// Fills in the sets by what each vertex gives and passes, along the edges or against them.
+pub fn solve(
+    file: &[u8],
+    h: Header,
+    order: &[u16],
+    along: bool,
+    gives: &[u16],
+    passes: &[u16],
+    sets: &mut [u16],
+)
+    requires { ⌜ ReadAs (now file) h ⌝ }
+    requires { ⌜ Edges (now file) (now order) ⌝ }
+    requires { ⌜ length (now gives) ≡ 8 * vertices (now file) ⌝ }
+    requires { ⌜ length (now passes) ≡ 8 * vertices (now file) ⌝ }
+    requires { ⌜ length (now sets) ≡ 8 * vertices (now file) ⌝ }
+    ensures { λ _. ⌜ Pass (now (file .entry)) along (now (gives .entry)) (now (passes .entry)) (now (sets .exit)) ⌝ }
+{
+    let at = h.edges_at();
+    flow::solve(&file[at..], order, along, gives, passes, sets);
+}

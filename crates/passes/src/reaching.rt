@@ -1,0 +1,113 @@
+// Reaching sets (document 01, "Labels"), and which vertices a path from the entry reaches.
+use crate::uses;
+use labels::event;
+use routine::array;
+use routine::header::Header;
+ghost use mathlib.Core.Path.{_≡_};
+ghost use mathlib.Core.Bool.{cond, not, _||_};
+ghost use Prim.Native.Nat.{_*_, _≤_, _<_, _^_};
+ghost use lib.Dec.{eqb, ltb};
+ghost use lib.ListN.{length, getD};
+ghost use Rattle.labels.specs.Events.{entry, everyVersion, kind, initial, isInOrInout};
+ghost use Rattle.labels.specs.Letters.{useOfByte};
+ghost use Rattle.labels.specs.Reaching.{reachingOf};
+ghost use Rattle.labels.specs.Routines.{ReadAs};
+ghost use Rattle.passes.specs.Tables.{reachedCell};
+ghost use Rattle.labels.specs.Uses.{isN};
+ghost use Rattle.routine.specs.Layout.{arrays};
+ghost use Rattle.words.specs.Tables.{table, withRow};
+
+// The tables of the pass that finds the vertices which a path from the entry reaches.
+pub fn fill_reached(gives: &mut [u16], passes: &mut [u16])
+    requires { ⌜ length (now passes) ≡ length (now gives) ⌝ }
+    ensures { λ _. ⌜ now (gives .exit) ≡ table (λ i. cond (ltb i 8) 1 0) (length (now (gives .entry))) ⌝ }
+    ensures { λ _. ⌜ now (passes .exit) ≡ table (λ i. 1) (length (now (gives .entry))) ⌝ }
+{
+    let n = gives.len();
+    let mut i = 0;
+    while i < n {
+        gives[i] = event::set_if(i < flow::COLUMNS, 1);
+        passes[i] = 1;
+        i += 1;
+    }
+}
+
+// Whether a cell is the entry's, or its set says that a path from the entry reaches it.
+pub fn is_reached(i: usize, set: u16) -> bool
+    ensures { λ r. ⌜ r ≡ reachedCell i set ⌝ }
+{
+    (i < flow::COLUMNS) | (set % 2 == 1)
+}
+
+// The tables of the pass: a kept label that is reached gives its version, and what is no kept label passes every version.
+pub fn fill(
+    versions: &[u16],
+    reached: &[u16],
+    letters: &[u8],
+    gives: &mut [u16],
+    passes: &mut [u16],
+)
+    requires { ⌜ length (now reached) ≡ length (now versions) ⌝ }
+    requires { ⌜ length (now letters) ≡ length (now versions) ⌝ }
+    requires { ⌜ length (now gives) ≡ length (now versions) ⌝ }
+    requires { ⌜ length (now passes) ≡ length (now versions) ⌝ }
+    ensures { λ _. ⌜ now (gives .exit)
+        ≡ table (λ i. cond (reachedCell i (getD (now (reached .entry)) i 0))
+        (cond (not (isN (useOfByte (getD (now (letters .entry)) i 0)))) (getD (now (versions .entry)) i 0) 0) 0) (length (now (versions .entry))) ⌝ }
+    ensures { λ _. ⌜ now (passes .exit)
+        ≡ table (λ i. cond (eqb (cond (not (isN (useOfByte (getD (now (letters .entry)) i 0)))) (getD (now (versions .entry)) i 0) 0) 0) everyVersion 0)
+        (length (now (versions .entry))) ⌝ }
+{
+    let n = versions.len();
+    let mut i = 0;
+    while i < n {
+        let kept = event::set_if(uses::leaves(letters[i]), versions[i]);
+        gives[i] = event::set_if(is_reached(i, reached[i]), kept);
+        passes[i] = event::every_if(kept == 0);
+        i += 1;
+    }
+}
+
+// The entry's row of what is given: the initial version of an array that comes with it, or whose entry label is kept.
+pub fn enter_gives(file: &[u8], h: Header, letters: &[u8], gives: &mut [u16])
+    requires { ⌜ ReadAs (now file) h ⌝ }
+    requires { ⌜ 8 ≤ length (now letters) ⌝ }
+    requires { ⌜ 8 ≤ length (now gives) ⌝ }
+    ensures { λ _. ⌜ now (gives .exit)
+        ≡ withRow (now (gives .entry)) entry
+        (λ a. cond (not (isN (useOfByte (getD (now (letters .entry)) a 0))) || isInOrInout (kind (now (file .entry)) a)) (2 ^ initial (now (file .entry)) a) 0)
+        (arrays (now (file .entry))) ⌝ }
+{
+    let m = h.arrays;
+    let mut a = 0;
+    while a < m {
+        let r = array::record_of(file, a);
+        let given = uses::leaves(letters[a]) | event::is_in_or_inout(r);
+        gives[a] = event::set_if(given, sets::single(r.initial));
+        a += 1;
+    }
+}
+
+// The entry's own set: what the path of no edge brings.
+fn at_entry(file: &[u8], h: Header, a: usize) -> u16
+    requires { ⌜ ReadAs (now file) h ⌝ }
+    requires { ⌜ a < arrays (now file) ⌝ }
+    ensures { λ r. ⌜ r ≡ reachingOf (now (file .entry)) a entry ⌝ }
+{
+    let r = array::record_of(file, a);
+    event::set_if(event::is_in_or_inout(r), sets::single(r.initial))
+}
+
+// The entry's row of the reaching sets.
+pub fn enter(file: &[u8], h: Header, sets: &mut [u16])
+    requires { ⌜ ReadAs (now file) h ⌝ }
+    requires { ⌜ 8 ≤ length (now sets) ⌝ }
+    ensures { λ _. ⌜ now (sets .exit) ≡ withRow (now (sets .entry)) entry (λ a. reachingOf (now (file .entry)) a entry) (arrays (now (file .entry))) ⌝ }
+{
+    let m = h.arrays;
+    let mut a = 0;
+    while a < m {
+        sets[a] = at_entry(file, h, a);
+        a += 1;
+    }
+}

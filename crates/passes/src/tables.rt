@@ -1,0 +1,137 @@
+// The tables of the label rules, for all arrays: the cell of vertex v and array a stands at 8 v + a.
+use crate::ambiguity;
+use crate::kept;
+use crate::pass;
+use crate::reaching;
+use crate::uses;
+use routine::header::Header;
+ghost use mathlib.Core.Path.{_≡_};
+ghost use Prim.Native.Nat.{_*_};
+ghost use lib.ListN.{length, getD};
+ghost use Rattle.labels.specs.Ambiguity.{arrivingSets};
+ghost use Rattle.labels.specs.Kept.{keptOf};
+ghost use Rattle.labels.specs.Reaching.{reachingOf};
+ghost use Rattle.labels.specs.Routines.{ReadAs, Edges};
+ghost use Rattle.passes.specs.Tables.{Cells, Versions, UseGives, Reached, Letters};
+ghost use Rattle.routine.specs.Layout.{vertices};
+
+// Which vertices a path of one edge or more from the entry reaches.
+pub fn reached(
+    file: &[u8],
+    h: Header,
+    order: &[u16],
+    sets: &mut [u16],
+    gives: &mut [u16],
+    passes: &mut [u16],
+)
+    requires { ⌜ ReadAs (now file) h ⌝ }
+    requires { ⌜ Edges (now file) (now order) ⌝ }
+    requires { ⌜ length (now sets) ≡ 8 * vertices (now file) ⌝ }
+    requires { ⌜ length (now gives) ≡ 8 * vertices (now file) ⌝ }
+    requires { ⌜ length (now passes) ≡ 8 * vertices (now file) ⌝ }
+    ensures { λ _. ⌜ Reached (now (file .entry)) (now (sets .exit)) ⌝ }
+{
+    reaching::fill_reached(gives, passes);
+    pass::solve(file, h, order, false, gives, passes, sets);
+}
+
+// The arriving versions.
+pub fn arriving(
+    file: &[u8],
+    h: Header,
+    order: &[u16],
+    versions: &[u16],
+    reached: &[u16],
+    sets: &mut [u16],
+    gives: &mut [u16],
+    passes: &mut [u16],
+)
+    requires { ⌜ ReadAs (now file) h ⌝ }
+    requires { ⌜ Edges (now file) (now order) ⌝ }
+    requires { ⌜ Versions (now file) (now versions) ⌝ }
+    requires { ⌜ Reached (now file) (now reached) ⌝ }
+    requires { ⌜ length (now sets) ≡ 8 * vertices (now file) ⌝ }
+    requires { ⌜ length (now gives) ≡ 8 * vertices (now file) ⌝ }
+    requires { ⌜ length (now passes) ≡ 8 * vertices (now file) ⌝ }
+    ensures { λ _. ⌜ Cells (now (file .entry)) (λ a v. getD (arrivingSets (now (file .entry)) a) v 0) (now (sets .exit)) ⌝ }
+{
+    ambiguity::fill(versions, reached, gives, passes);
+    pass::solve(file, h, order, false, gives, passes, sets);
+}
+
+// The letters.
+pub fn letters(
+    file: &[u8],
+    h: Header,
+    order: &[u16],
+    uses: &[u16],
+    letters: &mut [u8],
+    sets: &mut [u16],
+    passes: &mut [u16],
+)
+    requires { ⌜ ReadAs (now file) h ⌝ }
+    requires { ⌜ Edges (now file) (now order) ⌝ }
+    requires { ⌜ UseGives (now file) (now uses) ⌝ }
+    requires { ⌜ length (now letters) ≡ 8 * vertices (now file) ⌝ }
+    requires { ⌜ length (now sets) ≡ 8 * vertices (now file) ⌝ }
+    requires { ⌜ length (now passes) ≡ 8 * vertices (now file) ⌝ }
+    ensures { λ _. ⌜ Letters (now (file .entry)) (now (letters .exit)) ⌝ }
+{
+    uses::fill(uses, passes);
+    pass::solve(file, h, order, true, uses, passes, sets);
+    uses::write(sets, letters);
+    uses::leave(file, h, letters);
+}
+
+// The reaching sets.
+pub fn reaching(
+    file: &[u8],
+    h: Header,
+    order: &[u16],
+    versions: &[u16],
+    reached: &[u16],
+    letters: &[u8],
+    sets: &mut [u16],
+    gives: &mut [u16],
+    passes: &mut [u16],
+)
+    requires { ⌜ ReadAs (now file) h ⌝ }
+    requires { ⌜ Edges (now file) (now order) ⌝ }
+    requires { ⌜ Versions (now file) (now versions) ⌝ }
+    requires { ⌜ Reached (now file) (now reached) ⌝ }
+    requires { ⌜ Letters (now file) (now letters) ⌝ }
+    requires { ⌜ length (now sets) ≡ 8 * vertices (now file) ⌝ }
+    requires { ⌜ length (now gives) ≡ 8 * vertices (now file) ⌝ }
+    requires { ⌜ length (now passes) ≡ 8 * vertices (now file) ⌝ }
+    ensures { λ _. ⌜ Cells (now (file .entry)) (reachingOf (now (file .entry))) (now (sets .exit)) ⌝ }
+{
+    reaching::fill(versions, reached, letters, gives, passes);
+    reaching::enter_gives(file, h, letters, gives);
+    pass::solve(file, h, order, false, gives, passes, sets);
+    reaching::enter(file, h, sets);
+}
+
+// The kept sets.
+pub fn kept(
+    file: &[u8],
+    h: Header,
+    order: &[u16],
+    versions: &[u16],
+    letters: &[u8],
+    sets: &mut [u16],
+    gives: &mut [u16],
+    passes: &mut [u16],
+)
+    requires { ⌜ ReadAs (now file) h ⌝ }
+    requires { ⌜ Edges (now file) (now order) ⌝ }
+    requires { ⌜ Versions (now file) (now versions) ⌝ }
+    requires { ⌜ Letters (now file) (now letters) ⌝ }
+    requires { ⌜ length (now sets) ≡ 8 * vertices (now file) ⌝ }
+    requires { ⌜ length (now gives) ≡ 8 * vertices (now file) ⌝ }
+    requires { ⌜ length (now passes) ≡ 8 * vertices (now file) ⌝ }
+    ensures { λ _. ⌜ Cells (now (file .entry)) (keptOf (now (file .entry))) (now (sets .exit)) ⌝ }
+{
+    kept::fill(versions, letters, gives, passes);
+    pass::solve(file, h, order, true, gives, passes, sets);
+    kept::join(letters, gives, sets);
+}
