@@ -6,17 +6,17 @@ use Prim.Native.Nat.{ℕ}
 use Rattle.routine.specs.declared.header.Header.{Header}
 use Rattle.routine.specs.declared.reader.Answer.{Answer}
 use Rattle.routine.specs.declared.reader.Answer.the-variants.{Routine, Refused}
-use Rattle.routine.specs.declared.refusal.Refusal.{Refusal}
-use Rattle.routine.specs.declared.refusal.Reply.{Reply}
-use Rattle.routine.specs.declared.refusal.Verdict.{Verdict}
-use Rattle.routine.specs.declared.refusal.Verdict.the-variants.{Passed, Failed}
+use Rattle.refusal.specs.declared.Refusal.{Refusal}
+use Rattle.refusal.specs.declared.Reply.{Reply}
+use Rattle.refusal.specs.declared.Verdict.{Verdict}
+use Rattle.refusal.specs.declared.Verdict.the-variants.{Passed, Failed}
 use Rattle.routine.specs.Actions.{actionCheck, rowCheck, check15}
 use Rattle.routine.specs.Arrays.{arrayCheck, check14}
-use Rattle.routine.specs.Checks.{_andThen_}
+use Rattle.refusal.specs.Checks.{_andThen_}
 use Rattle.routine.specs.Edges.{edgeCheck, check16}
 use Rattle.routine.specs.Layout.{arrays, vertices, edges, headerOf}
-use Rattle.routine.specs.Replies.{filledBy, deniedOf}
-use Rattle.routine.specs.Reader.{Laid, formCheck, bodyCheck, answered, readOf, WellFormed, Heads}
+use Rattle.refusal.specs.Replies.{filledBy}
+use Rattle.routine.specs.Reader.{Laid, formCheck, bodyCheck, answered, readOf, deniedOf, WellFormed, Heads}
 use Rattle.routine.proofs.Form.{laid, heads}
 use Rattle.routine.proofs.Laws.{goes-on, parts, each-passed, all-passed}
 

@@ -4,7 +4,7 @@ use mathlib.Core.Path.{_≡_}
 use mathlib.Core.List.{List}
 use Prim.Native.Nat.{ℕ, _≤_}
 use lib.ListN.{length}
-use Rattle.routine.specs.declared.refusal.Verdict.the-variants.{Passed}
+use Rattle.refusal.specs.declared.Verdict.the-variants.{Passed}
 use Rattle.routine.specs.Layout.{endAt, headerOf, check10, check12, check13}
 use Rattle.routine.specs.Reader.{formCheck, Limits, Laid, Heads}
 use Rattle.routine.proofs.Laws.{parts}

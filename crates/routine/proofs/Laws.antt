@@ -6,10 +6,10 @@ use Prim.Native.Nat.{ℕ, zero, suc, _+_, _-_, _≤_, _<_}
 use native.Mathlib.Nat.{add-zero, zero-add}
 use native.Mathlib.Omega.{arith}
 use borrow.Author.Tests.{lt-ltb, le-ltb, le-leb, lt-leb, eq-eqb, ne-eqb, leb-true, ltb-true, ltb-false, eqb-true, eqb-false, not-true, not-false}
-use Rattle.routine.specs.declared.refusal.Refusal.{Refusal}
-use Rattle.routine.specs.declared.refusal.Verdict.{Verdict}
-use Rattle.routine.specs.declared.refusal.Verdict.the-variants.{Passed, Failed}
-use Rattle.routine.specs.Checks.{_andThen_, holds, firstFailed}
+use Rattle.refusal.specs.declared.Refusal.{Refusal}
+use Rattle.refusal.specs.declared.Verdict.{Verdict}
+use Rattle.refusal.specs.declared.Verdict.the-variants.{Passed, Failed}
+use Rattle.refusal.specs.Checks.{_andThen_, holds, firstFailed}
 use Rattle.routine.specs.Layout.{within}
 use lib.Dec.{leb, ltb}
 

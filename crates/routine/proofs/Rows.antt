@@ -9,10 +9,10 @@ use native.Mathlib.Numerals.{add-one}
 use lib.Dec.{eqb}
 use Rattle.routine.specs.declared.action.Action.{Action}
 use Rattle.routine.specs.declared.action.Action.the-variants.{Nothing, Reference, Remap, Unknown}
-use Rattle.routine.specs.declared.refusal.Refusal.the-variants.{WrongActionByte}
+use Rattle.refusal.specs.declared.Refusal.the-variants.{WrongActionByte}
 use Rattle.routine.specs.Actions.{action, actionByte, isReference, isRemap, isEntryOrExit, mixes, wrong, mixedCheck, actionCheck}
 use Rattle.routine.specs.Arrays.{arrayOf}
-use Rattle.routine.specs.Checks.{_andThen_, firstFailed}
+use Rattle.refusal.specs.Checks.{_andThen_, firstFailed}
 use Rattle.routine.specs.Layout.{actionAt}
 use Rattle.routine.specs.Rows.{isNothing, isMixed, isWrong}
 use Rattle.routine.proofs.Laws.{either, first-last}

@@ -13,7 +13,7 @@ use Rattle.routine.specs.declared.action.Access.{Access}
 use Rattle.routine.specs.declared.action.Action.the-variants.{Nothing, Reference, Remap, Unknown}
 use Rattle.routine.specs.declared.array.ArrayRecord.{ArrayRecord}
 use Rattle.routine.specs.declared.edge.Edge.{Edge}
-use Rattle.routine.specs.declared.refusal.Verdict.the-variants.{Passed}
+use Rattle.refusal.specs.declared.Verdict.the-variants.{Passed}
 use Rattle.routine.specs.Actions.{actionOf, action, actionByte, isKnown, remapsBelow, isEntryOrExit, mixes, mixedCheck, actionCheck}
 use Rattle.routine.specs.Arrays.{arrayOf, arrayCheck}
 use Rattle.routine.specs.Edges.{edgeOf, before, rises, edgeCheck}

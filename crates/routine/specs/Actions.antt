@@ -8,10 +8,10 @@ use lib.ListN.{getD}
 use Rattle.routine.specs.declared.action.Access.the-variants.{Read, Define, Modify}
 use Rattle.routine.specs.declared.action.Action.{Action}
 use Rattle.routine.specs.declared.action.Action.the-variants.{Nothing, Reference, Remap, Unknown}
-use Rattle.routine.specs.declared.refusal.Refusal.the-variants.{WrongActionByte}
-use Rattle.routine.specs.declared.refusal.Verdict.{Verdict}
+use Rattle.refusal.specs.declared.Refusal.the-variants.{WrongActionByte}
+use Rattle.refusal.specs.declared.Verdict.{Verdict}
 use Rattle.routine.specs.Arrays.{arrayOf}
-use Rattle.routine.specs.Checks.{_andThen_, holds, firstFailed}
+use Rattle.refusal.specs.Checks.{_andThen_, holds, firstFailed}
 use Rattle.routine.specs.Layout.{arrays, vertices, actionAt}
 
 -- 00 nothing, 10 read, 20 define, 30 modify, 40+k remap to version k, k below 16; every other byte is unknown

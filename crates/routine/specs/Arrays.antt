@@ -5,9 +5,9 @@ use Prim.Native.Nat.{ℕ, _+_}
 use lib.Dec.{eqb, leb, ltb}
 use lib.ListN.{getD, take, drop}
 use Rattle.routine.specs.declared.array.ArrayRecord.{ArrayRecord}
-use Rattle.routine.specs.declared.refusal.Refusal.the-variants.{WrongArrayByte}
-use Rattle.routine.specs.declared.refusal.Verdict.{Verdict}
-use Rattle.routine.specs.Checks.{_andThen_, holds, firstFailed}
+use Rattle.refusal.specs.declared.Refusal.the-variants.{WrongArrayByte}
+use Rattle.refusal.specs.declared.Verdict.{Verdict}
+use Rattle.refusal.specs.Checks.{_andThen_, holds, firstFailed}
 use Rattle.routine.specs.Layout.{arrays, recordAt, within}
 
 -- kind, number of versions, initial version, zero

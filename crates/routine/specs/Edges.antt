@@ -6,9 +6,9 @@ use Prim.Native.Nat.{ℕ, zero, suc, _+_, _-_}
 use lib.Dec.{eqb, ltb}
 use Rattle.words.specs.Words.{word}
 use Rattle.routine.specs.declared.edge.Edge.{Edge}
-use Rattle.routine.specs.declared.refusal.Refusal.the-variants.{WrongEdge}
-use Rattle.routine.specs.declared.refusal.Verdict.{Verdict}
-use Rattle.routine.specs.Checks.{_andThen_, holds, firstFailed}
+use Rattle.refusal.specs.declared.Refusal.the-variants.{WrongEdge}
+use Rattle.refusal.specs.declared.Verdict.{Verdict}
+use Rattle.refusal.specs.Checks.{_andThen_, holds, firstFailed}
 use Rattle.routine.specs.Layout.{vertices, edges, edgeAt}
 
 -- edge i: from, to

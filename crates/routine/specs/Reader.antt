@@ -7,11 +7,13 @@ use lib.ListN.{length}
 use Rattle.routine.specs.declared.header.Header.{Header}
 use Rattle.routine.specs.declared.reader.Answer.{Answer}
 use Rattle.routine.specs.declared.reader.Answer.the-variants.{Routine, Refused}
-use Rattle.routine.specs.declared.refusal.Verdict.{Verdict}
-use Rattle.routine.specs.declared.refusal.Verdict.the-variants.{Passed, Failed}
+use Rattle.refusal.specs.declared.Reply.{Reply}
+use Rattle.refusal.specs.declared.Reply.the-variants.{Written, Denied}
+use Rattle.refusal.specs.declared.Verdict.{Verdict}
+use Rattle.refusal.specs.declared.Verdict.the-variants.{Passed, Failed}
 use Rattle.routine.specs.Actions.{actionCheck, check15}
 use Rattle.routine.specs.Arrays.{arrayCheck, check14}
-use Rattle.routine.specs.Checks.{_andThen_}
+use Rattle.refusal.specs.Checks.{_andThen_}
 use Rattle.routine.specs.Edges.{edgeCheck, check16}
 use Rattle.routine.specs.Layout.{arrays, vertices, edges, endAt, headerOf, check10, check11, check12, check13}
 
@@ -32,6 +34,11 @@ answered (Failed r) h = Refused r
 unfoldable pub readOf : List ℕ → Answer
 unfolding formCheck bodyCheck
 readOf file = answered (formCheck file andThen bodyCheck file) (headerOf file)
+
+-- a refusal of the reader's, handed on; a routine read is none, and answers 0 only so that each answer has a value
+abbrev pub deniedOf : Answer → Reply
+deniedOf (Routine h) = Written 0
+deniedOf (Refused r) = Denied r
 
 -- counts within their limits
 pub record Limits (h : Header) : Type 0 where

@@ -1,8 +1,8 @@
 // Action bytes, one for each vertex and array; check 15 (document 01, "Routine file").
 use crate::array;
 use crate::header::Header;
-use crate::refusal::Refusal;
-use crate::refusal::Verdict;
+use refusal::Refusal;
+use refusal::Verdict;
 ghost use mathlib.Core.Path.{_≡_};
 ghost use mathlib.Core.Bool.{_||_};
 ghost use Prim.Native.Nat.{_<_, _-_};

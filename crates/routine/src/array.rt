@@ -1,7 +1,7 @@
 // Array records: kind, number of versions, initial version, zero; check 14 (document 01, "Routine file").
 use crate::header::Header;
-use crate::refusal::Refusal;
-use crate::refusal::Verdict;
+use refusal::Refusal;
+use refusal::Verdict;
 ghost use mathlib.Core.Path.{_≡_};
 ghost use Prim.Native.Nat.{_+_, _*_, _<_};
 ghost use Rattle.routine.specs.Arrays.{recordOf, arrayOf, recordCheck, arrayCheck, check14};

@@ -1,7 +1,7 @@
 // Edges: from and to, 16 bits each; check 16 (document 01, "Routine file").
 use crate::header::Header;
-use crate::refusal::Refusal;
-use crate::refusal::Verdict;
+use refusal::Refusal;
+use refusal::Verdict;
 ghost use mathlib.Core.Path.{_≡_};
 ghost use Prim.Native.Nat.{_+_, _<_};
 ghost use lib.ListN.{length};

@@ -1,14 +1,14 @@
 // The file's head: mark, edition, table of contents; checks 10 to 13 (document 01, "Routine file").
 use crate::array::ArrayRecord;
 use crate::edge::Edge;
-use crate::refusal::Refusal;
-use crate::refusal::Verdict;
+use refusal::Refusal;
+use refusal::Verdict;
 ghost use mathlib.Core.Path.{_≡_};
 ghost use Prim.Native.Nat.{_+_, _*_, _≤_};
 ghost use lib.ListN.{length};
 ghost use Rattle.routine.specs.Layout.{headerOf, marked, within, check10, check11, check12, check13};
-ghost use Rattle.routine.specs.Checks.{holds};
-ghost use Rattle.routine.specs.declared.refusal.Refusal.the-variants.{CountOutsideLimits};
+ghost use Rattle.refusal.specs.Checks.{holds};
+ghost use Rattle.refusal.specs.declared.Refusal.the-variants.{CountOutsideLimits};
 ghost use Rattle.routine.specs.Reader.{formCheck, Limits};
 
 // How many arrays, vertices and edges the routine has.

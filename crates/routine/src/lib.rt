@@ -5,4 +5,3 @@ pub mod array;
 pub mod edge;
 pub mod header;
 pub mod reader;
-pub mod refusal;

@@ -4,12 +4,11 @@ use crate::array;
 use crate::edge;
 use crate::header;
 use crate::header::Header;
-use crate::refusal::Refusal;
-use crate::refusal::Reply;
-use crate::refusal::Verdict;
+use refusal::Refusal;
+use refusal::Reply;
+use refusal::Verdict;
 ghost use mathlib.Core.Path.{_≡_};
-ghost use Rattle.routine.specs.Replies.{deniedOf};
-ghost use Rattle.routine.specs.Reader.{bodyCheck, readOf, Heads};
+ghost use Rattle.routine.specs.Reader.{bodyCheck, readOf, deniedOf, Heads};
 
 // The routine's header, or the refusal.
 pub enum Answer {

@@ -2,9 +2,9 @@
 -- Assumes nothing.
 use mathlib.Core.Bool.{Bool, true, false}
 use Prim.Native.Nat.{ℕ, zero, suc, _+_}
-use Rattle.routine.specs.declared.refusal.Refusal.{Refusal}
-use Rattle.routine.specs.declared.refusal.Verdict.{Verdict}
-use Rattle.routine.specs.declared.refusal.Verdict.the-variants.{Passed, Failed}
+use Rattle.refusal.specs.declared.Refusal.{Refusal}
+use Rattle.refusal.specs.declared.Verdict.{Verdict}
+use Rattle.refusal.specs.declared.Verdict.the-variants.{Passed, Failed}
 
 -- the first failure of the two
 infixr 20 _andThen_

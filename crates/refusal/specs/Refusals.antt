@@ -1,9 +1,9 @@
 -- Document 01, "Who can cause a refusal": the number and the two places of each reason; the second place is 0 unless said.
 -- Assumes nothing.
 use Prim.Native.Nat.{ℕ}
-use Rattle.routine.specs.declared.refusal.Outcome.{Outcome}
-use Rattle.routine.specs.declared.refusal.Refusal.{Refusal}
-use Rattle.routine.specs.declared.refusal.Refusal.the-variants.{TooShort, WrongMark, WrongEdition, CountOutsideLimits, WrongOffset, WrongLength, WrongArrayByte, WrongActionByte, WrongEdge, WritesInArgument, AmbiguousReference, PathLengthOutsideLimits, WrongStart, NoSuchEdge, ShortPlanBuffer, ShortReportBuffer}
+use Rattle.refusal.specs.declared.Outcome.{Outcome}
+use Rattle.refusal.specs.declared.Refusal.{Refusal}
+use Rattle.refusal.specs.declared.Refusal.the-variants.{TooShort, WrongMark, WrongEdition, CountOutsideLimits, WrongOffset, WrongLength, WrongArrayByte, WrongActionByte, WrongEdge, WritesInArgument, AmbiguousReference, PathLengthOutsideLimits, WrongStart, NoSuchEdge, ShortPlanBuffer, ShortReportBuffer}
 
 abbrev pub refused : ℕ → ℕ → ℕ → Outcome
 refused number first second = record { number = number; first = first; second = second }

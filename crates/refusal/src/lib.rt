@@ -1,7 +1,7 @@
 // Refusals: a case for each reason, named for what it says (document 01, "Who can cause a refusal").
 ghost use mathlib.Core.Path.{_≡_};
-ghost use Rattle.routine.specs.Refusals.{outcomeOf};
-ghost use Rattle.routine.specs.Replies.{replyOutcome};
+ghost use Rattle.refusal.specs.Refusals.{outcomeOf};
+ghost use Rattle.refusal.specs.Replies.{replyOutcome};
 
 pub enum Refusal {
     // The file's writer.

@@ -1,8 +1,8 @@
 -- `refusal::outcome_of` meets its contract, case by case.
 -- Assumes nothing.
 use borrow.Author.Needs.{needs}
-use Rattle.routine.proofs.refusal.outcome_of.Statement.{statement}
-use Rattle.routine.proofs.refusal.outcome_of.Tie as tie
+use Rattle.refusal.proofs.outcome_of.Statement.{statement}
+use Rattle.refusal.proofs.outcome_of.Tie as tie
 
 enum-known-r : tie.Need-enum-known-r
 enum-known-r c = search needs

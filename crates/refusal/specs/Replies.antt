@@ -3,14 +3,12 @@
 use mathlib.Core.List.{List}
 use Prim.Native.Nat.{ℕ}
 use Rattle.words.specs.Tables.{wrote}
-use Rattle.routine.specs.declared.reader.Answer.{Answer}
-use Rattle.routine.specs.declared.reader.Answer.the-variants.{Routine, Refused}
-use Rattle.routine.specs.declared.refusal.Outcome.{Outcome}
-use Rattle.routine.specs.declared.refusal.Reply.{Reply}
-use Rattle.routine.specs.declared.refusal.Reply.the-variants.{Written, Denied}
-use Rattle.routine.specs.declared.refusal.Verdict.{Verdict}
-use Rattle.routine.specs.declared.refusal.Verdict.the-variants.{Passed, Failed}
-use Rattle.routine.specs.Refusals.{outcomeOf}
+use Rattle.refusal.specs.declared.Outcome.{Outcome}
+use Rattle.refusal.specs.declared.Reply.{Reply}
+use Rattle.refusal.specs.declared.Reply.the-variants.{Written, Denied}
+use Rattle.refusal.specs.declared.Verdict.{Verdict}
+use Rattle.refusal.specs.declared.Verdict.the-variants.{Passed, Failed}
+use Rattle.refusal.specs.Refusals.{outcomeOf}
 
 -- a call that writes n bytes where its checks pass
 abbrev pub written : Verdict → ℕ → Reply
@@ -26,8 +24,3 @@ filledBy (Denied r) bytes before = before
 abbrev pub replyOutcome : Reply → Outcome
 replyOutcome (Written n) = record { number = 0; first = n; second = 0 }
 replyOutcome (Denied r) = outcomeOf r
-
--- a refusal of the reader's, handed on; a routine read is none, and answers 0 only so that each answer has a value
-abbrev pub deniedOf : Answer → Reply
-deniedOf (Routine h) = Written 0
-deniedOf (Refused r) = Denied r

@@ -1,8 +1,8 @@
 -- `refusal::reply_outcome` meets its contract, case by case.
 -- Assumes nothing.
 use borrow.Author.Needs.{needs}
-use Rattle.routine.proofs.refusal.reply_outcome.Statement.{statement}
-use Rattle.routine.proofs.refusal.reply_outcome.Tie as tie
+use Rattle.refusal.proofs.reply_outcome.Statement.{statement}
+use Rattle.refusal.proofs.reply_outcome.Tie as tie
 
 enum-known-reply : tie.Need-enum-known-reply
 enum-known-reply c = search needs
