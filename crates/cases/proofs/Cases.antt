@@ -12,7 +12,7 @@ use Rattle.routine.specs.Arrays.{arrayOf}
 use Rattle.routine.specs.Layout.{headerOf}
 use Rattle.routine.specs.Reader.{readOf}
 use Rattle.routine.specs.declared.reader.Answer.the-variants.{Routine}
-use Rattle.routine.specs.declared.refusal.Verdict.the-variants.{Passed}
+use Rattle.refusal.specs.declared.Verdict.the-variants.{Passed}
 use Rattle.routine.proofs.Accepted.{accepted}
 use Rattle.run.specs.Calls.{runOf}
 use Rattle.run.specs.Demand.{IsHome, Demand3}

@@ -17,9 +17,9 @@ use Rattle.labels.specs.declared.Use.the-variants.{N, D, R, W}
 use Rattle.plan.specs.Calls.{planOf, planOutcome}
 use Rattle.plan.specs.Plan.{planBytes}
 use Rattle.routine.specs.Layout.{arrays, vertices}
-use Rattle.routine.specs.Refusals.{refused}
-use Rattle.routine.specs.declared.refusal.Outcome.{Outcome}
-use Rattle.routine.specs.declared.refusal.Reply.the-variants.{Written}
+use Rattle.refusal.specs.Refusals.{refused}
+use Rattle.refusal.specs.declared.Outcome.{Outcome}
+use Rattle.refusal.specs.declared.Reply.the-variants.{Written}
 use Rattle.run.specs.Calls.{runOf, runOutcome}
 use Rattle.run.specs.Machine.{machineAfter}
 use Rattle.run.specs.Paths.{steps}

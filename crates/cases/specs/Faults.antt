@@ -5,9 +5,9 @@ use Prim.Native.Nat.{ℕ}
 use lib.ListN.{replicate}
 use Rattle.plan.specs.Calls.{Planned}
 use Rattle.plan.specs.Plan.{planBytes}
-use Rattle.routine.specs.declared.refusal.Refusal.{Refusal}
-use Rattle.routine.specs.declared.refusal.Reply.{Reply}
-use Rattle.routine.specs.declared.refusal.Reply.the-variants.{Denied}
+use Rattle.refusal.specs.declared.Refusal.{Refusal}
+use Rattle.refusal.specs.declared.Reply.{Reply}
+use Rattle.refusal.specs.declared.Reply.the-variants.{Denied}
 use Rattle.run.specs.Calls.{Ran}
 use Rattle.cases.specs.Cases.{P, path2}
 

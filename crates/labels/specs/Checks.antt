@@ -3,11 +3,11 @@
 use mathlib.Core.Bool.{Bool, not, _&&_}
 use mathlib.Core.List.{List}
 use Prim.Native.Nat.{ℕ, _<_}
-use Rattle.routine.specs.Checks.{_andThen_, holds, firstFailed}
+use Rattle.refusal.specs.Checks.{_andThen_, holds, firstFailed}
 use Rattle.routine.specs.Layout.{arrays, vertices}
-use Rattle.routine.specs.declared.refusal.Refusal.{Refusal}
-use Rattle.routine.specs.declared.refusal.Refusal.the-variants.{WritesInArgument, AmbiguousReference}
-use Rattle.routine.specs.declared.refusal.Verdict.{Verdict}
+use Rattle.refusal.specs.declared.Refusal.{Refusal}
+use Rattle.refusal.specs.declared.Refusal.the-variants.{WritesInArgument, AmbiguousReference}
+use Rattle.refusal.specs.declared.Verdict.{Verdict}
 use Rattle.labels.specs.Events.{kind, isIn, event, isWrite}
 use Rattle.labels.specs.Ambiguity.{isAmbiguous}
 

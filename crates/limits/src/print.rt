@@ -1,7 +1,7 @@
 // Lines on standard output: a case's name and numbers.
 use libc::STDOUT_FILENO;
+use refusal::Reply;
 use routine::header::Header;
-use routine::refusal::Reply;
 
 pub fn text(s: &[u8]) {
     io::write_all(STDOUT_FILENO, s);

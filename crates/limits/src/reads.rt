@@ -3,9 +3,9 @@
 use crate::build;
 use crate::build::Buffer;
 use crate::print;
+use refusal::Reply;
 use routine::reader;
 use routine::reader::Answer;
-use routine::refusal::Reply;
 ghost use Prim.Native.Nat.{_≤_};
 
 fn write_answer(file: &[u8]) {

@@ -3,8 +3,8 @@
 use mathlib.Core.List.{List, [], _∷_}
 use Prim.Native.Nat.{ℕ, _+_}
 use lib.ListN.{getD}
-use Rattle.routine.specs.Replies.{replyOutcome}
-use Rattle.routine.specs.declared.refusal.Reply.{Reply}
+use Rattle.refusal.specs.Replies.{replyOutcome}
+use Rattle.refusal.specs.declared.Reply.{Reply}
 use Rattle.words.specs.Words.{word}
 use Rattle.listing.specs.Text.{NUMBER, CHARACTER, VERSION, MASK, line}
 

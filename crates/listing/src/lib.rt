@@ -1,8 +1,7 @@
 // What the programs print: each line as text, at the front of a buffer that is lent.
 mod text;
 
-use routine::refusal;
-use routine::refusal::Reply;
+use refusal::Reply;
 use text::CHARACTER;
 use text::MASK;
 pub use text::NUMBER;

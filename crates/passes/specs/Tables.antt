@@ -10,8 +10,8 @@ use Rattle.flow.specs.Solver.{column, solution}
 use Rattle.routine.specs.Layout.{arrays, vertices}
 use Rattle.routine.specs.declared.action.Action.{Action}
 use Rattle.routine.specs.declared.action.Action.the-variants.{Nothing}
-use Rattle.routine.specs.declared.refusal.Verdict.{Verdict}
-use Rattle.routine.specs.declared.refusal.Verdict.the-variants.{Passed}
+use Rattle.refusal.specs.declared.Verdict.{Verdict}
+use Rattle.refusal.specs.declared.Verdict.the-variants.{Passed}
 use Rattle.sets.specs.Sets.{has}
 use Rattle.labels.specs.Checks.{programmerCheck}
 use Rattle.labels.specs.Events.{edgeBytes, kind, isIn, event, versionSet}

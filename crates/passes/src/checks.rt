@@ -1,10 +1,10 @@
 // Refusals 20 and 21, first by vertex, then by array (document 01, "Who can cause a refusal").
 use crate::tables;
 use labels::event;
+use refusal::Refusal;
+use refusal::Verdict;
 use routine::array;
 use routine::header::Header;
-use routine::refusal::Refusal;
-use routine::refusal::Verdict;
 ghost use mathlib.Core.Path.{_≡_};
 ghost use mathlib.Core.Bool.{not, _&&_};
 ghost use Prim.Native.Nat.{_+_, _*_, _≤_, _<_};
@@ -15,9 +15,9 @@ ghost use Rattle.labels.specs.Ambiguity.{arrivingSets, isAmbiguous};
 ghost use Rattle.labels.specs.Checks.{writesIn, check20, check21};
 ghost use Rattle.labels.specs.Routines.{ReadAs, Edges};
 ghost use Rattle.passes.specs.Tables.{Cells, Versions, UseGives, anyBelow, InMasks, Checked};
-ghost use Rattle.routine.specs.Checks.{holds, firstFailed};
+ghost use Rattle.refusal.specs.Checks.{holds, firstFailed};
 ghost use Rattle.routine.specs.Layout.{arrays, vertices};
-ghost use Rattle.routine.specs.declared.refusal.Refusal.the-variants.{WritesInArgument, AmbiguousReference};
+ghost use Rattle.refusal.specs.declared.Refusal.the-variants.{WritesInArgument, AmbiguousReference};
 ghost use Rattle.sets.specs.Sets.{has, several};
 
 // The masks by which a row is tested for 20.

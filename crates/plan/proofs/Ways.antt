@@ -7,18 +7,19 @@ use borrow.Author.Tests.{le-leb, lt-leb}
 use Rattle.labels.specs.Checks.{programmerCheck}
 use Rattle.plan.specs.Calls.{planCheck, planReply, planOf}
 use Rattle.plan.specs.Plan.{planLength}
-use Rattle.routine.specs.Checks.{_andThen_}
+use Rattle.refusal.specs.Checks.{_andThen_}
 use Rattle.routine.specs.Layout.{headerOf}
 use Rattle.routine.specs.Reader.{formCheck, bodyCheck, answered, readOf}
-use Rattle.routine.specs.Replies.{written, deniedOf}
+use Rattle.refusal.specs.Replies.{written}
+use Rattle.routine.specs.Reader.{deniedOf}
 use Rattle.routine.specs.declared.header.Header.{Header}
 use Rattle.routine.specs.declared.reader.Answer.{Answer}
 use Rattle.routine.specs.declared.reader.Answer.the-variants.{Routine, Refused}
-use Rattle.routine.specs.declared.refusal.Refusal.{Refusal}
-use Rattle.routine.specs.declared.refusal.Refusal.the-variants.{ShortPlanBuffer}
-use Rattle.routine.specs.declared.refusal.Reply.the-variants.{Written, Denied}
-use Rattle.routine.specs.declared.refusal.Verdict.{Verdict}
-use Rattle.routine.specs.declared.refusal.Verdict.the-variants.{Passed, Failed}
+use Rattle.refusal.specs.declared.Refusal.{Refusal}
+use Rattle.refusal.specs.declared.Refusal.the-variants.{ShortPlanBuffer}
+use Rattle.refusal.specs.declared.Reply.the-variants.{Written, Denied}
+use Rattle.refusal.specs.declared.Verdict.{Verdict}
+use Rattle.refusal.specs.declared.Verdict.the-variants.{Passed, Failed}
 use Rattle.routine.proofs.Laws.{then-assoc}
 
 -- checks run 10 to 16, 20, 21, then for a plan 1: the reply in one line

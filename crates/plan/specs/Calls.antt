@@ -7,16 +7,16 @@ use lib.Dec.{leb}
 use lib.ListN.{length}
 use Rattle.labels.specs.Checks.{programmerCheck}
 use Rattle.plan.specs.Plan.{planBytes, planLength}
-use Rattle.routine.specs.Checks.{_andThen_, holds}
+use Rattle.refusal.specs.Checks.{_andThen_, holds}
 use Rattle.routine.specs.Reader.{readOf}
-use Rattle.routine.specs.Replies.{written, filledBy, replyOutcome}
+use Rattle.refusal.specs.Replies.{written, filledBy, replyOutcome}
 use Rattle.routine.specs.declared.reader.Answer.{Answer}
 use Rattle.routine.specs.declared.reader.Answer.the-variants.{Routine, Refused}
-use Rattle.routine.specs.declared.refusal.Outcome.{Outcome}
-use Rattle.routine.specs.declared.refusal.Refusal.the-variants.{ShortPlanBuffer}
-use Rattle.routine.specs.declared.refusal.Reply.{Reply}
-use Rattle.routine.specs.declared.refusal.Reply.the-variants.{Denied}
-use Rattle.routine.specs.declared.refusal.Verdict.{Verdict}
+use Rattle.refusal.specs.declared.Outcome.{Outcome}
+use Rattle.refusal.specs.declared.Refusal.the-variants.{ShortPlanBuffer}
+use Rattle.refusal.specs.declared.Reply.{Reply}
+use Rattle.refusal.specs.declared.Reply.the-variants.{Denied}
+use Rattle.refusal.specs.declared.Verdict.{Verdict}
 
 -- checks run 10 to 16, 20, 21, then for a plan 1: a buffer of `size` bytes is too short
 unfoldable pub planCheck : List ℕ → ℕ → Verdict

@@ -2,7 +2,7 @@
 // refusal.
 use libc::STDIN_FILENO;
 use libc::STDOUT_FILENO;
-use routine::refusal::Reply;
+use refusal::Reply;
 ghost use Prim.Native.Nat.{_≤_};
 
 // More than the longest routine file, which has 6,194 bytes: a byte too many is seen, and no later one matters.

@@ -5,7 +5,7 @@ use mathlib.Core.List.{List}
 use Prim.Native.Nat.{ℕ}
 use lib.ListN.{length}
 use Rattle.plan.specs.Calls.{planOf, planOutcome, planInto}
-use Rattle.routine.specs.declared.refusal.Outcome.{Outcome}
+use Rattle.refusal.specs.declared.Outcome.{Outcome}
 use Rattle.run.specs.Calls.{runOf, runOutcome, runInto, DemandMet}
 
 -- what hpf_plan answers and leaves

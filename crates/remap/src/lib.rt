@@ -1,6 +1,5 @@
 // The C interface: `include/hpf_remap.h` documents it for its users. Each call is the proved call, its answer given in numbers.
-use routine::refusal;
-use routine::refusal::Outcome;
+use refusal::Outcome;
 ghost use Rattle.remap.specs.Interface.{PlannedC, RanC};
 
 #[no_mangle]

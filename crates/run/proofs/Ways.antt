@@ -5,19 +5,20 @@ use mathlib.Core.List.{List}
 use Prim.Native.Nat.{ℕ, _≤_, _<_}
 use borrow.Author.Tests.{le-leb, lt-leb}
 use Rattle.labels.specs.Checks.{programmerCheck}
-use Rattle.routine.specs.Checks.{_andThen_}
+use Rattle.refusal.specs.Checks.{_andThen_}
 use Rattle.routine.specs.Layout.{headerOf}
 use Rattle.routine.specs.Reader.{formCheck, bodyCheck, answered, readOf}
-use Rattle.routine.specs.Replies.{written, deniedOf}
+use Rattle.refusal.specs.Replies.{written}
+use Rattle.routine.specs.Reader.{deniedOf}
 use Rattle.routine.specs.declared.header.Header.{Header}
 use Rattle.routine.specs.declared.reader.Answer.{Answer}
 use Rattle.routine.specs.declared.reader.Answer.the-variants.{Routine, Refused}
-use Rattle.routine.specs.declared.refusal.Refusal.{Refusal}
-use Rattle.routine.specs.declared.refusal.Refusal.the-variants.{ShortReportBuffer}
-use Rattle.routine.specs.declared.refusal.Reply.{Reply}
-use Rattle.routine.specs.declared.refusal.Reply.the-variants.{Written, Denied}
-use Rattle.routine.specs.declared.refusal.Verdict.{Verdict}
-use Rattle.routine.specs.declared.refusal.Verdict.the-variants.{Passed, Failed}
+use Rattle.refusal.specs.declared.Refusal.{Refusal}
+use Rattle.refusal.specs.declared.Refusal.the-variants.{ShortReportBuffer}
+use Rattle.refusal.specs.declared.Reply.{Reply}
+use Rattle.refusal.specs.declared.Reply.the-variants.{Written, Denied}
+use Rattle.refusal.specs.declared.Verdict.{Verdict}
+use Rattle.refusal.specs.declared.Verdict.the-variants.{Passed, Failed}
 use Rattle.routine.proofs.Laws.{then-assoc}
 use Rattle.run.specs.Calls.{runCheck, runReply, runOf, DemandMet}
 use Rattle.run.specs.Paths.{pathCheck}

@@ -6,16 +6,16 @@ use Prim.Native.Nat.{ℕ}
 use lib.Dec.{leb}
 use lib.ListN.{length}
 use Rattle.labels.specs.Checks.{programmerCheck}
-use Rattle.routine.specs.Checks.{_andThen_, holds}
+use Rattle.refusal.specs.Checks.{_andThen_, holds}
 use Rattle.routine.specs.Reader.{readOf}
-use Rattle.routine.specs.Replies.{written, filledBy, replyOutcome}
+use Rattle.refusal.specs.Replies.{written, filledBy, replyOutcome}
 use Rattle.routine.specs.declared.reader.Answer.{Answer}
 use Rattle.routine.specs.declared.reader.Answer.the-variants.{Routine, Refused}
-use Rattle.routine.specs.declared.refusal.Outcome.{Outcome}
-use Rattle.routine.specs.declared.refusal.Refusal.the-variants.{ShortReportBuffer}
-use Rattle.routine.specs.declared.refusal.Reply.{Reply}
-use Rattle.routine.specs.declared.refusal.Reply.the-variants.{Written, Denied}
-use Rattle.routine.specs.declared.refusal.Verdict.{Verdict}
+use Rattle.refusal.specs.declared.Outcome.{Outcome}
+use Rattle.refusal.specs.declared.Refusal.the-variants.{ShortReportBuffer}
+use Rattle.refusal.specs.declared.Reply.{Reply}
+use Rattle.refusal.specs.declared.Reply.the-variants.{Written, Denied}
+use Rattle.refusal.specs.declared.Verdict.{Verdict}
 use Rattle.run.specs.Demand.{Demand3}
 use Rattle.run.specs.Paths.{pathCheck}
 use Rattle.run.specs.Report.{reportBytes, reportLength}

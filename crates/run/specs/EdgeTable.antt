@@ -6,11 +6,11 @@ use Prim.Native.Nat.{ℕ, zero, suc, _+_, _-_, _*_, _/_, _%_, _^_}
 use lib.Bits.{bitOr}
 use lib.Dec.{ltb}
 use lib.ListN.{getD, set, replicate}
-use Rattle.routine.specs.Checks.{holds}
+use Rattle.refusal.specs.Checks.{holds}
 use Rattle.routine.specs.Edges.{edgeOf}
 use Rattle.routine.specs.declared.edge.Edge.{Edge}
-use Rattle.routine.specs.declared.refusal.Refusal.the-variants.{NoSuchEdge}
-use Rattle.routine.specs.declared.refusal.Verdict.{Verdict}
+use Rattle.refusal.specs.declared.Refusal.the-variants.{NoSuchEdge}
+use Rattle.refusal.specs.declared.Verdict.{Verdict}
 use Rattle.sets.specs.Sets.{has}
 use Rattle.run.specs.Paths.{vertexAt}
 

@@ -6,11 +6,11 @@ use Prim.Native.Nat.{ℕ, zero, suc, _-_, _*_, _/_}
 use lib.Dec.{eqb}
 use lib.ListN.{length}
 use Rattle.labels.specs.Events.{entry}
-use Rattle.routine.specs.Checks.{_andThen_, holds, firstFailed}
+use Rattle.refusal.specs.Checks.{_andThen_, holds, firstFailed}
 use Rattle.routine.specs.Edges.{edgeOf}
 use Rattle.routine.specs.Layout.{edges, within}
-use Rattle.routine.specs.declared.refusal.Refusal.the-variants.{PathLengthOutsideLimits, WrongStart, NoSuchEdge}
-use Rattle.routine.specs.declared.refusal.Verdict.{Verdict}
+use Rattle.refusal.specs.declared.Refusal.the-variants.{PathLengthOutsideLimits, WrongStart, NoSuchEdge}
+use Rattle.refusal.specs.declared.Verdict.{Verdict}
 use Rattle.words.specs.Words.{word}
 
 -- how many vertices the path has, and the vertex at an index

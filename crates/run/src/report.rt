@@ -15,7 +15,7 @@ ghost use Rattle.labels.specs.Routines.{ReadAs};
 ghost use Rattle.routine.specs.Actions.{isReference};
 ghost use Rattle.routine.specs.Layout.{arrays, vertices};
 ghost use Rattle.routine.specs.Reader.{WellFormed};
-ghost use Rattle.routine.specs.declared.refusal.Verdict.the-variants.{Passed};
+ghost use Rattle.refusal.specs.declared.Verdict.the-variants.{Passed};
 ghost use Rattle.run.specs.Paths.{steps, pathCheck};
 ghost use Rattle.run.specs.Report.{entryBytes, entriesOf, recordBytes, referencesAt, referencesOn, reportLength};
 ghost use Rattle.words.specs.Tables.{table, wrote};

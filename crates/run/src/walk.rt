@@ -16,7 +16,7 @@ ghost use Rattle.labels.specs.Events.{event};
 ghost use Rattle.labels.specs.Routines.{ReadAs};
 ghost use Rattle.routine.specs.Arrays.{arrayOf};
 ghost use Rattle.routine.specs.Layout.{arrays, vertices};
-ghost use Rattle.routine.specs.declared.refusal.Verdict.the-variants.{Passed};
+ghost use Rattle.refusal.specs.declared.Verdict.the-variants.{Passed};
 ghost use Rattle.state.specs.Current.{settled};
 ghost use Rattle.state.specs.Start.{started};
 ghost use Rattle.state.specs.States.{Current};

@@ -1,7 +1,7 @@
 // The run program (document 01, "Routine P and others"): reads the files `routine` and `path` and prints the report of the run, or the
 // refusal; a path beyond 512 vertices prints `long` and no more.
 use libc::STDOUT_FILENO;
-use routine::refusal::Reply;
+use refusal::Reply;
 ghost use Prim.Native.Nat.{_≤_};
 ghost use Rattle.io.specs.Counts.{Counts};
 

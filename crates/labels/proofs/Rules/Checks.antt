@@ -8,12 +8,12 @@ use Prim.Native.Nat.{ℕ, _<_}
 use native.Mathlib.Nat.{zero-add, lt-trans}
 use native.Mathlib.Omega.{arith}
 use lib.Dec.{T}
-use Rattle.routine.specs.Checks.{holds, firstFailed}
+use Rattle.refusal.specs.Checks.{holds, firstFailed}
 use Rattle.routine.specs.Layout.{arrays, vertices}
-use Rattle.routine.specs.declared.refusal.Refusal.{Refusal}
-use Rattle.routine.specs.declared.refusal.Refusal.the-variants.{WritesInArgument, AmbiguousReference}
-use Rattle.routine.specs.declared.refusal.Verdict.{Verdict}
-use Rattle.routine.specs.declared.refusal.Verdict.the-variants.{Passed, Failed}
+use Rattle.refusal.specs.declared.Refusal.{Refusal}
+use Rattle.refusal.specs.declared.Refusal.the-variants.{WritesInArgument, AmbiguousReference}
+use Rattle.refusal.specs.declared.Verdict.{Verdict}
+use Rattle.refusal.specs.declared.Verdict.the-variants.{Passed, Failed}
 use Rattle.routine.proofs.Laws.{each-passed, all-passed, scan-failed, failed-scan}
 use Rattle.labels.specs.Ambiguity.{Ambiguous, isAmbiguous}
 use Rattle.labels.specs.Checks.{firstFault, FirstFault, writesIn, check20, check21}

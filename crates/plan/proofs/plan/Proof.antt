@@ -4,7 +4,7 @@ use mathlib.Core.Path.{sym, ap, _∙_}
 use lib.ListN.{length}
 use Rattle.plan.specs.Plan.{planBytes}
 use Rattle.plan.proofs.Ways.{refused-way, read-way}
-use Rattle.routine.specs.Replies.{replyOutcome}
+use Rattle.refusal.specs.Replies.{replyOutcome}
 use Rattle.routine.proofs.Accepted.{accepted, unwritten}
 use borrow.Author.Needs.{needs}
 use Rattle.plan.proofs.plan.Statement.{statement}

@@ -6,8 +6,8 @@ use native.Mathlib.Omega.{arith}
 use lib.ListN.{length}
 use Rattle.plan.proofs.Sizes.{plan-length}
 use Rattle.plan.proofs.Ways.{denied-way, short-way, written-way}
-use Rattle.routine.specs.declared.refusal.Refusal.the-variants.{ShortPlanBuffer}
-use Rattle.routine.specs.declared.refusal.Reply.the-variants.{Written, Denied}
+use Rattle.refusal.specs.declared.Refusal.the-variants.{ShortPlanBuffer}
+use Rattle.refusal.specs.declared.Reply.the-variants.{Written, Denied}
 use borrow.Author.Needs.{needs}
 use Rattle.plan.proofs.plan_events.Statement.{statement}
 use Rattle.plan.proofs.plan_events.Tie as tie

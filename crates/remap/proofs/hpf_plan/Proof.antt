@@ -2,7 +2,7 @@
 -- Assumes nothing.
 use mathlib.Core.Path.{ap, _∙_}
 use Rattle.plan.specs.Calls.{planInto}
-use Rattle.routine.specs.declared.refusal.Reply.{Reply}
+use Rattle.refusal.specs.declared.Reply.{Reply}
 use borrow.Author.Needs.{needs}
 use Rattle.remap.proofs.hpf_plan.Statement.{statement}
 use Rattle.remap.proofs.hpf_plan.Tie as tie

@@ -1,7 +1,7 @@
 -- `hpf_run` meets its contract: the answer of `run`, in numbers, and demand 3.
 -- Assumes nothing.
 use mathlib.Core.Path.{ap, subst, _∙_}
-use Rattle.routine.specs.declared.refusal.Reply.{Reply}
+use Rattle.refusal.specs.declared.Reply.{Reply}
 use Rattle.run.specs.Calls.{runInto, DemandMet}
 use borrow.Author.Needs.{needs}
 use Rattle.remap.proofs.hpf_run.Statement.{statement}

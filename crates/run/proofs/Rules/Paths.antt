@@ -13,7 +13,7 @@ use Rattle.labels.proofs.Rules.Proper.{edge-count, edge-from, edge-to}
 use Rattle.routine.specs.Edges.{edgeOf}
 use Rattle.routine.specs.Layout.{edges, within}
 use Rattle.routine.specs.Reader.{WellFormed}
-use Rattle.routine.specs.declared.refusal.Verdict.the-variants.{Passed}
+use Rattle.refusal.specs.declared.Verdict.the-variants.{Passed}
 use Rattle.routine.proofs.Laws.{holds-true, allowed, and-parts, within-limits, scan-passed}
 use Rattle.run.specs.Paths.{steps, vertexAt, edgeAmong, isEdge, arrivalCheck, check32, pathCheck}
 use Rattle.state.proofs.Cases.{or-cases}

@@ -2,7 +2,7 @@
 -- Assumes nothing.
 use mathlib.Core.Path.{sym, ap, _∙_}
 use lib.ListN.{length}
-use Rattle.routine.specs.Replies.{replyOutcome}
+use Rattle.refusal.specs.Replies.{replyOutcome}
 use Rattle.routine.proofs.Accepted.{accepted, unwritten}
 use Rattle.run.specs.Report.{reportBytes}
 use Rattle.run.proofs.Ways.{refused-way, read-way, no-demand}

@@ -4,8 +4,8 @@ use mathlib.Core.Path.{refl, sym, ap, _∙_}
 use Prim.Native.Nat.{ℕ}
 use native.Mathlib.Omega.{arith}
 use lib.ListN.{length}
-use Rattle.routine.specs.declared.refusal.Refusal.the-variants.{ShortReportBuffer}
-use Rattle.routine.specs.declared.refusal.Reply.the-variants.{Written, Denied}
+use Rattle.refusal.specs.declared.Refusal.the-variants.{ShortReportBuffer}
+use Rattle.refusal.specs.declared.Reply.the-variants.{Written, Denied}
 use Rattle.run.proofs.Bytes.{report-length}
 use Rattle.run.proofs.Rules.Demand.{demand3}
 use Rattle.run.proofs.Ways.{denied-way, path-way, short-way, written-way}

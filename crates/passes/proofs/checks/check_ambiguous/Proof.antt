@@ -7,9 +7,9 @@ use borrow.Author.Needs.{needs}
 use Rattle.labels.specs.Ambiguity.{isAmbiguous}
 use Rattle.labels.specs.Checks.{check21}
 use Rattle.routine.proofs.Laws.{Undecided, start, stop, next, done}
-use Rattle.routine.specs.Checks.{holds, firstFailed}
+use Rattle.refusal.specs.Checks.{holds, firstFailed}
 use Rattle.routine.specs.Layout.{arrays, vertices}
-use Rattle.routine.specs.declared.refusal.Refusal.the-variants.{AmbiguousReference}
+use Rattle.refusal.specs.declared.Refusal.the-variants.{AmbiguousReference}
 use Rattle.passes.proofs.checks.check_ambiguous.Statement.{statement}
 use Rattle.passes.proofs.checks.check_ambiguous.Tie as tie
 

@@ -6,9 +6,9 @@ use Prim.Native.Nat.{_-_}
 use native.Mathlib.Omega.{arith}
 use Rattle.labels.specs.Ambiguity.{isAmbiguous}
 use Rattle.routine.proofs.Laws.{Undecided, start, stop, next, done}
-use Rattle.routine.specs.Checks.{holds}
+use Rattle.refusal.specs.Checks.{holds}
 use Rattle.routine.specs.Layout.{arrays}
-use Rattle.routine.specs.declared.refusal.Refusal.the-variants.{AmbiguousReference}
+use Rattle.refusal.specs.declared.Refusal.the-variants.{AmbiguousReference}
 use Rattle.labels.proofs.Faults.{faulty, faultless}
 use Rattle.passes.proofs.checks.check_ambiguous_at.Statement.{statement}
 use Rattle.passes.proofs.checks.check_ambiguous_at.Tie as tie

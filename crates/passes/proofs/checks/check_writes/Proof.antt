@@ -6,9 +6,9 @@ use native.Mathlib.Omega.{arith}
 use borrow.Author.Needs.{needs}
 use Rattle.labels.specs.Checks.{writesIn, check20}
 use Rattle.routine.proofs.Laws.{Undecided, start, stop, next, done}
-use Rattle.routine.specs.Checks.{holds, firstFailed}
+use Rattle.refusal.specs.Checks.{holds, firstFailed}
 use Rattle.routine.specs.Layout.{arrays, vertices}
-use Rattle.routine.specs.declared.refusal.Refusal.the-variants.{WritesInArgument}
+use Rattle.refusal.specs.declared.Refusal.the-variants.{WritesInArgument}
 use Rattle.passes.proofs.checks.check_writes.Statement.{statement}
 use Rattle.passes.proofs.checks.check_writes.Tie as tie
 

@@ -7,9 +7,9 @@ use native.Mathlib.Omega.{arith}
 use borrow.Author.Needs.{needs}
 use Rattle.labels.specs.Checks.{writesIn}
 use Rattle.routine.proofs.Laws.{Undecided, start, stop, next, done}
-use Rattle.routine.specs.Checks.{holds}
+use Rattle.refusal.specs.Checks.{holds}
 use Rattle.routine.specs.Layout.{arrays}
-use Rattle.routine.specs.declared.refusal.Refusal.the-variants.{WritesInArgument}
+use Rattle.refusal.specs.declared.Refusal.the-variants.{WritesInArgument}
 use Rattle.labels.proofs.Faults.{faulty, faultless}
 use Rattle.passes.proofs.checks.check_writes_at.Statement.{statement}
 use Rattle.passes.proofs.checks.check_writes_at.Tie as tie

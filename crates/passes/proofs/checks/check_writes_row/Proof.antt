@@ -2,7 +2,7 @@
 -- Assumes nothing.
 use mathlib.Core.Path.{sym, _∙_}
 use borrow.Author.Needs.{needs}
-use Rattle.routine.specs.declared.refusal.Refusal.the-variants.{WritesInArgument}
+use Rattle.refusal.specs.declared.Refusal.the-variants.{WritesInArgument}
 use Rattle.passes.proofs.Faults.{row-passes, writes-cell}
 use Rattle.passes.proofs.checks.check_writes_row.Statement.{statement}
 use Rattle.passes.proofs.checks.check_writes_row.Tie as tie

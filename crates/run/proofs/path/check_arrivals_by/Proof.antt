@@ -6,8 +6,8 @@ use Prim.Native.Nat.{ℕ, zero, suc, _+_, _-_}
 use native.Mathlib.Omega.{arith}
 use borrow.Author.Needs.{needs}
 use lib.ListN.{length}
-use Rattle.routine.specs.Checks.{_andThen_, firstFailed}
-use Rattle.routine.specs.declared.refusal.Verdict.{Verdict}
+use Rattle.refusal.specs.Checks.{_andThen_, firstFailed}
+use Rattle.refusal.specs.declared.Verdict.{Verdict}
 use Rattle.routine.proofs.Laws.{Undecided, start, stop, next, done}
 use Rattle.run.specs.EdgeTable.{arrivalBy}
 use Rattle.run.specs.Paths.{steps, arrivalCheck, check32}
