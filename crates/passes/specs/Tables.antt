@@ -1,20 +1,17 @@
 -- Tables of the label rules: the cell of vertex v and array a stands at 8 v + a.
 -- Assumes nothing.
 use mathlib.Core.Path.{_≡_}
-use mathlib.Core.Bool.{Bool, false, _||_, cond}
+use mathlib.Core.Bool.{Bool, _||_, cond}
 use mathlib.Core.List.{List}
-use Prim.Native.Nat.{ℕ, zero, suc, _+_, _*_, _/_, _%_, _<_}
+use Prim.Native.Nat.{ℕ, _+_, _*_, _/_, _%_, _<_}
 use lib.Dec.{ltb}
 use lib.ListN.{length, getD}
 use Rattle.flow.specs.Solver.{column, solution}
 use Rattle.routine.specs.Layout.{arrays, vertices}
 use Rattle.routine.specs.declared.action.Action.{Action}
 use Rattle.routine.specs.declared.action.Action.the-variants.{Nothing}
-use Rattle.refusal.specs.declared.Verdict.{Verdict}
-use Rattle.refusal.specs.declared.Verdict.the-variants.{Passed}
 use Rattle.sets.specs.Sets.{has}
-use Rattle.labels.specs.Checks.{programmerCheck}
-use Rattle.labels.specs.Events.{edgeBytes, kind, isIn, event, versionSet}
+use Rattle.labels.specs.Events.{edgeBytes, event, versionSet}
 use Rattle.labels.specs.Letters.{letterByte}
 use Rattle.labels.specs.Reaching.{reachedSets}
 use Rattle.labels.specs.Uses.{useGives, useOf}
@@ -56,21 +53,3 @@ pub record Pass (file : List ℕ) (along : Bool) (gives passes sets : List ℕ) 
   pub size : length sets ≡ 8 * vertices file
   pub solved : (a : ℕ) → a < 8 → column sets (vertices file) a
       ≡ solution (edgeBytes file) along (column gives (vertices file) a) (column passes (vertices file) a) (vertices file)
-
--- ---- 20 and 21
-
--- whether a test passes below n
-unfoldable pub anyBelow : (ℕ → Bool) → ℕ → Bool
-anyBelow test zero = false
-anyBelow test (suc n) = anyBelow test n || test n
-
--- a mask for each array: of an in argument bit 3, which its writes give
-pub record InMasks (file masks : List ℕ) : Type 0 where
-  pub size : length masks ≡ 8
-  pub are : (a : ℕ) → a < arrays file → getD masks a 0 ≡ cond (isIn (kind file a)) 0b1000 0
-
--- the answer, and where it passes the table of reached vertices
-pub record Checked (file : List ℕ) (answer : Verdict) (reached : List ℕ) : Type 0 where
-  pub answers : answer ≡ programmerCheck file
-  pub size : length reached ≡ 8 * vertices file
-  pub reaches : answer ≡ Passed → Reached file reached

@@ -1,7 +1,6 @@
-// The label rules of document 01, computed: for each label its use, leaving version, reaching set and kept set; and refusals 20 and 21.
+// The label rules of document 01, computed: for each label its use, leaving version, reaching set and kept set.
 // One pass of the solver for each rule; the tables have an entry for each array and vertex.
 mod ambiguity;
-pub mod checks;
 pub mod events;
 mod kept;
 pub mod pass;

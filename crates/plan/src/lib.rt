@@ -3,7 +3,6 @@ mod contents;
 mod label;
 mod writer;
 
-use passes::checks;
 use passes::events;
 use passes::pass;
 use passes::tables;

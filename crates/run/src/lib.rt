@@ -4,7 +4,6 @@ pub mod record;
 mod report;
 mod walk;
 
-use passes::checks;
 use passes::events;
 use passes::pass;
 use passes::tables;

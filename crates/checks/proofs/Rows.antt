@@ -25,8 +25,9 @@ use Rattle.labels.specs.Checks.{writesIn}
 use Rattle.labels.specs.Events.{kind, isIn, event, isWrite}
 use Rattle.labels.specs.Uses.{useGives}
 use Rattle.labels.proofs.Faults.{faultless}
-use Rattle.passes.specs.Tables.{Cells, UseGives, anyBelow, InMasks}
+use Rattle.passes.specs.Tables.{Cells, UseGives}
+use Rattle.checks.specs.Rows.{anyBelow, InMasks}
 use Rattle.passes.proofs.Steps.{use-reference}
 
 -- ---- a test below n
 

@@ -10,8 +10,8 @@ use Rattle.refusal.specs.Checks.{holds}
 use Rattle.routine.specs.Layout.{arrays}
 use Rattle.refusal.specs.declared.Refusal.the-variants.{AmbiguousReference}
 use Rattle.labels.proofs.Faults.{faulty, faultless}
-use Rattle.passes.proofs.checks.check_ambiguous_at.Statement.{statement}
-use Rattle.passes.proofs.checks.check_ambiguous_at.Tie as tie
+use Rattle.checks.proofs.check_ambiguous_at.Statement.{statement}
+use Rattle.checks.proofs.check_ambiguous_at.Tie as tie
 
 abbrev Inv-loop : tie.InvT-loop
 Inv-loop file h v uses arriving m a₀ a = Undecided (λ a. holds (not (isAmbiguous file a v)) (AmbiguousReference v a)) (arrays file) a

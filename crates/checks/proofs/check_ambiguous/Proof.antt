@@ -10,8 +10,8 @@ use Rattle.routine.proofs.Laws.{Undecided, start, stop, next, done}
 use Rattle.refusal.specs.Checks.{holds, firstFailed}
 use Rattle.routine.specs.Layout.{arrays, vertices}
 use Rattle.refusal.specs.declared.Refusal.the-variants.{AmbiguousReference}
-use Rattle.passes.proofs.checks.check_ambiguous.Statement.{statement}
-use Rattle.passes.proofs.checks.check_ambiguous.Tie as tie
+use Rattle.checks.proofs.check_ambiguous.Statement.{statement}
+use Rattle.checks.proofs.check_ambiguous.Tie as tie
 
 abbrev Inv-loop : tie.InvT-loop
 Inv-loop file h uses arriving n v₀ v = Undecided (λ v. firstFailed (λ a. holds (not (isAmbiguous file a v)) (AmbiguousReference v a)) 0 (arrays file)) (vertices file) v

@@ -1,6 +1,6 @@
 // Refusals 20 and 21, first by vertex, then by array (document 01, "Who can cause a refusal").
-use crate::tables;
 use labels::event;
+use passes::tables;
 use refusal::Refusal;
 use refusal::Verdict;
 use routine::array;
@@ -14,7 +14,8 @@ ghost use lib.ListN.{length, getD};
 ghost use Rattle.labels.specs.Ambiguity.{arrivingSets, isAmbiguous};
 ghost use Rattle.labels.specs.Checks.{writesIn, check20, check21};
 ghost use Rattle.labels.specs.Routines.{ReadAs, Edges};
-ghost use Rattle.passes.specs.Tables.{Cells, Versions, UseGives, anyBelow, InMasks, Checked};
+ghost use Rattle.checks.specs.Rows.{anyBelow, InMasks, Checked};
+ghost use Rattle.passes.specs.Tables.{Cells, Versions, UseGives};
 ghost use Rattle.refusal.specs.Checks.{holds, firstFailed};
 ghost use Rattle.routine.specs.Layout.{arrays, vertices};
 ghost use Rattle.refusal.specs.declared.Refusal.the-variants.{WritesInArgument, AmbiguousReference};

@@ -8,10 +8,10 @@ use native.Mathlib.Omega.{arith}
 use lib.Bits.{bitAnd}
 use lib.Dec.{eqb}
 use lib.ListN.{getD}
-use Rattle.passes.specs.Tables.{anyBelow}
-use Rattle.passes.proofs.Faults.{any-none, any-next}
-use Rattle.passes.proofs.checks.row_writes.Statement.{statement}
-use Rattle.passes.proofs.checks.row_writes.Tie as tie
+use Rattle.checks.specs.Rows.{anyBelow}
+use Rattle.checks.proofs.Rows.{any-none, any-next}
+use Rattle.checks.proofs.row_writes.Statement.{statement}
+use Rattle.checks.proofs.row_writes.Tie as tie
 
 abbrev Inv-loop : tie.InvT-loop
 Inv-loop uses v masks any₀ a₀ any a = (a ≤ 8) × (any ≡ anyBelow (λ b. not (eqb (bitAnd (getD uses (8 * v + b) 0) (getD masks b 0)) 0)) a)

@@ -9,8 +9,8 @@ use Rattle.routine.proofs.Laws.{Undecided, start, stop, next, done}
 use Rattle.refusal.specs.Checks.{holds, firstFailed}
 use Rattle.routine.specs.Layout.{arrays, vertices}
 use Rattle.refusal.specs.declared.Refusal.the-variants.{WritesInArgument}
-use Rattle.passes.proofs.checks.check_writes.Statement.{statement}
-use Rattle.passes.proofs.checks.check_writes.Tie as tie
+use Rattle.checks.proofs.check_writes.Statement.{statement}
+use Rattle.checks.proofs.check_writes.Tie as tie
 
 abbrev Inv-loop : tie.InvT-loop
 Inv-loop file h uses masks n v₀ v = Undecided (λ v. firstFailed (λ a. holds (not (writesIn file a v)) (WritesInArgument v a)) 0 (arrays file)) (vertices file) v

@@ -6,8 +6,8 @@ use native.Mathlib.Omega.{arith}
 use borrow.Author.Needs.{needs}
 use Rattle.labels.specs.Checks.{check21, programmerCheck}
 use Rattle.routine.proofs.Laws.{fails, passes}
-use Rattle.passes.proofs.checks.check.Statement.{statement}
-use Rattle.passes.proofs.checks.check.Tie as tie
+use Rattle.checks.proofs.check.Statement.{statement}
+use Rattle.checks.proofs.check.Tie as tie
 
 check-writes-requires : tie.Need-check-writes-requires
 check-writes-requires c κs = let p = c .before .before .before .before .before .before .before .before .pre in (p .0, p .1 .1 .1 .0)

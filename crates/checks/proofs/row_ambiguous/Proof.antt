@@ -8,10 +8,10 @@ use native.Mathlib.Omega.{arith}
 use borrow.Author.Needs.{needs}
 use lib.ListN.{getD}
 use Rattle.sets.specs.Sets.{has, several}
-use Rattle.passes.specs.Tables.{anyBelow}
-use Rattle.passes.proofs.Faults.{any-none, any-next}
-use Rattle.passes.proofs.checks.row_ambiguous.Statement.{statement}
-use Rattle.passes.proofs.checks.row_ambiguous.Tie as tie
+use Rattle.checks.specs.Rows.{anyBelow}
+use Rattle.checks.proofs.Rows.{any-none, any-next}
+use Rattle.checks.proofs.row_ambiguous.Statement.{statement}
+use Rattle.checks.proofs.row_ambiguous.Tie as tie
 
 abbrev Inv-loop : tie.InvT-loop
 Inv-loop uses arriving v any₀ a₀ any a = (a ≤ 8) × (any ≡ anyBelow (λ b. has (getD uses (8 * v + b) 0) 0 && several (getD arriving (8 * v + b) 0)) a)

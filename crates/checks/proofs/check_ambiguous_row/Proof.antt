@@ -3,9 +3,9 @@
 use mathlib.Core.Path.{sym, _∙_}
 use borrow.Author.Needs.{needs}
 use Rattle.refusal.specs.declared.Refusal.the-variants.{AmbiguousReference}
-use Rattle.passes.proofs.Faults.{row-passes, ambiguous-cell}
-use Rattle.passes.proofs.checks.check_ambiguous_row.Statement.{statement}
-use Rattle.passes.proofs.checks.check_ambiguous_row.Tie as tie
+use Rattle.checks.proofs.Rows.{row-passes, ambiguous-cell}
+use Rattle.checks.proofs.check_ambiguous_row.Statement.{statement}
+use Rattle.checks.proofs.check_ambiguous_row.Tie as tie
 
 row-ambiguous-requires : tie.Need-row-ambiguous-requires
 row-ambiguous-requires c κs = search needs

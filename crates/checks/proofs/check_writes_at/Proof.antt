@@ -11,8 +11,8 @@ use Rattle.refusal.specs.Checks.{holds}
 use Rattle.routine.specs.Layout.{arrays}
 use Rattle.refusal.specs.declared.Refusal.the-variants.{WritesInArgument}
 use Rattle.labels.proofs.Faults.{faulty, faultless}
-use Rattle.passes.proofs.checks.check_writes_at.Statement.{statement}
-use Rattle.passes.proofs.checks.check_writes_at.Tie as tie
+use Rattle.checks.proofs.check_writes_at.Statement.{statement}
+use Rattle.checks.proofs.check_writes_at.Tie as tie
 
 abbrev Inv-loop : tie.InvT-loop
 Inv-loop file h v uses m a₀ a = Undecided (λ a. holds (not (writesIn file a v)) (WritesInArgument v a)) (arrays file) a

@@ -9,9 +9,9 @@ use lib.ListN.{length, getD, length-set}
 use Rattle.labels.specs.Events.{kind, isIn}
 use Rattle.routine.specs.Layout.{arrays}
 use Rattle.routine.specs.declared.array.ArrayRecord.{ArrayRecord}
-use Rattle.passes.proofs.Faults.{entries-next}
-use Rattle.passes.proofs.checks.in_masks.Statement.{statement}
-use Rattle.passes.proofs.checks.in_masks.Tie as tie
+use Rattle.checks.proofs.Rows.{entries-next}
+use Rattle.checks.proofs.in_masks.Statement.{statement}
+use Rattle.checks.proofs.in_masks.Tie as tie
 
 abbrev Inv-loop : tie.InvT-loop
 Inv-loop file masks₀ m a₀ masks a =

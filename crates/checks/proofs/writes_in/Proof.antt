@@ -13,10 +13,10 @@ use Rattle.labels.specs.Events.{event}
 use Rattle.labels.specs.Uses.{useGives}
 use Rattle.routine.specs.Arrays.{arrayOf}
 use Rattle.routine.specs.declared.array.ArrayRecord.{ArrayRecord}
 use Rattle.passes.proofs.Cells.{few-cells, in-table}
 use Rattle.passes.proofs.Steps.{use-write}
-use Rattle.passes.proofs.checks.writes_in.Statement.{statement}
-use Rattle.passes.proofs.checks.writes_in.Tie as tie
+use Rattle.checks.proofs.writes_in.Statement.{statement}
+use Rattle.checks.proofs.writes_in.Tie as tie
 
 swap : (x y : Bool) → (x && y) ≡ (y && x)
 swap true true = refl

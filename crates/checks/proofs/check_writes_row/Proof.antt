@@ -3,9 +3,9 @@
 use mathlib.Core.Path.{sym, _∙_}
 use borrow.Author.Needs.{needs}
 use Rattle.refusal.specs.declared.Refusal.the-variants.{WritesInArgument}
-use Rattle.passes.proofs.Faults.{row-passes, writes-cell}
-use Rattle.passes.proofs.checks.check_writes_row.Statement.{statement}
-use Rattle.passes.proofs.checks.check_writes_row.Tie as tie
+use Rattle.checks.proofs.Rows.{row-passes, writes-cell}
+use Rattle.checks.proofs.check_writes_row.Statement.{statement}
+use Rattle.checks.proofs.check_writes_row.Tie as tie
 
 row-writes-requires : tie.Need-row-writes-requires
 row-writes-requires c κs = search needs

@@ -4,10 +4,10 @@ use mathlib.Core.Path.{ap₂, _∙_}
 use mathlib.Core.Bool.{_&&_}
 use native.Mathlib.Omega.{arith}
 use borrow.Author.Needs.{needs}
 use Rattle.passes.proofs.Cells.{few-cells, in-table}
-use Rattle.passes.proofs.Faults.{ambiguous-cell}
-use Rattle.passes.proofs.checks.is_ambiguous.Statement.{statement}
-use Rattle.passes.proofs.checks.is_ambiguous.Tie as tie
+use Rattle.checks.proofs.Rows.{ambiguous-cell}
+use Rattle.checks.proofs.is_ambiguous.Statement.{statement}
+use Rattle.checks.proofs.is_ambiguous.Tie as tie
 
 mul-at : tie.Need-mul-at
 mul-at c = let s = c .before .before .before in omega (arith, few-cells (s .pre .0) (s .pre .1 .1 .1 .0) (s .pre .1 .1 .0))
