@@ -19,7 +19,7 @@ cleaned-requires c κs =
     subst Current (sym (c .moved .ensures)) (moved-current (c .before .of-letter .result) (s .args .t) (s .args .s) (s .pre .1 .0) (s .pre .0))
 
 returns : tie.Need-returns
-returns c = cc
+returns c = rw (c .cleaned .ensures, c .before .moved .ensures, c .before .before .of-letter .ensures)
 
 pub labelled-by-spec : {M : Type 1} → statement M
 labelled-by-spec = tie.close (tie.spec of-letter-requires moved-requires cleaned-requires returns)

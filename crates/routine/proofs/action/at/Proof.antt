@@ -1,7 +1,10 @@
 -- `action::at` meets its contract.
 -- Assumes nothing.
+use mathlib.Core.Path.{ap, _∙_}
+use Prim.Native.Nat.{ℕ}
 use borrow.Author.Needs.{needs}
-use Rattle.routine.specs.Actions.{action}
+use lib.ListN.{getD}
+use Rattle.routine.specs.Actions.{actionOf, action}
 use Rattle.routine.proofs.action.at.Statement.{statement}
 use Rattle.routine.proofs.action.at.Tie as tie
 
@@ -16,7 +19,9 @@ of-requires c κs = search needs
 
 returns : tie.Need-returns
 unfolding action
-returns c = cc
+returns c =
+    let file = c .before .before .before .before .args .file .now in
+    c .of .ensures ∙ ap (λ (n : ℕ). actionOf (getD file n 0)) (c .before .before .place .ensures .0)
 
 pub at-spec : {M : Type 1} → statement M
 at-spec = tie.close (tie.spec place-requires shared-slice-read-of of-requires returns)

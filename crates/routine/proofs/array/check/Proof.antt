@@ -19,7 +19,7 @@ check-requires c κs = search needs
 
 returns : tie.Need-returns
 unfolding arrayCheck
-returns c = cc
+returns c = rw (c .check .ensures, c .before .record-of .ensures)
 
 pub check-spec : {M : Type 1} → statement M
 check-spec = tie.close (tie.spec record-of-requires mul-check add-check check-requires returns)

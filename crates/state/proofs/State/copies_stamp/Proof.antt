@@ -19,7 +19,7 @@ has-current-requires c κs = search needs
 
 returns : tie.Need-returns
 unfolding copies
-returns c = cc
+returns c = rw (c .has-current .ensures, c .before .is-d .ensures, c .before .before .member .ensures, c .before .before .before .takes-up .ensures)
 
 pub copies-stamp-spec : {M : Type 1} → statement M
 copies-stamp-spec =

@@ -8,7 +8,7 @@ is-kept-requires : tie.Need-is-kept-requires
 is-kept-requires c κs = search needs
 
 returns : tie.Need-returns
-returns c = cc
+returns c = rw (c .before .is-kept .ensures)
 
 pub takes-up-spec : {M : Type 1} → statement M
 takes-up-spec = tie.close (tie.spec is-kept-requires returns)

@@ -14,7 +14,7 @@ at-requires-3 : tie.Need-at-requires-3
 at-requires-3 c κs = search needs
 
 returns : tie.Need-returns
-returns c = cc
+returns c = rw (c .at3 .ensures, c .before .at2 .ensures, c .before .before .at .ensures)
 
 pub of-spec : {M : Type 1} → statement M
 of-spec = tie.close (tie.spec at-requires at-requires-2 at-requires-3 returns)
