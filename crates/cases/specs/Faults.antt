@@ -4,7 +4,7 @@ use mathlib.Core.List.{List, [], _∷_}
 use Prim.Native.Nat.{ℕ}
 use lib.ListN.{replicate}
 use Rattle.plan.specs.Calls.{Planned}
-use Rattle.plan.specs.Plan.{planBytes}
+use Rattle.planbytes.specs.Plan.{planBytes}
 use Rattle.routine.specs.declared.refusal.Refusal.{Refusal}
 use Rattle.routine.specs.declared.refusal.Reply.{Reply}
 use Rattle.routine.specs.declared.refusal.Reply.the-variants.{Denied}

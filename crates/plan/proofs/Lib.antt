@@ -1,3 +1,1 @@
-pub mod Cells
-pub mod Sizes
 pub mod Ways

@@ -1,12 +1,10 @@
-// The plan of document 01: its bytes, and the call that writes them.
-mod contents;
-mod label;
-mod writer;
-
+// The call that plans a routine (document 01).
 use labels::checks;
 use labels::events;
 use labels::pass;
 use labels::tables;
+use planbytes::contents;
+use planbytes::writer;
 use routine::header::Header;
 use routine::reader;
 use routine::reader::Answer;
@@ -19,7 +17,7 @@ ghost use lib.ListN.{length};
 ghost use Rattle.labels.specs.Routines.{ReadAs, Edges};
 ghost use Rattle.labels.specs.Tables.{Versions, UseGives, Reached};
 ghost use Rattle.plan.specs.Calls.{PlannedRead, Planned};
-ghost use Rattle.plan.specs.Tables.{Tabled};
+ghost use Rattle.planbytes.specs.Tables.{Tabled};
 ghost use Rattle.routine.specs.Layout.{vertices, edges};
 
 // The tables of letters, reaching sets and kept sets. `kept` is handed the table of reached vertices.

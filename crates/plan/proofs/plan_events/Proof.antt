@@ -4,7 +4,7 @@ use mathlib.Core.Path.{_≡_, refl, sym, ap, _∙_}
 use Prim.Native.Nat.{ℕ}
 use native.Mathlib.Omega.{arith}
 use lib.ListN.{length}
-use Rattle.plan.proofs.Sizes.{plan-length}
+use Rattle.planbytes.proofs.Sizes.{plan-length}
 use Rattle.plan.proofs.Ways.{denied-way, short-way, written-way}
 use Rattle.routine.specs.declared.refusal.Refusal.the-variants.{ShortPlanBuffer}
 use Rattle.routine.specs.declared.refusal.Reply.the-variants.{Written, Denied}

@@ -1,0 +1,106 @@
+// The plan's contents: for each vertex the index of its first label and how many (document 01, "Plan and report").
+use crate::label::Label;
+use routine::header::Header;
+ghost use mathlib.Core.Path.{_≡_};
+ghost use mathlib.Core.Bool.{cond};
+ghost use mathlib.Core.List.{_++_};
+ghost use Prim.Native.Nat.{_*_, _≤_, _<_};
+ghost use lib.Dec.{eqb};
+ghost use lib.ListN.{length, getD};
+ghost use Rattle.labels.specs.Routines.{ReadAs};
+ghost use Rattle.labels.specs.Tables.{Versions};
+ghost use Rattle.planbytes.specs.Plan.{labelsAt, labelCount, planLength, contents};
+ghost use Rattle.routine.specs.Layout.{vertices};
+ghost use Rattle.words.specs.Tables.{wrote};
+ghost use Rattle.words.specs.Words.{bytes16};
+
+// Bytes of an entry of the contents, and of mark and counts before it.
+pub const ENTRY: usize = 4;
+
+pub const HEAD: usize = 8;
+
+// 1 where a cell has a version, else 0.
+fn label_at(versions: &[u16], at: usize) -> usize
+    requires { ⌜ at < length (now versions) ⌝ }
+    ensures { λ r. ⌜ r ≡ cond (eqb (getD (now (versions .entry)) at 0) 0) 0 1 ⌝ }
+{
+    if versions[at] == 0 {
+        return 0;
+    }
+    1
+}
+
+// How many labels vertex v has.
+fn labels_at(file: &[u8], h: Header, v: usize, versions: &[u16]) -> usize
+    requires { ⌜ ReadAs (now file) h ⌝ }
+    requires { ⌜ Versions (now file) (now versions) ⌝ }
+    requires { ⌜ v < vertices (now file) ⌝ }
+    ensures { λ r. ⌜ r ≡ labelsAt (now (file .entry)) v ⌝ }
+    ensures { λ r. ⌜ r ≤ 8 ⌝ }
+{
+    let m = h.arrays;
+    let mut count = 0;
+    let mut a = 0;
+    while a < m {
+        count += label_at(versions, flow::COLUMNS * v + a);
+        a += 1;
+    }
+    count
+}
+
+// How many labels the routine has.
+pub fn label_count(file: &[u8], h: Header, versions: &[u16]) -> usize
+    requires { ⌜ ReadAs (now file) h ⌝ }
+    requires { ⌜ Versions (now file) (now versions) ⌝ }
+    ensures { λ r. ⌜ r ≡ labelCount (now (file .entry)) ⌝ }
+    ensures { λ r. ⌜ r ≤ 2048 ⌝ }
+{
+    let n = h.vertices;
+    let mut count = 0;
+    let mut v = 0;
+    while v < n {
+        count += labels_at(file, h, v, versions);
+        v += 1;
+    }
+    count
+}
+
+// The length of the plan.
+pub fn plan_length(file: &[u8], h: Header, versions: &[u16]) -> usize
+    requires { ⌜ ReadAs (now file) h ⌝ }
+    requires { ⌜ Versions (now file) (now versions) ⌝ }
+    ensures { λ r. ⌜ r ≡ planLength (now (file .entry)) ⌝ }
+{
+    HEAD + ENTRY * h.vertices + Label::SIZE * label_count(file, h, versions)
+}
+
+// Writes one entry.
+fn write_entry(out: &mut [u8], first: usize, count: usize)
+    requires { ⌜ 4 ≤ length (now out) ⌝ }
+    requires { ⌜ (first < 65536) × (count < 65536) ⌝ }
+    ensures { λ _. ⌜ now (out .exit) ≡ wrote (now (out .entry)) (bytes16 first ++ bytes16 count) ⌝ }
+{
+    out[0] = (first % 256) as u8;
+    out[1] = (first / 256) as u8;
+    out[2] = (count % 256) as u8;
+    out[3] = (count / 256) as u8;
+}
+
+// Writes the contents at the front of what is lent.
+pub fn write(file: &[u8], h: Header, versions: &[u16], out: &mut [u8])
+    requires { ⌜ ReadAs (now file) h ⌝ }
+    requires { ⌜ Versions (now file) (now versions) ⌝ }
+    requires { ⌜ 4 * vertices (now file) ≤ length (now out) ⌝ }
+    ensures { λ _. ⌜ now (out .exit) ≡ wrote (now (out .entry)) (contents (now (file .entry))) ⌝ }
+{
+    let n = h.vertices;
+    let mut first = 0;
+    let mut v = 0;
+    while v < n {
+        let count = labels_at(file, h, v, versions);
+        let at = ENTRY * v;
+        write_entry(&mut out[at..], first, count);
+        first += count;
+        v += 1;
+    }
+}
