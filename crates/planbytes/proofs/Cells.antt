@@ -3,9 +3,10 @@
 use mathlib.Core.Path.{_≡_, refl, sym, ap, ap₂, subst, _∙_}
 use mathlib.Core.Bool.{Bool, true, false, cond, true≢false}
 use mathlib.Core.List.{List, [], _++_}
-use Prim.Native.Nat.{ℕ, _+_, _*_, _<_, _^_}
+use Prim.Native.Nat.{ℕ, _+_, _*_, _≤_, _<_, _^_}
 use native.Mathlib.Omega.{arith}
 use borrow.Author.Tests.{eqb-true, eq-eqb, ne-eqb}
+use lib.Bits.{bitOr, or-add-and, and-le-l, and-comm}
 use lib.Dec.{eqb}
 use lib.ListN.{length, getD, drop}
 use lib.Pow.{pow-pos}
@@ -71,6 +72,29 @@ counts-label file a v {x} {r} e f = by (isLabel file a v) refl
     by : (b : Bool) → isLabel file a v ≡ b → r ≡ cond b 1 0
     by true l = f ∙ ap flag (ne-eqb x 0 (λ z. true≢false (sym l ∙ no-version file a v e z)))
     by false l = f ∙ ap flag (eq-eqb x 0 (e ∙ ap (λ (b : Bool). cond b (2 ^ versionOf (event file a v)) 0) l))
+
+-- nothing where the column is no array's
+pub counts-none : (x : ℕ) {r : ℕ} {b : Bool} → b ≡ false → r ≡ cond (eqb x 0) 0 (cond b 1 0) → r ≡ 0
+counts-none x {r} {b} e f = f ∙ ap (λ (q : Bool). cond (eqb x 0) 0 (cond q 1 0)) e ∙ by (eqb x 0)
+  where
+    by : (z : Bool) → _≡_ {A = ℕ} (cond z 0 0) 0
+    by true = refl
+    by false = refl
+
+pub counts-one : (x : ℕ) {r : ℕ} {b : Bool} → b ≡ true → r ≡ cond (eqb x 0) 0 (cond b 1 0) → r ≡ cond (eqb x 0) 0 1
+counts-one x {r} {b} e f = f ∙ ap (λ (q : Bool). cond (eqb x 0) 0 (cond q 1 0)) e
+
+pub counts-few : (x : ℕ) (b : Bool) → cond (eqb x 0) 0 (cond b 1 0) ≤ 1
+counts-few x b = by (eqb x 0) b
+  where
+    by : (z c : Bool) → cond z 0 (cond c 1 0) ≤ 1
+    by true c = omega arith
+    by false true = omega arith
+    by false false = omega arith
+
+-- a union is empty if both are
+pub or-none : (a b : ℕ) → bitOr a b ≡ 0 → (a ≡ 0) × (b ≡ 0)
+or-none a b e = (omega (arith, or-add-and a b, and-comm a b, and-le-l b a), omega (arith, or-add-and a b, and-le-l a b))
 
 -- the leaving byte that a label's version and letter give
 leaving-is : (file : List ℕ) (a v : ℕ) {x letter byte : ℕ} → isLabel file a v ≡ true → x ≡ versionSet (event file a v) → letter ≡ letterByte (useOf file a v)

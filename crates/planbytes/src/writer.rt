@@ -4,11 +4,12 @@ use crate::label;
 use crate::label::Label;
 use routine::header::Header;
 ghost use mathlib.Core.Path.{_≡_};
-ghost use Prim.Native.Nat.{_≤_, _<_};
-ghost use lib.ListN.{length};
+ghost use mathlib.Core.Bool.{true};
+ghost use Prim.Native.Nat.{ℕ, _+_, _*_, _≤_, _<_};
+ghost use lib.ListN.{length, getD};
 ghost use Rattle.labels.specs.Routines.{ReadAs};
-ghost use Rattle.planbytes.specs.Plan.{planHead, labelEntry, labelRow, labels, planBytes};
-ghost use Rattle.planbytes.specs.Tables.{Tabled, Leaving};
+ghost use Rattle.planbytes.specs.Plan.{labelCount, planHead, labelEntry, labelRow, labels, planBytes};
+ghost use Rattle.planbytes.specs.Tables.{Tabled, Firsts, Leaving};
 ghost use Rattle.routine.specs.Layout.{arrays, vertices};
 ghost use Rattle.words.specs.Tables.{wrote};
 
@@ -77,7 +78,21 @@ fn write_label(
     Label::SIZE
 }
 
-// Writes the labels of vertex v, and returns how many bytes these are.
+// Whether no cell of vertex v has a version. One test for all eight.
+fn is_unlabelled(versions: &[u16], v: usize) -> bool
+    requires { ⌜ 8 * v + 8 ≤ length (now versions) ⌝ }
+    ensures { λ r. ⌜ (r ≡ true → (a : ℕ) → a < 8 → getD (now (versions .entry)) (8 * v + a) 0 ≡ 0) ⌝ }
+{
+    let mut all: u16 = 0;
+    let mut a: usize = 0;
+    while a < flow::COLUMNS {
+        all = all | versions[flow::COLUMNS * v + a];
+        a += 1;
+    }
+    all == 0
+}
+
+// Writes the labels of vertex v, and returns how many bytes these are. Most vertices have none.
 fn write_row(
     file: &[u8],
     h: Header,
@@ -95,6 +110,9 @@ fn write_row(
     ensures { λ r. ⌜ r ≡ length (labelRow (now (file .entry)) v) ⌝ }
     ensures { λ _. ⌜ now (out .exit) ≡ wrote (now (out .entry)) (labelRow (now (file .entry)) v) ⌝ }
 {
+    if is_unlabelled(versions, v) {
+        return 0;
+    }
     let m = h.arrays;
     let mut at = 0;
     let mut a = 0;
@@ -148,7 +166,7 @@ fn write_labels(
     }
 }
 
-// Writes the plan.
+// Writes the plan of a routine that has `count` labels.
 pub fn write(
     file: &[u8],
     h: Header,
@@ -156,15 +174,19 @@ pub fn write(
     letters: &[u8],
     reaching: &[u16],
     kept: &[u16],
+    firsts: &[u16],
+    count: usize,
     out: &mut [u8],
 )
     requires { ⌜ ReadAs (now file) h ⌝ }
+    requires { ⌜ Firsts (now file) (now firsts) ⌝ }
+    requires { ⌜ count ≡ labelCount (now file) ⌝ }
     requires { ⌜ Tabled (now file) (now versions) (now letters) (now reaching) (now kept) ⌝ }
     requires { ⌜ length (planBytes (now file)) ≤ length (now out) ⌝ }
     ensures { λ _. ⌜ now (out .exit) ≡ wrote (now (out .entry)) (planBytes (now (file .entry))) ⌝ }
 {
-    write_head(out, h.vertices, contents::label_count(file, h, versions));
-    contents::write(file, h, versions, &mut out[contents::HEAD..]);
+    write_head(out, h.vertices, count);
+    contents::write(file, h, firsts, &mut out[contents::HEAD..]);
     let at = contents::HEAD + contents::ENTRY * h.vertices;
     write_labels(file, h, versions, letters, reaching, kept, &mut out[at..]);
 }

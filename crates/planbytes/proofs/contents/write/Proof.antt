@@ -1,38 +1,64 @@
--- `contents::write` meets its contract. The invariant: the entries of the vertices before v are written, and `first` is how many labels these have.
--- The measure is what is left. Assumes nothing.
-use mathlib.Core.Path.{_≡_, refl}
+-- `contents::write` meets its contract. The invariant: the entries of the vertices before v are written. The measure is what is left.
+-- Assumes nothing.
+use mathlib.Core.Path.{_≡_}
 use Prim.Native.Nat.{_-_}
 use native.Mathlib.Omega.{arith}
 use borrow.Author.Needs.{needs}
-use Rattle.planbytes.specs.Plan.{labelsBefore, contentsEntry, contents}
+use Rattle.planbytes.specs.Plan.{contentsEntry, contents}
 use Rattle.routine.specs.Layout.{vertices}
 use Rattle.words.proofs.Filling.{Filled, begin, same, end, lies, lent, next}
-use Rattle.planbytes.proofs.Sizes.{before-more, before-few, entry-at}
+use Rattle.planbytes.proofs.Sizes.{Entry, entry, entry-at}
 use Rattle.planbytes.proofs.contents.write.Statement.{statement}
 use Rattle.planbytes.proofs.contents.write.Tie as tie
 
 abbrev Inv-loop : tie.InvT-loop
-Inv-loop file h versions out₀ n first₀ v₀ out first v = Filled (contentsEntry file) (vertices file) out₀ v out × (first ≡ labelsBefore file v)
+Inv-loop file firsts out₀ n v₀ out v = Filled (contentsEntry file) (vertices file) out₀ v out
 
 abbrev μ-loop : tie.MeasureT-loop
-μ-loop file h versions out₀ n first₀ v₀ out first v = n - v
+μ-loop file firsts out₀ n v₀ out v = n - v
 
 loop-holds : tie.Need-loop-holds Inv-loop μ-loop
-unfolding labelsBefore
 loop-holds c =
     let s = c .before .before .before in
-    (begin _ _ _ (omega (arith, entry-at (s .args .file .now) (vertices (s .args .file .now)))), refl)
+    begin _ _ _ (omega (arith, s .pre .1 .1, entry-at (s .args .file .now) (vertices (s .args .file .now))))
 
-labels-at-requires : tie.Need-labels-at-requires Inv-loop μ-loop
-labels-at-requires c κs = search needs
+-- what the table of indices says of vertex v
+here : (c : tie.In-loop Inv-loop μ-loop) → let s = c .before .before .before .before .before in Entry (s .args .file .now) (s .args .firsts .now) (c .before .loop .v)
+here c =
+    let s = c .before .before .before .before .before in
+    entry (s .args .file .now) (s .pre .0 .heads .laid) (s .pre .1 .0) (omega (arith, c .loop-test .taken, s .pre .0 .heads .vertices-are))
+
+mul-first : tie.Need-mul-first Inv-loop μ-loop
+mul-first c = omega arith
+
+shared-slice-read-first : tie.Need-shared-slice-read-first Inv-loop μ-loop
+shared-slice-read-first c = omega (arith, here (c .before) .inside)
+
+cast-first : tie.Need-cast-first Inv-loop μ-loop
+cast-first c = omega (arith, here (c .before) .rises, here (c .before) .few)
+
+add-count : tie.Need-add-count Inv-loop μ-loop
+add-count c = omega arith
+
+mul-count : tie.Need-mul-count Inv-loop μ-loop
+mul-count c = omega arith
+
+shared-slice-read-count : tie.Need-shared-slice-read-count Inv-loop μ-loop
+shared-slice-read-count c = here (c .before .before) .inside
+
+cast-count : tie.Need-cast-count Inv-loop μ-loop
+cast-count c = omega (arith, here (c .before .before) .few)
+
+sub-count : tie.Need-sub-count Inv-loop μ-loop
+sub-count c = here (c .before .before) .rises
 
 mul-at : tie.Need-mul-at Inv-loop μ-loop
 mul-at c = omega arith
 
 sub-write-entry : tie.Need-sub-write-entry Inv-loop μ-loop
 sub-write-entry c =
-    let l = c .before .before in
-    lies (l .loop .inv .0) (entry-at (l .before .before .before .before .args .file .now) (l .loop .v)) (omega arith)
+    let l = c .before .before .before in
+    lies (l .loop .inv) (entry-at (l .before .before .before .before .args .file .now) (l .loop .v)) (omega arith)
 
 part-write-entry-start : tie.Need-part-write-entry-start Inv-loop μ-loop
 part-write-entry-start c = sub-write-entry c
@@ -43,17 +69,11 @@ part-write-entry-end c = search needs
 write-entry-requires : tie.Need-write-entry-requires Inv-loop μ-loop
 unfolding contentsEntry
 write-entry-requires c κs =
-    let l = c .before .before .before in
+    let l = c .before .before .before .before in
     let s = l .before .before .before .before in (
-      lent (l .loop .inv .0) (entry-at (s .args .file .now) (l .loop .v)) (omega arith),
-      omega (arith, before-few (s .args .file .now) (s .pre .0 .heads .laid) (l .loop .v)),
+      lent (l .loop .inv) (entry-at (s .args .file .now) (l .loop .v)) (omega arith),
+      omega (arith, here (c .before .before .before) .rises, here (c .before .before .before) .few),
     )
-
-add-first : tie.Need-add-first Inv-loop μ-loop
-add-first c =
-    let l = c .before .before .before .before .before .before in
-    let s = l .before .before .before .before in
-    omega (arith, before-few (s .args .file .now) (s .pre .0 .heads .laid) (l .loop .v))
 
 add-v : tie.Need-add-v Inv-loop μ-loop
 add-v c = omega arith
@@ -64,21 +84,18 @@ loop-less c = omega arith
 loop-again : tie.Need-loop-again Inv-loop μ-loop
 unfolding contentsEntry
 loop-again c =
-    let l = c .before .before .before .before .before .before in
+    let l = c .before .before .before .before .before .before .before in
     let file = l .before .before .before .before .args .file .now in
-    let first = l .loop .inv .1 in
-    let count = c .before .before .before .before .labels-at .ensures .0 in (
-      next (l .loop .inv .0) (entry-at file (l .loop .v)) (omega arith) {ys = c .before .before .write-entry .last .0}
-          (rw (← first, ← count) (c .before .before .write-entry .ensures)),
-      before-more file (l .loop .v) first count,
-    )
+    let e = here (c .before .before .before .before .before .before) in
+    next (l .loop .inv) (entry-at file (l .loop .v)) (omega arith) {ys = c .before .before .write-entry .last .0}
+    (rw (← e .count-is, ← e .first-is) (c .before .before .write-entry .ensures))
 
 same-length : tie.Need-same-length Inv-loop μ-loop
-same-length c = same (c .before .loop .inv .0)
+same-length c = same (c .before .loop .inv)
 
 returns : tie.Need-returns Inv-loop μ-loop
 unfolding contents
-returns c = end (c .before .loop .inv .0) (omega arith)
+returns c = end (c .before .loop .inv) (omega arith)
 
 pub write-spec : {M : Type 1} → statement M
 write-spec =
@@ -87,13 +104,19 @@ write-spec =
     Inv-loop
     μ-loop
     loop-holds
-    labels-at-requires
+    mul-first
+    shared-slice-read-first
+    cast-first
+    add-count
+    mul-count
+    shared-slice-read-count
+    cast-count
+    sub-count
     mul-at
     sub-write-entry
     part-write-entry-start
     part-write-entry-end
     write-entry-requires
-    add-first
     add-v
     loop-less
     loop-again

@@ -10,7 +10,7 @@ use Rattle.planbytes.specs.Plan.{labelCount, contents, labels, planHead,
 use Rattle.routine.specs.Layout.{vertices}
 use Rattle.words.specs.Tables.{wrote}
 use Rattle.words.proofs.Filling.{Front, starts, lends, more}
-use Rattle.planbytes.proofs.Sizes.{labels-length, labels-at, plan-length}
+use Rattle.planbytes.proofs.Sizes.{count-few, labels-length, labels-at, plan-length}
 use Rattle.planbytes.proofs.writer.write.Statement.{statement}
 use Rattle.planbytes.proofs.writer.write.Tie as tie
 
@@ -26,16 +26,16 @@ room : (s : tie.Start) → 8 + 4 * s .args .h .vertices + length (labels (s .arg
 unfolding planLength
 room s = omega (arith, plan-length (s .args .file .now), labels-length (s .args .file .now))
 
+few : (s : tie.Start) → s .args .count ≤ 2048
+few s = omega (arith, s .pre .1 .1 .0, count-few (s .args .file .now) (s .pre .0 .heads .laid))
+
 place : (s : tie.Start) → 8 + 4 * s .args .h .vertices ≡ length (first s ++ contents (s .args .file .now))
 place s = omega (arith, labels-at (s .args .file .now))
 
 -- ---- mark and counts
 
-label-count-requires : tie.Need-label-count-requires
-label-count-requires c κs = search needs
-
 write-head-requires : tie.Need-write-head-requires
-write-head-requires c κs = (omega (arith, room (c .before .before .before .before .before .before .before .before)), omega arith)
+write-head-requires c κs = (omega (arith, room (c .before .before .before .before .before .before .before .before)), omega (arith, few (c .before .before .before .before .before .before .before .before)))
 
 abbrev start : tie.After-write-head → tie.Start
 start c = c .before .before .before .before .before .before .before .before .before
@@ -44,7 +44,7 @@ head : (c : tie.After-write-head) → Front (old (start c)) (first (start c)) (c
 head c =
     let s = start c in
     record {
-      is = c .write-head .ensures ∙ ap₂ (λ (n k : ℕ). wrote (old s) (planHead n k)) (s .pre .0 .heads .vertices-are) (c .before .label-count .ensures .0);
+      is = c .write-head .ensures ∙ ap₂ (λ (n k : ℕ). wrote (old s) (planHead n k)) (s .pre .0 .heads .vertices-are) (s .pre .1 .1 .0);
     }
 
 -- ---- the contents
@@ -61,7 +61,7 @@ part-write-end c = search needs
 write-requires : tie.Need-write-requires
 write-requires c κs =
     let s = c .before .before .before .before .before .before .before .before .before .before .before .before in
-    (s .pre .0, (s .pre .1 .0 .versions-are, lends (head (c .before .before .before)) {at = 8} refl (omega (arith, room s))))
+    (s .pre .0, (s .pre .1 .0, lends (head (c .before .before .before)) {at = 8} refl (omega (arith, room s))))
 
 abbrev behind : tie.After-write → List ℕ
 behind c =
@@ -94,7 +94,7 @@ part-write-labels-end c = search needs
 write-labels-requires : tie.Need-write-labels-requires
 write-labels-requires c κs =
     let s = c .before .before .before .before .before .before .before .before .before .before .before .before .before .before .before .before .before in
-    (s .pre .0, (s .pre .1 .0, lends (both (c .before .before .before .before)) (place s) (room s)))
+    (s .pre .0, (s .pre .1 .1 .1 .0, lends (both (c .before .before .before .before)) (place s) (room s)))
 
 same-length : tie.Need-same-length
 same-length c = search needs
@@ -109,7 +109,6 @@ pub write-spec : {M : Type 1} → statement M
 write-spec =
     tie.close
     (tie.spec
-    label-count-requires
     write-head-requires
     sub-write
     part-write-start
