@@ -7,7 +7,7 @@ use borrow.Author.Needs.{needs}
 use lib.Count.{ones}
 use Rattle.cases.specs.Cases.{AllHold, P, Q, path2, path4, cases}
 use Rattle.plan.specs.Calls.{planOf}
-use Rattle.plan.specs.Plan.{planBytes}
+use Rattle.planbytes.specs.Plan.{planBytes}
 use Rattle.routine.specs.Arrays.{arrayOf}
 use Rattle.routine.specs.Layout.{headerOf}
 use Rattle.routine.specs.Reader.{readOf}

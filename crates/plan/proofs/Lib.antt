@@ -1,3 +1,2 @@
-pub mod Cells
-pub mod Sizes
+mod Parts
 pub mod Ways

@@ -6,7 +6,7 @@ use Prim.Native.Nat.{ℕ, _≤_, _<_}
 use borrow.Author.Tests.{le-leb, lt-leb}
 use Rattle.labels.specs.Checks.{programmerCheck}
 use Rattle.plan.specs.Calls.{planCheck, planReply, planOf}
-use Rattle.plan.specs.Plan.{planLength}
+use Rattle.planbytes.specs.Plan.{planLength}
 use Rattle.refusal.specs.Checks.{_andThen_}
 use Rattle.routine.specs.Layout.{headerOf}
 use Rattle.routine.specs.Reader.{formCheck, bodyCheck, answered, readOf}

@@ -6,7 +6,7 @@ use Prim.Native.Nat.{ℕ}
 use lib.Dec.{leb}
 use lib.ListN.{length}
 use Rattle.labels.specs.Checks.{programmerCheck}
-use Rattle.plan.specs.Plan.{planBytes, planLength}
+use Rattle.planbytes.specs.Plan.{planBytes, planLength}
 use Rattle.refusal.specs.Checks.{_andThen_, holds}
 use Rattle.routine.specs.Reader.{readOf}
 use Rattle.refusal.specs.Replies.{written, filledBy, replyOutcome}

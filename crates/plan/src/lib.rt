@@ -1,11 +1,9 @@
-// The plan of document 01: its bytes, and the call that writes them.
-mod contents;
-mod label;
-mod writer;
-
+// The call that plans a routine (document 01).
 use passes::events;
 use passes::pass;
 use passes::tables;
+use planbytes::contents;
+use planbytes::writer;
 use refusal::Refusal;
 use refusal::Reply;
 use refusal::Verdict;
@@ -15,23 +13,55 @@ use routine::reader::Answer;
 ghost use mathlib.Core.Path.{_≡_};
 ghost use Prim.Native.Nat.{_*_, _≤_};
 ghost use lib.ListN.{length};
+ghost use Rattle.checks.specs.Rows.{Checked};
 ghost use Rattle.labels.specs.Routines.{ReadAs, Edges};
 ghost use Rattle.passes.specs.Tables.{Versions, UseGives, Reached};
 ghost use Rattle.plan.specs.Calls.{PlannedRead, Planned};
-ghost use Rattle.plan.specs.Tables.{Tabled};
+ghost use Rattle.planbytes.specs.Tables.{Tabled};
 ghost use Rattle.routine.specs.Layout.{vertices, edges};
 
-// The tables of letters, reaching sets and kept sets. `kept` is handed the table of reached vertices.
+// The order of the edges, the tables of events, then refusals 20 and 21. `reached` is left with the table of reached vertices;
+// `sets`, `gives` and `passes` are work slices.
+fn prepare(
+    file: &[u8],
+    h: Header,
+    order: &mut [u16],
+    versions: &mut [u16],
+    uses: &mut [u16],
+    reached: &mut [u16],
+    sets: &mut [u16],
+    gives: &mut [u16],
+    passes: &mut [u16],
+) -> Verdict
+    requires { ⌜ ReadAs (now file) h ⌝ }
+    requires { ⌜ length (now order) ≡ edges (now file) ⌝ }
+    requires { ⌜ length (now versions) ≡ 8 * vertices (now file) ⌝ }
+    requires { ⌜ length (now uses) ≡ 8 * vertices (now file) ⌝ }
+    requires { ⌜ length (now reached) ≡ 8 * vertices (now file) ⌝ }
+    requires { ⌜ length (now sets) ≡ 8 * vertices (now file) ⌝ }
+    requires { ⌜ length (now gives) ≡ 8 * vertices (now file) ⌝ }
+    requires { ⌜ length (now passes) ≡ 8 * vertices (now file) ⌝ }
+    ensures { λ _. ⌜ Edges (now (file .entry)) (now (order .exit)) ⌝ }
+    ensures { λ _. ⌜ Versions (now (file .entry)) (now (versions .exit)) ⌝ }
+    ensures { λ _. ⌜ UseGives (now (file .entry)) (now (uses .exit)) ⌝ }
+    ensures { λ r. ⌜ Checked (now (file .entry)) r (now (reached .exit)) ⌝ }
+{
+    pass::order(file, h, order);
+    events::tabulate(file, h, versions, uses);
+    checks::check(file, h, order, versions, uses, reached, sets, gives, passes)
+}
+
+// The tables of letters, reaching sets and kept sets. `kept` is handed the table of reached vertices; `uses`, once the letters are
+// known, and `passes` are work slices.
 fn tabulate(
     file: &[u8],
     h: Header,
     order: &[u16],
     versions: &[u16],
-    uses: &[u16],
+    uses: &mut [u16],
     letters: &mut [u8],
     reaching: &mut [u16],
     kept: &mut [u16],
-    gives: &mut [u16],
     passes: &mut [u16],
 )
     requires { ⌜ ReadAs (now file) h ⌝ }
@@ -41,7 +71,6 @@ fn tabulate(
     requires { ⌜ length (now letters) ≡ 8 * vertices (now file) ⌝ }
     requires { ⌜ length (now reaching) ≡ 8 * vertices (now file) ⌝ }
     requires { ⌜ Reached (now file) (now kept) ⌝ }
-    requires { ⌜ length (now gives) ≡ 8 * vertices (now file) ⌝ }
     requires { ⌜ length (now passes) ≡ 8 * vertices (now file) ⌝ }
     ensures { λ _. ⌜ Tabled (now (file .entry)) (now (versions .entry)) (now (letters .exit)) (now (reaching .exit)) (now (kept .exit)) ⌝ }
 {
@@ -54,69 +83,10 @@ fn tabulate(
         kept,
         letters,
         reaching,
-        gives,
-        passes,
-    );
-    tables::kept(file, h, order, versions, letters, kept, gives, passes);
-}
-
-// Plans a routine whose edges have an order and whose events are in tables.
-fn plan_events(
-    file: &[u8],
-    h: Header,
-    out: &mut [u8],
-    order: &[u16],
-    versions: &[u16],
-    uses: &[u16],
-    letters: &mut [u8],
-    reaching: &mut [u16],
-    kept: &mut [u16],
-    gives: &mut [u16],
-    passes: &mut [u16],
-) -> Reply
-    requires { ⌜ ReadAs (now file) h ⌝ }
-    requires { ⌜ Edges (now file) (now order) ⌝ }
-    requires { ⌜ Versions (now file) (now versions) ⌝ }
-    requires { ⌜ UseGives (now file) (now uses) ⌝ }
-    requires { ⌜ length (now letters) ≡ 8 * vertices (now file) ⌝ }
-    requires { ⌜ length (now reaching) ≡ 8 * vertices (now file) ⌝ }
-    requires { ⌜ length (now kept) ≡ 8 * vertices (now file) ⌝ }
-    requires { ⌜ length (now gives) ≡ 8 * vertices (now file) ⌝ }
-    requires { ⌜ length (now passes) ≡ 8 * vertices (now file) ⌝ }
-    ensures { λ r. ⌜ PlannedRead (now (file .entry)) (now (out .entry)) r (now (out .exit)) ⌝ }
-{
-    let checked = checks::check(
-        file,
-        h,
-        order,
-        versions,
         uses,
-        kept,
-        reaching,
-        gives,
         passes,
     );
-    if let Verdict::Failed(r) = checked {
-        return Reply::Denied(r);
-    }
-    let needed = contents::plan_length(file, h, versions);
-    if out.len() < needed {
-        return Reply::Denied(Refusal::ShortPlanBuffer { needed });
-    }
-    tabulate(
-        file,
-        h,
-        order,
-        versions,
-        uses,
-        letters,
-        reaching,
-        kept,
-        gives,
-        passes,
-    );
-    writer::write(file, h, versions, letters, reaching, kept, out);
-    Reply::Written(needed)
+    tables::kept(file, h, order, versions, letters, kept, uses, passes);
 }
 
 // Plans a routine that was read. `order` holds an entry for each edge, the other tables eight for each vertex.
@@ -144,21 +114,49 @@ fn plan_with(
     requires { ⌜ length (now passes) ≡ 8 * vertices (now file) ⌝ }
     ensures { λ r. ⌜ PlannedRead (now (file .entry)) (now (out .entry)) r (now (out .exit)) ⌝ }
 {
-    pass::order(file, h, order);
-    events::tabulate(file, h, versions, uses);
-    plan_events(
+    let checked = prepare(
         file,
         h,
-        out,
+        order,
+        versions,
+        uses,
+        kept,
+        reaching,
+        gives,
+        passes,
+    );
+    if let Verdict::Failed(r) = checked {
+        return Reply::Denied(r);
+    }
+    // `gives` now holds the index of each vertex's first label
+    let count = contents::label_count(file, h, versions, gives);
+    let needed = contents::plan_length(h, count);
+    if out.len() < needed {
+        return Reply::Denied(Refusal::ShortPlanBuffer { needed });
+    }
+    tabulate(
+        file,
+        h,
         order,
         versions,
         uses,
         letters,
         reaching,
         kept,
-        gives,
         passes,
-    )
+    );
+    writer::write(
+        file,
+        h,
+        versions,
+        letters,
+        reaching,
+        kept,
+        gives,
+        count,
+        out,
+    );
+    Reply::Written(needed)
 }
 
 // The same with work slices that are large enough.

@@ -2,7 +2,7 @@
 -- Assumes nothing.
 use mathlib.Core.Path.{sym, ap, _∙_}
 use lib.ListN.{length}
-use Rattle.plan.specs.Plan.{planBytes}
+use Rattle.planbytes.specs.Plan.{planBytes}
 use Rattle.plan.proofs.Ways.{refused-way, read-way}
 use Rattle.refusal.specs.Replies.{replyOutcome}
 use Rattle.routine.proofs.Accepted.{accepted, unwritten}

@@ -5,7 +5,7 @@ use Prim.Native.Nat.{ℕ, _*_, _≤_}
 use native.Mathlib.Omega.{arith}
 use lib.ListN.{length}
 use lib.Seq.{length-take-le}
-use borrow.Author.Needs.{needs}
+use Rattle.plan.proofs.Parts.{put-back}
 use Rattle.plan.proofs.plan_within.Statement.{statement}
 use Rattle.plan.proofs.plan_within.Tie as tie
 
@@ -94,34 +94,34 @@ plan-with-requires c κs =
     (s .pre .0, (length-take-le _ (s .args .order .now) (fits-order s) ∙ s .pre .0 .heads .edges-are, (length-take-le _ (s .args .versions .now) (fits-versions s) ∙ all, (length-take-le _ (s .args .uses .now) (fits-uses s) ∙ all, (length-take-le _ (s .args .letters .now) (fits-letters s) ∙ all, (length-take-le _ (s .args .reaching .now) (fits-reaching s) ∙ all, (length-take-le _ (s .args .kept .now) (fits-kept s) ∙ all, (length-take-le _ (s .args .gives .now) (fits-gives s) ∙ all, length-take-le _ (s .args .passes .now) (fits-passes s) ∙ all))))))))
 
 same-length : tie.Need-same-length
-same-length c = search needs
+same-length c = c .before .before .before .before .before .before .before .before .before .before .before .before .before .before .before .before .before .before .plan-with .kept .1 .1 .0
 
 same-length-2 : tie.Need-same-length-2
-same-length-2 c = search needs
+same-length-2 c = let s = c .before .before .before .before .before .before .before .before .before .before .before .before .before .before .before .before .before .before .before .before .before .before .before .before .before .before .before .before .before .before .before .before .before .before .before .before .before .before .before in let p = c .before .before .before .before .before .before .before .before .before .before .before .before .before .before .before .before .before .before .plan-with in put-back (s .args .order .now) (p .last .1 .1 .1 .0) (s .args .h .edges) (p .kept .1 .1 .1 .0)
 
 same-length-3 : tie.Need-same-length-3
-same-length-3 c = search needs
+same-length-3 c = let s = c .before .before .before .before .before .before .before .before .before .before .before .before .before .before .before .before .before .before .before .before .before .before .before .before .before .before .before .before .before .before .before .before .before .before .before .before .before .before .before in let p = c .before .before .before .before .before .before .before .before .before .before .before .before .before .before .before .before .before .before .plan-with in put-back (s .args .versions .now) (p .last .1 .1 .1 .1 .0) (8 * s .args .h .vertices) (p .kept .1 .1 .1 .1 .0)
 
 same-length-4 : tie.Need-same-length-4
-same-length-4 c = search needs
+same-length-4 c = let s = c .before .before .before .before .before .before .before .before .before .before .before .before .before .before .before .before .before .before .before .before .before .before .before .before .before .before .before .before .before .before .before .before .before .before .before .before .before .before .before in let p = c .before .before .before .before .before .before .before .before .before .before .before .before .before .before .before .before .before .before .plan-with in put-back (s .args .uses .now) (p .last .1 .1 .1 .1 .1 .0) (8 * s .args .h .vertices) (p .kept .1 .1 .1 .1 .1 .0)
 
 same-length-5 : tie.Need-same-length-5
-same-length-5 c = search needs
+same-length-5 c = let s = c .before .before .before .before .before .before .before .before .before .before .before .before .before .before .before .before .before .before .before .before .before .before .before .before .before .before .before .before .before .before .before .before .before .before .before .before .before .before .before in let p = c .before .before .before .before .before .before .before .before .before .before .before .before .before .before .before .before .before .before .plan-with in put-back (s .args .letters .now) (p .last .1 .1 .1 .1 .1 .1 .0) (8 * s .args .h .vertices) (p .kept .1 .1 .1 .1 .1 .1 .0)
 
 same-length-6 : tie.Need-same-length-6
-same-length-6 c = search needs
+same-length-6 c = let s = c .before .before .before .before .before .before .before .before .before .before .before .before .before .before .before .before .before .before .before .before .before .before .before .before .before .before .before .before .before .before .before .before .before .before .before .before .before .before .before in let p = c .before .before .before .before .before .before .before .before .before .before .before .before .before .before .before .before .before .before .plan-with in put-back (s .args .reaching .now) (p .last .1 .1 .1 .1 .1 .1 .1 .0) (8 * s .args .h .vertices) (p .kept .1 .1 .1 .1 .1 .1 .1 .0)
 
 same-length-7 : tie.Need-same-length-7
-same-length-7 c = search needs
+same-length-7 c = let s = c .before .before .before .before .before .before .before .before .before .before .before .before .before .before .before .before .before .before .before .before .before .before .before .before .before .before .before .before .before .before .before .before .before .before .before .before .before .before .before in let p = c .before .before .before .before .before .before .before .before .before .before .before .before .before .before .before .before .before .before .plan-with in put-back (s .args .kept .now) (p .last .1 .1 .1 .1 .1 .1 .1 .1 .0) (8 * s .args .h .vertices) (p .kept .1 .1 .1 .1 .1 .1 .1 .1 .0)
 
 same-length-8 : tie.Need-same-length-8
-same-length-8 c = search needs
+same-length-8 c = let s = c .before .before .before .before .before .before .before .before .before .before .before .before .before .before .before .before .before .before .before .before .before .before .before .before .before .before .before .before .before .before .before .before .before .before .before .before .before .before .before in let p = c .before .before .before .before .before .before .before .before .before .before .before .before .before .before .before .before .before .before .plan-with in put-back (s .args .gives .now) (p .last .1 .1 .1 .1 .1 .1 .1 .1 .1 .0) (8 * s .args .h .vertices) (p .kept .1 .1 .1 .1 .1 .1 .1 .1 .1 .0)
 
 same-length-9 : tie.Need-same-length-9
-same-length-9 c = search needs
+same-length-9 c = let s = c .before .before .before .before .before .before .before .before .before .before .before .before .before .before .before .before .before .before .before .before .before .before .before .before .before .before .before .before .before .before .before .before .before .before .before .before .before .before .before in let p = c .before .before .before .before .before .before .before .before .before .before .before .before .before .before .before .before .before .before .plan-with in put-back (s .args .passes .now) (p .last .1 .1 .1 .1 .1 .1 .1 .1 .1 .1 .0) (8 * s .args .h .vertices) (p .kept .1 .1 .1 .1 .1 .1 .1 .1 .1 .1 .0)
 
 returns : tie.Need-returns
-returns c = search needs
+returns c = c .before .before .before .before .before .before .before .before .before .before .before .before .before .before .before .before .before .before .plan-with .ensures
 
 pub plan-within-spec : {M : Type 1} → statement M
 plan-within-spec =

@@ -8,41 +8,35 @@ use Rattle.plan.proofs.tabulate.Tie as tie
 letters-requires : tie.Need-letters-requires
 letters-requires c κs =
     let p = c .before .before .before .before .before .before .before .before .before .before .before .before .pre in
-    let q = p .1 .1 in
-    let w = q .1 .1 .1 .1 in
-    (p .0, (p .1 .0, (q .1 .0, (q .1 .1 .0, (q .1 .1 .1 .0, w .1 .1)))))
+    (p .0, (p .1 .0, (p .1 .1 .1 .0, (p .1 .1 .1 .1 .0, (p .1 .1 .1 .1 .1 .0, p .1 .1 .1 .1 .1 .1 .1)))))
 
 reaching-requires : tie.Need-reaching-requires
 reaching-requires c κs =
     let p = c .before .before .before .before .before .before .before .before .before .before .before .before .before .before .before .before .before .before .before .before .before .before .before .before .pre in
-    let q = p .1 .1 in
-    let w = q .1 .1 .1 .1 in
     let l = c .before .before .before .before .before .before .before .before .before .before .before .letters in
-    (p .0, (p .1 .0, (q .0, (w .0, (l .ensures, (l .kept .1 .1 .1 .1 .1 .0 ∙ q .1 .1 .1 .0, (w .1 .0, l .kept .1 .1 .1 .1 .1 .1 .0 ∙ w .1 .1)))))))
+    (p .0, (p .1 .0, (p .1 .1 .0, (p .1 .1 .1 .1 .1 .1 .0, (l .ensures, (l .kept .1 .1 .1 .1 .1 .0 ∙ p .1 .1 .1 .1 .1 .0, (p .1 .1 .1 .0 .size, l .kept .1 .1 .1 .1 .1 .1 .0 ∙ p .1 .1 .1 .1 .1 .1 .1)))))))
 
 kept-requires : tie.Need-kept-requires
 kept-requires c κs =
     let p = c .before .before .before .before .before .before .before .before .before .before .before .before .before .before .before .before .before .before .before .before .before .before .before .before .before .before .before .before .before .before .before .before .before .before .before .pre in
-    let q = p .1 .1 in
-    let w = q .1 .1 .1 .1 in
     let l = c .before .before .before .before .before .before .before .before .before .before .before .before .before .before .before .before .before .before .before .before .before .before .letters in
     let r = c .before .before .before .before .before .before .before .before .before .before .reaching2 in
-    (p .0, (p .1 .0, (q .0, (l .ensures, (w .0 .size, (r .kept .1 .1 .1 .1 .1 .1 .1 .0 ∙ w .1 .0, r .kept .1 .1 .1 .1 .1 .1 .1 .1 .0 ∙ l .kept .1 .1 .1 .1 .1 .1 .0 ∙ w .1 .1))))))
+    (p .0, (p .1 .0, (p .1 .1 .0, (l .ensures, (p .1 .1 .1 .1 .1 .1 .0 .size, (r .kept .1 .1 .1 .1 .1 .1 .1 .0 ∙ p .1 .1 .1 .0 .size, r .kept .1 .1 .1 .1 .1 .1 .1 .1 .0 ∙ l .kept .1 .1 .1 .1 .1 .1 .0 ∙ p .1 .1 .1 .1 .1 .1 .1))))))
 
 same-length : tie.Need-same-length
-same-length c = search needs
+same-length c = c .before .before .before .before .before .before .kept .kept .1 .1 .1 .1 .1 .1 .0 ∙ c .before .before .before .before .before .before .before .before .before .before .before .before .before .before .before .before .before .reaching2 .kept .1 .1 .1 .1 .1 .1 .1 .0
 
 same-length-2 : tie.Need-same-length-2
-same-length-2 c = search needs
+same-length-2 c = c .before .before .before .before .before .before .before .before .before .before .before .before .before .before .before .before .before .before .before .before .before .before .before .before .before .before .before .before .before .letters .kept .1 .1 .1 .1 .0
 
 same-length-3 : tie.Need-same-length-3
-same-length-3 c = search needs
+same-length-3 c = c .before .before .before .before .before .before .before .before .before .before .before .before .before .before .before .before .before .reaching2 .kept .1 .1 .1 .1 .1 .1 .0 ∙ c .before .before .before .before .before .before .before .before .before .before .before .before .before .before .before .before .before .before .before .before .before .before .before .before .before .before .before .before .before .letters .kept .1 .1 .1 .1 .1 .0
 
 same-length-4 : tie.Need-same-length-4
-same-length-4 c = search needs
+same-length-4 c = c .before .before .before .before .before .before .kept .kept .1 .1 .1 .1 .1 .0
 
 same-length-5 : tie.Need-same-length-5
-same-length-5 c = search needs
+same-length-5 c = c .before .before .before .before .before .before .kept .kept .1 .1 .1 .1 .1 .1 .1 .0 ∙ c .before .before .before .before .before .before .before .before .before .before .before .before .before .before .before .before .before .reaching2 .kept .1 .1 .1 .1 .1 .1 .1 .1 .0 ∙ c .before .before .before .before .before .before .before .before .before .before .before .before .before .before .before .before .before .before .before .before .before .before .before .before .before .before .before .before .before .letters .kept .1 .1 .1 .1 .1 .1 .0
 
 returns : tie.Need-returns
 returns c = record {

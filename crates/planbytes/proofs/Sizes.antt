@@ -1,0 +1,165 @@
+-- How many labels a routine has, how long the parts of its plan are, and bounds of both.
+-- Assumes nothing.
+use mathlib.Core.Path.{_≡_, refl, sym, ap, ap₂, subst, _∙_}
+use mathlib.Core.Bool.{Bool, true, false, cond}
+use mathlib.Core.List.{List, [], _++_}
+use Prim.Native.Nat.{ℕ, zero, suc, _+_, _-_, _*_, _≤_, _<_, min}
+use native.Mathlib.Decide.{decLt}
+use native.Mathlib.Numerals.{add-one}
+use native.Mathlib.Omega.{arith}
+use lib.ListN.{length, getD, set, drop, length-append, List·getD-append}
+use Rattle.labels.specs.Events.{isLabel}
+use Rattle.labels.specs.Routines.{ReadAs}
+use Rattle.planbytes.specs.Plan.{labelsAmong, labelsAt, labelsBefore, labelCount, contentsEntry, contents, labelBytes, labelEntry, labelRow, labels, planHead, planBytes, planLength}
+use Rattle.planbytes.specs.Tables.{Firsts}
+use Rattle.routine.specs.declared.header.Header.{Header}
+use Rattle.routine.specs.Layout.{arrays, vertices}
+use Rattle.routine.specs.Reader.{Laid}
+use Rattle.words.specs.Tables.{table, rows}
+use Rattle.words.proofs.Fills.{Filling, onward}
+use Rattle.words.proofs.Tables.{at-most-one, table-length, table-at, rows-length}
+
+-- ---- sums: what `total` counts, item by item
+
+module _ (size total : ℕ → ℕ) (none : total 0 ≡ 0) (more : (i : ℕ) → total (suc i) ≡ total i + size i) where
+  sum-few : (k : ℕ) → ((i : ℕ) → size i ≤ k) → (n : ℕ) → total n ≤ k * n
+  sum-few k few zero = omega arith
+  sum-few k few (suc n) = omega (arith, more n, few n, sum-few k few n)
+
+  sum-length : (row : ℕ → List ℕ) → ((i : ℕ) → length (row i) ≡ 8 * size i) → (n : ℕ) → length (rows row n) ≡ 8 * total n
+  unfolding rows
+  sum-length row wide zero = omega arith
+  sum-length row wide (suc n) = omega (arith, length-append (rows row n) (row n), more n, wide n, sum-length row wide n)
+
+-- ---- counts
+
+pub record Entry (file firsts : List ℕ) (v : ℕ) : Type 0 where
+  pub inside : v + 1 < length firsts
+  pub first-is : getD firsts v 0 ≡ labelsBefore file v
+  pub count-is : getD firsts (v + 1) 0 - getD firsts v 0 ≡ labelsAt file v
+  pub rises : getD firsts v 0 ≤ getD firsts (v + 1) 0
+  pub few : getD firsts (v + 1) 0 ≤ 2048
+
+module _ (file : List ℕ) where
+  pub among-more : {count more : ℕ} (v a : ℕ) → count ≡ labelsAmong file v a → more ≡ cond (isLabel file a v) 1 0 → count + more ≡ labelsAmong file v (a + 1)
+  unfolding labelsAmong
+  among-more v a e f = ap₂ _+_ e f ∙ ap (labelsAmong file v) (sym (add-one a))
+
+  pub among-none : (v m : ℕ) → 0 ≡ labelsAmong file v (min 0 m)
+  unfolding labelsAmong
+  among-none v m = let e : 0 ≡ min 0 m = omega arith in ap (labelsAmong file v) e
+
+  -- the next column; those from m on count for nothing
+  pub among-next : {count more : ℕ} (v m a : ℕ) → count ≡ labelsAmong file v (min a m) → (a < m → more ≡ cond (isLabel file a v) 1 0) → (m ≤ a → more ≡ 0)
+      → count + more ≡ labelsAmong file v (min (a + 1) m)
+  among-next {count} {more} v m a e f g = elim (decLt a m) [
+    | yes l ↦
+        let before : min a m ≡ a = omega arith in
+        let after : a + 1 ≡ min (a + 1) m = omega arith in
+        among-more v a (e ∙ ap (labelsAmong file v) before) (f l) ∙ ap (labelsAmong file v) after
+    | no l ↦
+        let same : min a m ≡ min (a + 1) m = omega arith in
+        let none : count + more ≡ count = omega (arith, g (omega arith)) in
+        none ∙ e ∙ ap (labelsAmong file v) same
+  ]
+
+  pub before-more : {count more : ℕ} (v : ℕ) → count ≡ labelsBefore file v → more ≡ labelsAt file v → count + more ≡ labelsBefore file (v + 1)
+  unfolding labelsBefore
+  before-more v e f = ap₂ _+_ e f ∙ ap (labelsBefore file) (sym (add-one v))
+
+  pub among-few : (v m : ℕ) → labelsAmong file v m ≤ m
+  unfolding labelsAmong
+  among-few v m = omega (arith, sum-few (λ a. cond (isLabel file a v) 1 0) (labelsAmong file v) refl (λ a. refl) 1 (λ a. at-most-one (isLabel file a v)) m)
+
+  -- entry u of a table that has been filled from the front
+  first-at : {n : ℕ} {old new : List ℕ} {v : ℕ} → Filling (labelsBefore file) n old new v → (u : ℕ) → u < v → getD new u 0 ≡ labelsBefore file u
+  first-at {n} {old} {new} {v} t u l =
+      ap (λ (s : List ℕ). getD s u 0) (t .is)
+      ∙ List·getD-append (table (labelsBefore file) v) (drop v old) 0 u (omega (arith, table-length (labelsBefore file) v)) ∙ table-at (labelsBefore file) v u l
+
+  -- the last entry: how many labels there are
+  pub firsts-done : {old new : List ℕ} {v n count : ℕ} → Filling (labelsBefore file) (8 * vertices file) old new v → v ≡ n → n ≡ vertices file → 2 ≤ vertices file → count ≡ labelsBefore file v
+      → Firsts file (set new n count)
+  firsts-done {old} {new} {v} {n} {count} t e f two g =
+      let done = onward t (omega (arith, e, f)) g in
+      subst (λ (m : ℕ). Firsts file (set new m count)) e (record { size = done .sized; first = λ u l. first-at done u (omega (arith, e, f)) })
+
+  module _ (laid : Laid file) where
+    pub at-few : (v : ℕ) → labelsAt file v ≤ 8
+    unfolding labelsAt
+    at-few v = omega (arith, among-few v (arrays file), laid .limits .few-arrays)
+
+    pub before-few : (v : ℕ) → labelsBefore file v ≤ 8 * v
+    unfolding labelsBefore
+    before-few v = sum-few (labelsAt file) (labelsBefore file) refl (λ v. refl) 8 at-few v
+
+    -- counts and indices fit 16 bits
+    pub count-few : labelCount file ≤ 2048
+    unfolding labelCount
+    count-few = omega (arith, before-few (vertices file), laid .limits .few-vertices)
+
+    pub plan-few : planLength file ≤ 17416
+    unfolding planLength
+    plan-few = omega (arith, count-few, laid .limits .few-vertices)
+
+  -- a vertex without labels writes nothing
+  pub row-none : (v : ℕ) → ((a : ℕ) → a < arrays file → isLabel file a v ≡ false) → labelRow file v ≡ []
+  unfolding labelRow rows labelEntry
+  row-none v none = go (arrays file) none
+    where
+      go : (m : ℕ) → ((a : ℕ) → a < m → isLabel file a v ≡ false) → rows (labelEntry file v) m ≡ []
+      go zero h = refl
+      go (suc m) h =
+          ap₂ _++_ (go m (λ a l. h a (omega arith))) (ap (λ (b : Bool). cond b (labelBytes file v m) []) (h m (omega arith)))
+
+  -- vertex v's entry of the contents, from two indices
+  pub entry : {firsts : List ℕ} → Laid file → Firsts file firsts → {v : ℕ} → v < vertices file → Entry file firsts v
+  entry {firsts} laid f {v} l =
+      let here = f .first v (omega arith) in
+      let behind = f .first (v + 1) (omega arith) ∙ sym (before-more v refl refl) in
+      record {
+        inside = omega (arith, f .size, laid .limits .two-vertices);
+        first-is = here;
+        count-is = omega (arith, here, behind);
+        rises = omega (arith, here, behind);
+        few = omega (arith, behind, before-few laid v, at-few laid v, laid .limits .few-vertices);
+      }
+
+  -- ---- lengths
+
+  -- where the entry of vertex v stands
+  pub entry-at : (v : ℕ) → 4 * v ≡ length (rows (contentsEntry file) v)
+  unfolding contentsEntry
+  entry-at v = omega (arith, rows-length (contentsEntry file) 4 (λ v. refl) v)
+
+  entry-length : (v a : ℕ) → length (labelEntry file v a) ≡ 8 * cond (isLabel file a v) 1 0
+  unfolding labelEntry labelBytes
+  entry-length v a = go (isLabel file a v)
+    where
+      go : (b : Bool) → length (cond b (labelBytes file v a) []) ≡ 8 * cond b 1 0
+      go true = refl
+      go false = refl
+
+  row-length : (v : ℕ) → length (labelRow file v) ≡ 8 * labelsAt file v
+  unfolding labelRow labelsAt labelsAmong
+  row-length v = sum-length (λ a. cond (isLabel file a v) 1 0) (labelsAmong file v) refl (λ a. refl) (labelEntry file v) (entry-length v) (arrays file)
+
+  pub labels-length : length (labels file) ≡ 8 * labelCount file
+  unfolding labels labelCount labelsBefore
+  labels-length = sum-length (labelsAt file) (labelsBefore file) refl (λ v. refl) (labelRow file) row-length (vertices file)
+
+  -- where the labels stand
+  pub labels-at : 8 + 4 * vertices file ≡ length (planHead (vertices file) (labelCount file) ++ contents file)
+  unfolding contents
+  labels-at = omega (arith, entry-at (vertices file))
+
+  -- by the header and the count
+  pub length-is : {h : Header} {count : ℕ} → ReadAs file h → count ≡ labelCount file → 8 + 4 * h .vertices + 8 * count ≡ planLength file
+  unfolding planLength
+  length-is is e = omega (arith, is .heads .vertices-are, e)
+
+  -- contents 4 bytes a vertex, 8 bytes a label
+  pub plan-length : length (planBytes file) ≡ planLength file
+  unfolding planBytes planLength
+  plan-length =
+      length-append (planHead (vertices file) (labelCount file) ++ contents file) (labels file) ∙ omega (arith, labels-at, labels-length)

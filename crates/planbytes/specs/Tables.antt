@@ -1,0 +1,31 @@
+-- What the tables of a planned routine hold: the cell of vertex v and array a at 8 v + a.
+-- Assumes nothing.
+use mathlib.Core.Path.{_≡_}
+use mathlib.Core.Bool.{true, false}
+use mathlib.Core.List.{List}
+use Prim.Native.Nat.{ℕ, _*_, _≤_}
+use lib.ListN.{length, getD}
+use Rattle.labels.specs.Kept.{keptOf}
+use Rattle.labels.specs.Letters.{useOfByte}
+use Rattle.labels.specs.Reaching.{reachingOf}
+use Rattle.passes.specs.Tables.{Cells, Versions, Letters}
+use Rattle.labels.specs.Uses.{isN}
+use Rattle.planbytes.specs.Plan.{labelsBefore}
+use Rattle.routine.specs.Layout.{vertices}
+use Rattle.sets.specs.Sets.{has}
+
+pub record Tabled (file versions letters reaching kept : List ℕ) : Type 0 where
+  pub versions-are : Versions file versions
+  pub letters-are : Letters file letters
+  pub reaching-are : Cells file (reachingOf file) reaching
+  pub kept-are : Cells file (keptOf file) kept
+
+-- the index of each vertex's first label, and behind the last vertex how many there are
+pub record Firsts (file firsts : List ℕ) : Type 0 where
+  pub size : length firsts ≡ 8 * vertices file
+  pub first : (v : ℕ) → v ≤ vertices file → getD firsts v 0 ≡ labelsBefore file v
+
+-- the leaving byte of a label with this version, as a set, and this letter
+pub record Leaving (version letter byte : ℕ) : Type 0 where
+  pub none : isN (useOfByte letter) ≡ true → byte ≡ 255
+  pub some : isN (useOfByte letter) ≡ false → has version byte ≡ true

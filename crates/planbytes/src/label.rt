@@ -1,0 +1,35 @@
+// One label of the plan: eight bytes (document 01, "Plan and report").
+ghost use mathlib.Core.Path.{_≡_};
+ghost use mathlib.Core.List.{_++_};
+ghost use Prim.Native.Nat.{_≤_};
+ghost use lib.ListN.{length, drop};
+ghost use Rattle.planbytes.specs.Plan.{eightBytes};
+
+pub struct Label {
+    pub array: u8,
+    pub letter: u8,
+    // 255 for none
+    pub leaving: u8,
+    pub reaching: u16,
+    pub kept: u16,
+}
+
+impl Label {
+    // Bytes of a label.
+    pub const SIZE: usize = 8;
+}
+
+// Writes a label at the front of what is lent.
+pub fn write(out: &mut [u8], l: Label)
+    requires { ⌜ 8 ≤ length (now out) ⌝ }
+    ensures { λ _. ⌜ now (out .exit) ≡ eightBytes (l .array) (l .letter) (l .leaving) (l .reaching) (l .kept) ++ drop 8 (now (out .entry)) ⌝ }
+{
+    out[0] = l.array;
+    out[1] = l.letter;
+    out[2] = l.leaving;
+    out[3] = 0;
+    out[4] = (l.reaching % 256) as u8;
+    out[5] = (l.reaching / 256) as u8;
+    out[6] = (l.kept % 256) as u8;
+    out[7] = (l.kept / 256) as u8;
+}
