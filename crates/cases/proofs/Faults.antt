@@ -12,7 +12,7 @@ use Rattle.plan.specs.Plan.{planBytes}
 use Rattle.routine.specs.declared.refusal.Reply.{Reply}
 use Rattle.routine.specs.declared.refusal.Reply.the-variants.{Written, Denied}
 use Rattle.run.specs.Calls.{runOf, runInto, Ran}
-use Rattle.run.specs.Report.{reportBytes}
+use Rattle.walk.specs.Report.{reportBytes}
 use Rattle.words.specs.Tables.{wrote}
 use Rattle.words.specs.Words.{word}
 use Rattle.cases.proofs.Cases.{all-hold}

@@ -20,8 +20,8 @@ use Rattle.routine.specs.declared.refusal.Verdict.{Verdict}
 use Rattle.routine.specs.declared.refusal.Verdict.the-variants.{Passed, Failed}
 use Rattle.routine.proofs.Laws.{then-assoc}
 use Rattle.run.specs.Calls.{runCheck, runReply, runOf, DemandMet}
-use Rattle.run.specs.Paths.{pathCheck}
-use Rattle.run.specs.Report.{reportLength}
+use Rattle.path.specs.Paths.{pathCheck}
+use Rattle.walk.specs.Report.{reportLength}
 
 -- checks run 10 to 16, 20, 21, for a run 30 to 32, then 2: the reply in one line
 pub run-in-order : (file path : List ℕ) (size : ℕ)

@@ -16,9 +16,9 @@ use Rattle.routine.specs.declared.refusal.Refusal.the-variants.{ShortReportBuff
 use Rattle.routine.specs.declared.refusal.Reply.{Reply}
 use Rattle.routine.specs.declared.refusal.Reply.the-variants.{Written, Denied}
 use Rattle.routine.specs.declared.refusal.Verdict.{Verdict}
-use Rattle.run.specs.Demand.{Demand3}
-use Rattle.run.specs.Paths.{pathCheck}
-use Rattle.run.specs.Report.{reportBytes, reportLength}
+use Rattle.demand.specs.Demand.{Demand3}
+use Rattle.path.specs.Paths.{pathCheck}
+use Rattle.walk.specs.Report.{reportBytes, reportLength}
 
 -- checks run 10 to 16, 20, 21, for a run 30 to 32, then 2: a buffer of `size` bytes is too short
 unfoldable pub runCheck : List ℕ → List ℕ → ℕ → Verdict

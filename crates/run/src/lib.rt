@@ -1,9 +1,4 @@
-// The runner of document 01: a path through a planned routine, its report, and the call that writes it.
-mod path;
-pub mod record;
-mod report;
-mod walk;
-
+// The call `run` of document 01: a path through a routine, checked and run, and its report.
 use labels::checks;
 use labels::events;
 use labels::pass;
@@ -22,7 +17,7 @@ ghost use Rattle.labels.specs.Routines.{ReadAs, Edges};
 ghost use Rattle.labels.specs.Tables.{Versions, UseGives};
 ghost use Rattle.routine.specs.Layout.{vertices, edges};
 ghost use Rattle.run.specs.Calls.{RanRead, Ran};
-ghost use Rattle.run.specs.Walks.{Tabled};
+ghost use Rattle.walk.specs.Walks.{Tabled};
 
 // Refusals 20 and 21. `order`, `versions` and `uses` are left for `tabulate`; the other tables are work slices.
 fn check(
@@ -117,7 +112,7 @@ fn run_with(
     if let Verdict::Failed(r) = followed {
         return Reply::Denied(r);
     }
-    let needed = report::length(file, h, path, counts);
+    let needed = walk::length(file, h, path, counts);
     if out.len() < needed {
         return Reply::Denied(Refusal::ShortReportBuffer { needed });
     }

@@ -6,8 +6,8 @@ use native.Mathlib.Omega.{arith}
 use lib.ListN.{length}
 use Rattle.routine.specs.declared.refusal.Refusal.the-variants.{ShortReportBuffer}
 use Rattle.routine.specs.declared.refusal.Reply.the-variants.{Written, Denied}
-use Rattle.run.proofs.Bytes.{report-length}
-use Rattle.run.proofs.Rules.Demand.{demand3}
+use Rattle.walk.proofs.Bytes.{report-length}
+use Rattle.demand.proofs.Demand.{demand3}
 use Rattle.run.proofs.Ways.{denied-way, path-way, short-way, written-way}
 use borrow.Author.Needs.{needs}
 use Rattle.run.proofs.run_with.Statement.{statement}
