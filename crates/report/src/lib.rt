@@ -3,6 +3,8 @@ pub mod record;
 
 use crate::record::Record;
 use labels::event;
+use routine::action::Access;
+use routine::action::Action;
 use routine::array;
 use routine::array::ArrayRecord;
 use routine::header::Header;
@@ -15,7 +17,8 @@ ghost use Rattle.labels.specs.Events.{event};
 ghost use Rattle.labels.specs.Routines.{ReadAs};
 ghost use Rattle.routine.specs.Actions.{isReference};
 ghost use Rattle.routine.specs.Layout.{arrays, vertices};
-ghost use Rattle.report.specs.Bytes.{entryBytes, entriesOf, recordBytes};
+ghost use Rattle.report.specs.Bytes.{entryBytes, entriesOf, recordBytes, recordsBytes};
+ghost use Rattle.report.specs.Records.{recordOf, recordsAt};
 ghost use Rattle.report.specs.References.{referencesAt};
 ghost use Rattle.words.specs.Tables.{table, wrote};
 
@@ -95,7 +98,7 @@ pub fn write_entries(states: [State; ArrayRecord::MAX], m: usize, out: &mut [u8]
 }
 
 // Writes a record at the front of what is lent.
-pub fn write_record(out: &mut [u8], r: Record)
+fn write_record(out: &mut [u8], r: Record)
     requires { ⌜ 10 ≤ length (now out) ⌝ }
     ensures { λ _. ⌜ now (out .exit) ≡ wrote (now (out .entry)) (recordBytes r) ⌝ }
 {
@@ -109,4 +112,54 @@ pub fn write_record(out: &mut [u8], r: Record)
     out[7] = (r.seen / 256) as u8;
     out[8] = (r.new % 256) as u8;
     out[9] = (r.new / 256) as u8;
+}
+
+// The record of a reference.
+fn made(x: Access, step: u16, array: u8, version: u8, stamp: u16) -> Record
+    ensures { λ r. ⌜ r ≡ recordOf x step array version stamp ⌝ }
+{
+    match x {
+        Access::Read => Record {
+            step,
+            array,
+            version,
+            kind: 1,
+            seen: stamp,
+            new: 0,
+        },
+        Access::Define => Record {
+            step,
+            array,
+            version,
+            kind: 2,
+            seen: 0,
+            new: step,
+        },
+        Access::Modify => Record {
+            step,
+            array,
+            version,
+            kind: 3,
+            seen: stamp,
+            new: step,
+        },
+    }
+}
+
+// Writes the record of an event, if it is a reference, and returns how many bytes that is.
+pub fn put(x: Action, step: usize, a: usize, version: u8, stamp: u16, out: &mut [u8]) -> usize
+    requires { ⌜ (step ≤ 4096) × (a < 8) ⌝ }
+    requires { ⌜ length (recordsBytes (recordsAt x step a version stamp)) ≤ length (now out) ⌝ }
+    ensures { λ r. ⌜ r ≡ length (recordsBytes (recordsAt x step a version stamp)) ⌝ }
+    ensures { λ _. ⌜ now (out .exit) ≡ wrote (now (out .entry)) (recordsBytes (recordsAt x step a version stamp)) ⌝ }
+{
+    match x {
+        Action::Nothing => 0,
+        Action::Reference(access) => {
+            write_record(out, made(access, step as u16, a as u8, version, stamp));
+            Record::SIZE
+        }
+        Action::Remap(_) => 0,
+        Action::Unknown => 0,
+    }
 }

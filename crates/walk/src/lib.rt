@@ -2,8 +2,6 @@
 // report of an accepted path, and before that its length.
 use labels::event;
 use report::record::Record;
-use routine::action::Access;
-use routine::action::Action;
 use routine::array;
 use routine::array::ArrayRecord;
 use routine::header::Header;
@@ -22,7 +20,6 @@ ghost use Rattle.state.specs.Start.{started};
 ghost use Rattle.state.specs.States.{Current};
 ghost use Rattle.state.specs.Vertex.{Visits};
 ghost use Rattle.path.specs.Paths.{steps, pathCheck};
-ghost use Rattle.report.specs.Records.{recordOf, recordsAt};
 ghost use Rattle.report.specs.Bytes.{stateOf, recordsBytes};
 ghost use Rattle.report.specs.References.{referencesAt};
 ghost use Rattle.walk.specs.Report.{reportBytes, referencesOn, reportLength};
@@ -85,56 +82,6 @@ fn start_all(
     states
 }
 
-// The record of a reference.
-fn made(x: Access, step: u16, array: u8, version: u8, stamp: u16) -> Record
-    ensures { λ r. ⌜ r ≡ recordOf x step array version stamp ⌝ }
-{
-    match x {
-        Access::Read => Record {
-            step,
-            array,
-            version,
-            kind: 1,
-            seen: stamp,
-            new: 0,
-        },
-        Access::Define => Record {
-            step,
-            array,
-            version,
-            kind: 2,
-            seen: 0,
-            new: step,
-        },
-        Access::Modify => Record {
-            step,
-            array,
-            version,
-            kind: 3,
-            seen: stamp,
-            new: step,
-        },
-    }
-}
-
-// Writes the record of an event, if it is a reference, and returns how many bytes that is.
-fn put(x: Action, step: usize, a: usize, version: u8, stamp: u16, out: &mut [u8]) -> usize
-    requires { ⌜ (step ≤ 4096) × (a < 8) ⌝ }
-    requires { ⌜ length (recordsBytes (recordsAt x step a version stamp)) ≤ length (now out) ⌝ }
-    ensures { λ r. ⌜ r ≡ length (recordsBytes (recordsAt x step a version stamp)) ⌝ }
-    ensures { λ _. ⌜ now (out .exit) ≡ wrote (now (out .entry)) (recordsBytes (recordsAt x step a version stamp)) ⌝ }
-{
-    match x {
-        Action::Nothing => 0,
-        Action::Reference(access) => {
-            report::write_record(out, made(access, step as u16, a as u8, version, stamp));
-            Record::SIZE
-        }
-        Action::Remap(_) => 0,
-        Action::Unknown => 0,
-    }
-}
-
 // What the references of a vertex leave: the bytes written, and whether the vertex has a label.
 struct Row {
     bytes: usize,
@@ -163,7 +110,7 @@ fn refer(
     let mut a = 0;
     while a < m {
         let x = event::at(file, h, array::record_of(file, a), a, v);
-        bytes += put(x, step, a, versions[a], stamps[a], &mut out[bytes..]);
+        bytes += report::put(x, step, a, versions[a], stamps[a], &mut out[bytes..]);
         stamps[a] = state::stamp_after(x, step as u16, stamps[a]);
         labels = labels | event::is_label(x);
         a += 1;

@@ -1,4 +1,4 @@
--- `report::write_record` meets its contract: ten stores from the front.
+-- `write_record` meets its contract: ten stores from the front.
 -- Assumes nothing.
 use native.Mathlib.Omega.{arith}
 use borrow.Author.Needs.{needs}

@@ -1,11 +1,11 @@
--- `walk::made` meets its contract, case by case.
+-- `made` meets its contract, case by case.
 -- Assumes nothing.
 use mathlib.Core.Path.{sym, ap}
 use Rattle.routine.specs.declared.action.Access.{Access}
 use Rattle.report.specs.Records.{recordOf}
 use borrow.Author.Needs.{needs}
-use Rattle.walk.proofs.made.Statement.{statement}
-use Rattle.walk.proofs.made.Tie as tie
+use Rattle.report.proofs.made.Statement.{statement}
+use Rattle.report.proofs.made.Tie as tie
 
 enum-told : tie.Need-enum-told
 enum-told c = search needs

@@ -1,4 +1,4 @@
--- `walk::put` meets its contract: a reference has one record, any other event none.
+-- `put` meets its contract: a reference has one record, any other event none.
 -- Assumes nothing.
 use mathlib.Core.Path.{_≡_, sym, ap, _∙_}
 use mathlib.Core.List.{List, append-nil}
@@ -8,13 +8,13 @@ use lib.ListN.{length}
 use Rattle.routine.specs.declared.action.Access.{Access}
 use Rattle.routine.specs.declared.action.Action.{Action}
 use Rattle.routine.specs.declared.action.Action.the-variants.{Reference}
 use Rattle.report.specs.declared.record.Record.{Record}
 use Rattle.report.specs.Records.{recordOf, recordsAt}
 use Rattle.report.specs.Bytes.{recordBytes, recordsBytes}
 use Rattle.words.specs.Tables.{wrote}
 use borrow.Author.Needs.{needs}
-use Rattle.walk.proofs.put.Statement.{statement}
-use Rattle.walk.proofs.put.Tie as tie
+use Rattle.report.proofs.put.Statement.{statement}
+use Rattle.report.proofs.put.Tie as tie
 
 -- a reference has one record of ten bytes
 module _ {x : Action} {y : Access} (step a version stamp : ℕ) (e : x ≡ Reference y) where
