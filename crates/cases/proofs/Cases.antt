@@ -15,12 +15,12 @@ use Rattle.routine.specs.declared.reader.Answer.the-variants.{Routine}
 use Rattle.refusal.specs.declared.Verdict.the-variants.{Passed}
 use Rattle.routine.proofs.Accepted.{accepted}
 use Rattle.run.specs.Calls.{runOf}
-use Rattle.run.specs.Demand.{IsHome, Demand3}
-use Rattle.run.specs.Machine.{machineAfter}
-use Rattle.run.specs.Paths.{pathCheck}
-use Rattle.run.specs.Report.{reportBytes}
-use Rattle.run.specs.Run.{stateAfter, runRecords}
-use Rattle.run.proofs.Rules.Demand.{demand3}
+use Rattle.demand.specs.Demand.{IsHome, Demand3}
+use Rattle.demand.specs.Machine.{machineAfter}
+use Rattle.path.specs.Paths.{pathCheck}
+use Rattle.walk.specs.Report.{reportBytes}
+use Rattle.demand.specs.Run.{stateAfter, runRecords}
+use Rattle.demand.proofs.Demand.{demand3}
 use Rattle.words.specs.Words.{word}
 
 -- two proofs as one

@@ -12,7 +12,7 @@ use Rattle.planbytes.specs.Plan.{planBytes}
 use Rattle.refusal.specs.declared.Reply.{Reply}
 use Rattle.refusal.specs.declared.Reply.the-variants.{Written, Denied}
 use Rattle.run.specs.Calls.{runOf, runInto, Ran}
-use Rattle.run.specs.Report.{reportBytes}
+use Rattle.walk.specs.Report.{reportBytes}
 use Rattle.words.specs.Tables.{wrote}
 use Rattle.words.specs.Words.{word}
 use Rattle.cases.proofs.Cases.{all-hold}

@@ -21,11 +21,11 @@ use Rattle.refusal.specs.Refusals.{refused}
 use Rattle.refusal.specs.declared.Outcome.{Outcome}
 use Rattle.refusal.specs.declared.Reply.the-variants.{Written}
 use Rattle.run.specs.Calls.{runOf, runOutcome}
-use Rattle.run.specs.Machine.{machineAfter}
-use Rattle.run.specs.Paths.{steps}
-use Rattle.run.specs.Report.{reportBytes}
-use Rattle.run.specs.Run.{stateAfter, runRecords}
-use Rattle.run.specs.declared.record.Record.{Record}
+use Rattle.demand.specs.Machine.{machineAfter}
+use Rattle.path.specs.Paths.{steps}
+use Rattle.walk.specs.Report.{reportBytes}
+use Rattle.demand.specs.Run.{stateAfter, runRecords}
+use Rattle.report.specs.declared.record.Record.{Record}
 
 -- ---- a line of the planner's listing
 

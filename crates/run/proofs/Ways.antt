@@ -1,13 +1,17 @@
 -- The ways out of the call `run`: what the checks say, as the definition's answer.
 -- Assumes nothing.
-use mathlib.Core.Path.{_≡_, refl, ap, _∙_}
+use mathlib.Core.Path.{_≡_, refl, sym, ap, _∙_}
 use mathlib.Core.List.{List}
 use Prim.Native.Nat.{ℕ, _≤_, _<_}
-use borrow.Author.Tests.{le-leb, lt-leb}
+use native.Mathlib.Omega.{arith}
+use borrow.Author.Tests.{le-leb, lt-leb, leb-true}
+use lib.Dec.{leb}
+use lib.ListN.{length}
+use Rattle.demand.proofs.Demand.{demand3}
 use Rattle.labels.specs.Checks.{programmerCheck}
-use Rattle.refusal.specs.Checks.{_andThen_}
+use Rattle.refusal.specs.Checks.{_andThen_, holds}
 use Rattle.routine.specs.Layout.{headerOf}
-use Rattle.routine.specs.Reader.{formCheck, bodyCheck, answered, readOf}
+use Rattle.routine.specs.Reader.{WellFormed, formCheck, bodyCheck, answered, readOf}
 use Rattle.refusal.specs.Replies.{written}
 use Rattle.routine.specs.Reader.{deniedOf}
 use Rattle.routine.specs.declared.header.Header.{Header}
@@ -19,10 +23,12 @@ use Rattle.refusal.specs.declared.Reply.{Reply}
 use Rattle.refusal.specs.declared.Reply.the-variants.{Written, Denied}
 use Rattle.refusal.specs.declared.Verdict.{Verdict}
 use Rattle.refusal.specs.declared.Verdict.the-variants.{Passed, Failed}
-use Rattle.routine.proofs.Laws.{then-assoc}
-use Rattle.run.specs.Calls.{runCheck, runReply, runOf, DemandMet}
-use Rattle.run.specs.Paths.{pathCheck}
-use Rattle.run.specs.Report.{reportLength}
+use Rattle.routine.proofs.Laws.{then-assoc, passed-left, passed-right, holds-true}
+use Rattle.run.specs.Calls.{runCheck, runReply, runOf, DemandMet, RanRead}
+use Rattle.path.specs.Paths.{pathCheck}
+use Rattle.walk.specs.Report.{reportBytes, reportLength}
+use Rattle.walk.proofs.Bytes.{report-length}
+use Rattle.words.specs.Tables.{wrote}
 
 -- checks run 10 to 16, 20, 21, for a run 30 to 32, then 2: the reply in one line
 pub run-in-order : (file path : List ℕ) (size : ℕ)
@@ -35,6 +41,10 @@ run-in-order file path size =
     by-verdict : (v : Verdict) → runReply (answered v (headerOf file)) file path size ≡ written (v andThen runCheck file path size) (reportLength file path)
     by-verdict Passed = refl
     by-verdict (Failed r) = refl
+
+written-passed : (v : Verdict) (m : ℕ) {n : ℕ} → written v m ≡ Written n → v ≡ Passed
+written-passed Passed m e = refl
+written-passed (Failed r) m e = cc
 
 module _ (file path : List ℕ) (size : ℕ) {v : Verdict} (is : v ≡ programmerCheck file) where
   -- 20 or 21
@@ -70,3 +80,25 @@ module _ (file path : List ℕ) (size : ℕ) {a : Answer} (is : a ≡ readOf fil
 -- a refused run makes no claim
 pub no-demand : {reply : Reply} {a : Answer} {r : Refusal} (file path : List ℕ) → reply ≡ deniedOf a → a ≡ Refused r → DemandMet reply file path
 no-demand file path e f = rw (e, f) tt
+
+-- ---- a run of a routine that was read, from its reply
+
+module _ (file path before : List ℕ) {reply : Reply} (is : reply ≡ written (runCheck file path (length before)) (reportLength file path)) where
+  pub denied-ran : {r : Refusal} → reply ≡ Denied r → RanRead file path before reply before
+  denied-ran e = record { answer = is; buffer = rw e; demand = rw e tt }
+
+  -- all checks have passed
+  module _ {n : ℕ} (e : reply ≡ Written n) where
+    after-20 : (pathCheck file path andThen holds (leb (reportLength file path) (length before)) (ShortReportBuffer (reportLength file path))) ≡ Passed
+    unfolding runCheck
+    after-20 = passed-right (programmerCheck file) _ (written-passed (runCheck file path (length before)) (reportLength file path) (sym is ∙ e))
+
+    pub passed : pathCheck file path ≡ Passed
+    passed = passed-left (pathCheck file path) _ after-20
+
+    pub fits : length (reportBytes file path) ≤ length before
+    fits =
+        omega (arith, report-length file path, leb-true (reportLength file path) (length before) (holds-true _ _ (passed-right (pathCheck file path) _ after-20)))
+
+    pub written-ran : {after : List ℕ} → WellFormed file → after ≡ wrote before (reportBytes file path) → RanRead file path before reply after
+    written-ran well w = record { answer = is; buffer = rw e w; demand = rw e (demand3 file path well passed) }

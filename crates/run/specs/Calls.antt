@@ -16,9 +16,9 @@ use Rattle.refusal.specs.declared.Refusal.the-variants.{ShortReportBuffer}
 use Rattle.refusal.specs.declared.Reply.{Reply}
 use Rattle.refusal.specs.declared.Reply.the-variants.{Written, Denied}
 use Rattle.refusal.specs.declared.Verdict.{Verdict}
-use Rattle.run.specs.Demand.{Demand3}
-use Rattle.run.specs.Paths.{pathCheck}
-use Rattle.run.specs.Report.{reportBytes, reportLength}
+use Rattle.demand.specs.Demand.{Demand3}
+use Rattle.path.specs.Paths.{pathCheck}
+use Rattle.walk.specs.Report.{reportBytes, reportLength}
 
 -- checks run 10 to 16, 20, 21, for a run 30 to 32, then 2: a buffer of `size` bytes is too short
 unfoldable pub runCheck : List ℕ → List ℕ → ℕ → Verdict

@@ -1,18 +1,13 @@
-// The runner of document 01: a path through a planned routine, its report, and the call that writes it.
-mod path;
-pub mod record;
-mod report;
-mod walk;
-
+// The call `run` of document 01: a path through a routine, checked and run, and its report.
 use passes::events;
 use passes::pass;
 use passes::tables;
-use refusal::Refusal;
-use refusal::Reply;
-use refusal::Verdict;
 use routine::header::Header;
 use routine::reader;
 use routine::reader::Answer;
+use refusal::Refusal;
+use refusal::Reply;
+use refusal::Verdict;
 ghost use mathlib.Core.Path.{_≡_};
 ghost use Prim.Native.Nat.{_*_};
 ghost use lib.ListN.{length};
@@ -20,8 +15,10 @@ ghost use Rattle.labels.specs.Checks.{programmerCheck};
 ghost use Rattle.labels.specs.Routines.{ReadAs, Edges};
 ghost use Rattle.passes.specs.Tables.{Versions, UseGives};
 ghost use Rattle.routine.specs.Layout.{vertices, edges};
-ghost use Rattle.run.specs.Calls.{RanRead, Ran};
-ghost use Rattle.run.specs.Walks.{Tabled};
+ghost use Rattle.refusal.specs.Replies.{written};
+ghost use Rattle.run.specs.Calls.{runCheck, RanRead, Ran};
+ghost use Rattle.walk.specs.Report.{reportLength};
+ghost use Rattle.walk.specs.Walks.{Tabled};
 
 // Refusals 20 and 21. `order`, `versions` and `uses` are left for `tabulate`; the other tables are work slices.
 fn check(
@@ -51,6 +48,34 @@ fn check(
     pass::order(file, h, order);
     events::tabulate(file, h, versions, uses);
     checks::check(file, h, order, versions, uses, reached, sets, gives, passes)
+}
+
+// The reply, with a buffer of `size` bytes: 20 and 21 as they were answered, then 30 to 32, then 2. `counts` is a work slice.
+fn reply(
+    file: &[u8],
+    h: Header,
+    path: &[u8],
+    size: usize,
+    checked: Verdict,
+    counts: &mut [u8],
+) -> Reply
+    requires { ⌜ ReadAs (now file) h ⌝ }
+    requires { ⌜ checked ≡ programmerCheck (now file) ⌝ }
+    requires { ⌜ length (now counts) ≡ vertices (now file) ⌝ }
+    ensures { λ r. ⌜ r ≡ written (runCheck (now (file .entry)) (now (path .entry)) size) (reportLength (now (file .entry)) (now (path .entry))) ⌝ }
+{
+    if let Verdict::Failed(r) = checked {
+        return Reply::Denied(r);
+    }
+    let followed = path::check(file, h, path);
+    if let Verdict::Failed(r) = followed {
+        return Reply::Denied(r);
+    }
+    let needed = walk::length(file, h, path, counts);
+    if size < needed {
+        return Reply::Denied(Refusal::ShortReportBuffer { needed });
+    }
+    Reply::Written(needed)
 }
 
 // The tables of letters and kept sets.
@@ -109,20 +134,13 @@ fn run_with(
     ensures { λ r. ⌜ RanRead (now (file .entry)) (now (path .entry)) (now (out .entry)) r (now (out .exit)) ⌝ }
 {
     let checked = check(file, h, order, versions, uses, reached, kept, gives, passes);
-    if let Verdict::Failed(r) = checked {
-        return Reply::Denied(r);
-    }
-    let followed = path::check(file, h, path);
-    if let Verdict::Failed(r) = followed {
-        return Reply::Denied(r);
-    }
-    let needed = report::length(file, h, path, counts);
-    if out.len() < needed {
-        return Reply::Denied(Refusal::ShortReportBuffer { needed });
+    let reply = reply(file, h, path, out.len(), checked, counts);
+    if let Reply::Denied(_) = reply {
+        return reply;
     }
     tabulate(file, h, order, versions, uses, letters, kept, gives, passes);
     walk::write(file, h, path, letters, kept, out);
-    Reply::Written(needed)
+    reply
 }
 
 // The same with work slices that are large enough for every routine.

@@ -4,7 +4,7 @@ use mathlib.Core.Path.{sym, ap, _∙_}
 use lib.ListN.{length}
 use Rattle.refusal.specs.Replies.{replyOutcome}
 use Rattle.routine.proofs.Accepted.{accepted, unwritten}
-use Rattle.run.specs.Report.{reportBytes}
+use Rattle.walk.specs.Report.{reportBytes}
 use Rattle.run.proofs.Ways.{refused-way, read-way, no-demand}
 use borrow.Author.Needs.{needs}
 use Rattle.run.proofs.run.Statement.{statement}

@@ -3,8 +3,9 @@
 use mathlib.Core.Path.{_≡_, sym, ap, _∙_}
 use Prim.Native.Nat.{ℕ, _*_, _≤_}
 use native.Mathlib.Omega.{arith}
-use lib.Seq.{length-take-le}
+use lib.ListN.{length, take}
 use Rattle.routine.specs.Layout.{vertices}
+use Rattle.run.proofs.Parts.{part-length, same-whole}
 use borrow.Author.Needs.{needs}
 use Rattle.run.proofs.run_within.Statement.{statement}
 use Rattle.run.proofs.run_within.Tie as tie
@@ -21,6 +22,35 @@ few-cells s = omega (arith, few-vertices s)
 size : (s : tie.Start) → 8 * s .args .h .vertices ≡ 8 * vertices (s .args .file .now)
 size s = ap (λ (n : ℕ). 8 * n) (s .pre .0 .heads .vertices-are)
 
+-- ---- the parts
+
+order-part : (s : tie.Start) → length (take (s .args .h .edges) (s .args .order .now)) ≡ s .args .h .edges
+order-part s = part-length (s .args .h .edges) (s .args .order .now) (s .pre .1 .0) (few-edges s)
+
+versions-part : (s : tie.Start) → length (take (8 * s .args .h .vertices) (s .args .versions .now)) ≡ 8 * s .args .h .vertices
+versions-part s = part-length (8 * s .args .h .vertices) (s .args .versions .now) (s .pre .1 .1 .0) (few-cells s)
+
+uses-part : (s : tie.Start) → length (take (8 * s .args .h .vertices) (s .args .uses .now)) ≡ 8 * s .args .h .vertices
+uses-part s = part-length (8 * s .args .h .vertices) (s .args .uses .now) (s .pre .1 .1 .1 .0) (few-cells s)
+
+letters-part : (s : tie.Start) → length (take (8 * s .args .h .vertices) (s .args .letters .now)) ≡ 8 * s .args .h .vertices
+letters-part s = part-length (8 * s .args .h .vertices) (s .args .letters .now) (s .pre .1 .1 .1 .1 .0) (few-cells s)
+
+kept-part : (s : tie.Start) → length (take (8 * s .args .h .vertices) (s .args .kept .now)) ≡ 8 * s .args .h .vertices
+kept-part s = part-length (8 * s .args .h .vertices) (s .args .kept .now) (s .pre .1 .1 .1 .1 .1 .0) (few-cells s)
+
+counts-part : (s : tie.Start) → length (take (s .args .h .vertices) (s .args .counts .now)) ≡ s .args .h .vertices
+counts-part s = part-length (s .args .h .vertices) (s .args .counts .now) (s .pre .1 .1 .1 .1 .1 .1 .0) (few-vertices s)
+
+reached-part : (s : tie.Start) → length (take (8 * s .args .h .vertices) (s .args .reached .now)) ≡ 8 * s .args .h .vertices
+reached-part s = part-length (8 * s .args .h .vertices) (s .args .reached .now) (s .pre .1 .1 .1 .1 .1 .1 .1 .0) (few-cells s)
+
+gives-part : (s : tie.Start) → length (take (8 * s .args .h .vertices) (s .args .gives .now)) ≡ 8 * s .args .h .vertices
+gives-part s = part-length (8 * s .args .h .vertices) (s .args .gives .now) (s .pre .1 .1 .1 .1 .1 .1 .1 .1 .0) (few-cells s)
+
+passes-part : (s : tie.Start) → length (take (8 * s .args .h .vertices) (s .args .passes .now)) ≡ 8 * s .args .h .vertices
+passes-part s = part-length (8 * s .args .h .vertices) (s .args .passes .now) (s .pre .1 .1 .1 .1 .1 .1 .1 .1 .1) (few-cells s)
+
 mul-all : tie.Need-mul-all
 mul-all c = search needs
 
@@ -28,111 +58,125 @@ slice-relend-prefix-run-with : tie.Need-slice-relend-prefix-run-with
 slice-relend-prefix-run-with c = search needs
 
 slice-aggregate-run-with : tie.Need-slice-aggregate-run-with
-slice-aggregate-run-with c =
-    let s = c .before .before .before .before .before .before .before .before .before .before .before .before .before .before in
-    sym (length-take-le _ (s .args .order .now) (omega (arith, few-edges s, s .pre .1 .0)))
+slice-aggregate-run-with c = sym (order-part (c .before .before .before .before .before .before .before .before .before .before .before .before .before .before))
 
 slice-relend-prefix-run-with-2 : tie.Need-slice-relend-prefix-run-with-2
 slice-relend-prefix-run-with-2 c = search needs
 
 slice-aggregate-run-with-2 : tie.Need-slice-aggregate-run-with-2
-slice-aggregate-run-with-2 c =
-    let s = c .before .before .before .before .before .before .before .before .before .before .before .before .before .before .before in
-    sym (length-take-le _ (s .args .versions .now) (omega (arith, few-cells s, s .pre .1 .1 .0)))
+slice-aggregate-run-with-2 c = sym (versions-part (c .before .before .before .before .before .before .before .before .before .before .before .before .before .before .before))
 
 slice-relend-prefix-run-with-3 : tie.Need-slice-relend-prefix-run-with-3
 slice-relend-prefix-run-with-3 c = search needs
 
 slice-aggregate-run-with-3 : tie.Need-slice-aggregate-run-with-3
-slice-aggregate-run-with-3 c =
-    let s = c .before .before .before .before .before .before .before .before .before .before .before .before .before .before .before .before in
-    sym (length-take-le _ (s .args .uses .now) (omega (arith, few-cells s, s .pre .1 .1 .1 .0)))
+slice-aggregate-run-with-3 c = sym (uses-part (c .before .before .before .before .before .before .before .before .before .before .before .before .before .before .before .before))
 
 slice-relend-prefix-run-with-4 : tie.Need-slice-relend-prefix-run-with-4
 slice-relend-prefix-run-with-4 c = search needs
 
 slice-aggregate-run-with-4 : tie.Need-slice-aggregate-run-with-4
-slice-aggregate-run-with-4 c =
-    let s = c .before .before .before .before .before .before .before .before .before .before .before .before .before .before .before .before .before in
-    sym (length-take-le _ (s .args .letters .now) (omega (arith, few-cells s, s .pre .1 .1 .1 .1 .0)))
+slice-aggregate-run-with-4 c = sym (letters-part (c .before .before .before .before .before .before .before .before .before .before .before .before .before .before .before .before .before))
 
 slice-relend-prefix-run-with-5 : tie.Need-slice-relend-prefix-run-with-5
 slice-relend-prefix-run-with-5 c = search needs
 
 slice-aggregate-run-with-5 : tie.Need-slice-aggregate-run-with-5
-slice-aggregate-run-with-5 c =
-    let s = c .before .before .before .before .before .before .before .before .before .before .before .before .before .before .before .before .before .before in
-    sym (length-take-le _ (s .args .kept .now) (omega (arith, few-cells s, s .pre .1 .1 .1 .1 .1 .0)))
+slice-aggregate-run-with-5 c = sym (kept-part (c .before .before .before .before .before .before .before .before .before .before .before .before .before .before .before .before .before .before))
 
 slice-relend-prefix-run-with-6 : tie.Need-slice-relend-prefix-run-with-6
 slice-relend-prefix-run-with-6 c = search needs
 
 slice-aggregate-run-with-6 : tie.Need-slice-aggregate-run-with-6
-slice-aggregate-run-with-6 c =
-    let s = c .before .before .before .before .before .before .before .before .before .before .before .before .before .before .before .before .before .before .before in
-    sym (length-take-le _ (s .args .counts .now) (omega (arith, few-vertices s, s .pre .1 .1 .1 .1 .1 .1 .0)))
+slice-aggregate-run-with-6 c = sym (counts-part (c .before .before .before .before .before .before .before .before .before .before .before .before .before .before .before .before .before .before .before))
 
 slice-relend-prefix-run-with-7 : tie.Need-slice-relend-prefix-run-with-7
 slice-relend-prefix-run-with-7 c = search needs
 
 slice-aggregate-run-with-7 : tie.Need-slice-aggregate-run-with-7
-slice-aggregate-run-with-7 c =
-    let s = c .before .before .before .before .before .before .before .before .before .before .before .before .before .before .before .before .before .before .before .before in
-    sym (length-take-le _ (s .args .reached .now) (omega (arith, few-cells s, s .pre .1 .1 .1 .1 .1 .1 .1 .0)))
+slice-aggregate-run-with-7 c = sym (reached-part (c .before .before .before .before .before .before .before .before .before .before .before .before .before .before .before .before .before .before .before .before))
 
 slice-relend-prefix-run-with-8 : tie.Need-slice-relend-prefix-run-with-8
 slice-relend-prefix-run-with-8 c = search needs
 
 slice-aggregate-run-with-8 : tie.Need-slice-aggregate-run-with-8
-slice-aggregate-run-with-8 c =
-    let s = c .before .before .before .before .before .before .before .before .before .before .before .before .before .before .before .before .before .before .before .before .before in
-    sym (length-take-le _ (s .args .gives .now) (omega (arith, few-cells s, s .pre .1 .1 .1 .1 .1 .1 .1 .1 .0)))
+slice-aggregate-run-with-8 c = sym (gives-part (c .before .before .before .before .before .before .before .before .before .before .before .before .before .before .before .before .before .before .before .before .before))
 
 slice-relend-prefix-run-with-9 : tie.Need-slice-relend-prefix-run-with-9
 slice-relend-prefix-run-with-9 c = search needs
 
 slice-aggregate-run-with-9 : tie.Need-slice-aggregate-run-with-9
-slice-aggregate-run-with-9 c =
-    let s = c .before .before .before .before .before .before .before .before .before .before .before .before .before .before .before .before .before .before .before .before .before .before in
-    sym (length-take-le _ (s .args .passes .now) (omega (arith, few-cells s, s .pre .1 .1 .1 .1 .1 .1 .1 .1 .1)))
+slice-aggregate-run-with-9 c = sym (passes-part (c .before .before .before .before .before .before .before .before .before .before .before .before .before .before .before .before .before .before .before .before .before .before))
 
 run-with-requires : tie.Need-run-with-requires
 run-with-requires c κs =
     let s = c .before .before .before .before .before .before .before .before .before .before .before .before .before .before .before .before .before .before .before .before .before .before in
-    (s .pre .0, (length-take-le _ (s .args .order .now) (omega (arith, few-edges s, s .pre .1 .0)) ∙ s .pre .0 .heads .edges-are, (length-take-le _ (s .args .versions .now) (omega (arith, few-cells s, s .pre .1 .1 .0)) ∙ size s, (length-take-le _ (s .args .uses .now) (omega (arith, few-cells s, s .pre .1 .1 .1 .0)) ∙ size s, (length-take-le _ (s .args .letters .now) (omega (arith, few-cells s, s .pre .1 .1 .1 .1 .0)) ∙ size s, (length-take-le _ (s .args .kept .now) (omega (arith, few-cells s, s .pre .1 .1 .1 .1 .1 .0)) ∙ size s, (length-take-le _ (s .args .counts .now) (omega (arith, few-vertices s, s .pre .1 .1 .1 .1 .1 .1 .0)) ∙ s .pre .0 .heads .vertices-are, (length-take-le _ (s .args .reached .now) (omega (arith, few-cells s, s .pre .1 .1 .1 .1 .1 .1 .1 .0)) ∙ size s, (length-take-le _ (s .args .gives .now) (omega (arith, few-cells s, s .pre .1 .1 .1 .1 .1 .1 .1 .1 .0)) ∙ size s, length-take-le _ (s .args .passes .now) (omega (arith, few-cells s, s .pre .1 .1 .1 .1 .1 .1 .1 .1 .1)) ∙ size s)))))))))
+    (s .pre .0, (order-part s ∙ s .pre .0 .heads .edges-are, (versions-part s ∙ size s, (uses-part s ∙ size s, (letters-part s ∙ size s, (kept-part s ∙ size s, (counts-part s ∙ s .pre .0 .heads .vertices-are, (reached-part s ∙ size s, (gives-part s ∙ size s, passes-part s ∙ size s)))))))))
+
+-- ---- and back
+
+abbrev start : tie.After-run-with → tie.Start
+start r = r .before .before .before .before .before .before .before .before .before .before .before .before .before .before .before .before .before .before .before .before .before .before .before
 
 same-length : tie.Need-same-length
-same-length c = search needs
+same-length c = c .before .before .before .before .before .before .before .before .before .before .before .before .before .before .before .before .before .before .before .before .run-with .kept .1 .1 .1 .0
 
 same-length-2 : tie.Need-same-length-2
-same-length-2 c = search needs
+same-length-2 c =
+    let r = c .before .before .before .before .before .before .before .before .before .before .before .before .before .before .before .before .before .before .before .before in
+    let s = start r in
+    same-whole (s .args .h .edges) (s .args .order .now) (r .run-with .last .1 .1 .1 .1 .0) (s .pre .1 .0) (few-edges s) (r .run-with .kept .1 .1 .1 .1 .0)
 
 same-length-3 : tie.Need-same-length-3
-same-length-3 c = search needs
+same-length-3 c =
+    let r = c .before .before .before .before .before .before .before .before .before .before .before .before .before .before .before .before .before .before .before .before in
+    let s = start r in
+    same-whole (8 * s .args .h .vertices) (s .args .versions .now) (r .run-with .last .1 .1 .1 .1 .1 .0) (s .pre .1 .1 .0) (few-cells s) (r .run-with .kept .1 .1 .1 .1 .1 .0)
 
 same-length-4 : tie.Need-same-length-4
-same-length-4 c = search needs
+same-length-4 c =
+    let r = c .before .before .before .before .before .before .before .before .before .before .before .before .before .before .before .before .before .before .before .before in
+    let s = start r in
+    same-whole (8 * s .args .h .vertices) (s .args .uses .now) (r .run-with .last .1 .1 .1 .1 .1 .1 .0) (s .pre .1 .1 .1 .0) (few-cells s) (r .run-with .kept .1 .1 .1 .1 .1 .1 .0)
 
 same-length-5 : tie.Need-same-length-5
-same-length-5 c = search needs
+same-length-5 c =
+    let r = c .before .before .before .before .before .before .before .before .before .before .before .before .before .before .before .before .before .before .before .before in
+    let s = start r in
+    same-whole (8 * s .args .h .vertices) (s .args .letters .now) (r .run-with .last .1 .1 .1 .1 .1 .1 .1 .0) (s .pre .1 .1 .1 .1 .0) (few-cells s) (r .run-with .kept .1 .1 .1 .1 .1 .1 .1 .0)
 
 same-length-6 : tie.Need-same-length-6
-same-length-6 c = search needs
+same-length-6 c =
+    let r = c .before .before .before .before .before .before .before .before .before .before .before .before .before .before .before .before .before .before .before .before in
+    let s = start r in
+    same-whole (8 * s .args .h .vertices) (s .args .kept .now) (r .run-with .last .1 .1 .1 .1 .1 .1 .1 .1 .0) (s .pre .1 .1 .1 .1 .1 .0) (few-cells s) (r .run-with .kept .1 .1 .1 .1 .1 .1 .1 .1 .0)
 
 same-length-7 : tie.Need-same-length-7
-same-length-7 c = search needs
+same-length-7 c =
+    let r = c .before .before .before .before .before .before .before .before .before .before .before .before .before .before .before .before .before .before .before .before in
+    let s = start r in
+    same-whole (s .args .h .vertices) (s .args .counts .now) (r .run-with .last .1 .1 .1 .1 .1 .1 .1 .1 .1 .0) (s .pre .1 .1 .1 .1 .1 .1 .0) (few-vertices s) (r .run-with .kept .1 .1 .1 .1 .1 .1 .1 .1 .1 .0)
 
 same-length-8 : tie.Need-same-length-8
-same-length-8 c = search needs
+same-length-8 c =
+    let r = c .before .before .before .before .before .before .before .before .before .before .before .before .before .before .before .before .before .before .before .before in
+    let s = start r in
+    same-whole (8 * s .args .h .vertices) (s .args .reached .now) (r .run-with .last .1 .1 .1 .1 .1 .1 .1 .1 .1 .1 .0) (s .pre .1 .1 .1 .1 .1 .1 .1 .0) (few-cells s) (r .run-with .kept .1 .1 .1 .1 .1 .1 .1 .1 .1 .1 .0)
 
 same-length-9 : tie.Need-same-length-9
-same-length-9 c = search needs
+same-length-9 c =
+    let r = c .before .before .before .before .before .before .before .before .before .before .before .before .before .before .before .before .before .before .before .before in
+    let s = start r in
+    same-whole (8 * s .args .h .vertices) (s .args .gives .now) (r .run-with .last .1 .1 .1 .1 .1 .1 .1 .1 .1 .1 .1 .0) (s .pre .1 .1 .1 .1 .1 .1 .1 .1 .0) (few-cells s) (r .run-with .kept .1 .1 .1 .1 .1 .1 .1 .1 .1 .1 .1 .0)
 
 same-length-10 : tie.Need-same-length-10
-same-length-10 c = search needs
+same-length-10 c =
+    let r = c .before .before .before .before .before .before .before .before .before .before .before .before .before .before .before .before .before .before .before .before in
+    let s = start r in
+    same-whole (8 * s .args .h .vertices) (s .args .passes .now) (r .run-with .last .1 .1 .1 .1 .1 .1 .1 .1 .1 .1 .1 .1 .0) (s .pre .1 .1 .1 .1 .1 .1 .1 .1 .1) (few-cells s) (r .run-with .kept .1 .1 .1 .1 .1 .1 .1 .1 .1 .1 .1 .1 .0)
 
 returns : tie.Need-returns
-returns c = search needs
+returns c = c .before .before .before .before .before .before .before .before .before .before .before .before .before .before .before .before .before .before .before .before .run-with .ensures
 
 pub run-within-spec : {M : Type 1} → statement M
 run-within-spec =

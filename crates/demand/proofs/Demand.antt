@@ -1,0 +1,158 @@
+-- Demand 3 for every accepted file and path: all arrays at once, along the whole path.
+-- Assumes nothing.
+use mathlib.Core.Path.{_≡_, refl, sym, ap, ap₂, _∙_}
+use mathlib.Core.Bool.{Bool, cond}
+use mathlib.Core.List.{List, [], _∷_, _++_}
+use mathlib.Core.Option.{Option, none, some}
+use Prim.Native.Nat.{ℕ, zero, suc, _+_, _-_, _≤_, _<_}
+use native.Mathlib.Nat.{add-zero}
+use native.Mathlib.Omega.{arith}
+use lib.Dec.{T}
+use Rattle.labels.specs.Events.{exit, isInOrInout, kind, initial, event, isLabel, version, versionOf}
+use Rattle.labels.specs.Reaching.{orLast, lastVersion}
+use Rattle.labels.specs.declared.Use.{Use}
+use Rattle.labels.proofs.Rules.Proper.{proper}
+use Rattle.routine.specs.Actions.{isReference, isRemap}
+use Rattle.routine.specs.Layout.{arrays}
+use Rattle.routine.specs.Reader.{WellFormed}
+use Rattle.refusal.specs.declared.Verdict.the-variants.{Passed}
+use Rattle.routine.specs.declared.action.Action.{Action}
+use Rattle.routine.specs.declared.action.Action.the-variants.{Nothing, Reference, Remap, Unknown}
+use Rattle.routine.specs.declared.array.ArrayRecord.{ArrayRecord}
+use Rattle.report.specs.declared.record.Record.{Record}
+use Rattle.state.specs.declared.State.{State}
+use Rattle.demand.specs.Demand.{IsHome, Demand3}
+use Rattle.state.specs.Fits.{Fits}
+use Rattle.demand.specs.Machine.{Machine, machineStep, machineAfter, machineRecords}
+use Rattle.path.specs.Paths.{steps, vertexAt, pathCheck}
+use Rattle.report.specs.Records.{byArray, byStep}
+use Rattle.state.specs.Moves.{moves, copies}
+use Rattle.state.specs.References.{referenced}
+use Rattle.state.specs.Vertex.{labelled, visited}
+use Rattle.demand.specs.Run.{stateAfter, runRecords, copiedBy, copiedAt, stampsCopied}
+use Rattle.demand.proofs.Along.{Follows, left-copies, fits, begins, used-at, below-at, alike-at, few-at, home-at}
+use Rattle.state.proofs.Cases.{at-cond}
+use Rattle.demand.proofs.Invariant.{Sound}
+use Rattle.path.proofs.Paths.{Walk, walk}
+use Rattle.demand.proofs.Planned.{planOf, sound}
+use Rattle.words.specs.Tables.{table}
+
+-- ---- records of two runs that agree at every step and array
+
+byArray-same : (f g : ℕ → List Record) (m : ℕ) → ((a : ℕ) → a < m → f a ≡ g a) → byArray f m ≡ byArray g m
+unfolding byArray
+byArray-same f g zero h = refl
+byArray-same f g (suc m) h = ap₂ _++_ (byArray-same f g m (λ a l. h a (omega arith))) (h m (omega arith))
+
+byStep-same : (f g : ℕ → ℕ → List Record) (m n : ℕ) → ((i a : ℕ) → i < n → a < m → f i a ≡ g i a) → byStep f m n ≡ byStep g m n
+unfolding byStep
+byStep-same f g m zero h = refl
+byStep-same f g m (suc n) h =
+    ap₂ _++_ (byStep-same f g m n (λ i a l. h i a (omega arith))) (byArray-same (f n) (g n) m (λ a. h n a (omega arith)))
+
+-- ---- the version of the last label before a vertex
+
+last-none : (o : Option ℕ) → orLast none o ≡ o
+last-none none = refl
+last-none (some k) = refl
+
+last-assoc : (a b c : Option ℕ) → orLast a (orLast b c) ≡ orLast (orLast a b) c
+last-assoc a b none = refl
+last-assoc a b (some k) = refl
+
+last-snoc : (test : ℕ → Bool) (ver : ℕ → ℕ) (us : List ℕ) (u : ℕ)
+    → lastVersion test ver (us ++ (u ∷ [])) ≡ orLast (lastVersion test ver us) (cond (test u) (some (ver u)) none)
+last-snoc test ver [] u = sym (last-none _)
+last-snoc test ver (x ∷ us) u = rw (last-snoc test ver us u, last-assoc)
+
+-- a label's version is held from there on
+last-step : (x : Action) (step : ℕ) (m : Machine) → orLast (some (m .held)) (cond (isRemap x) (some (versionOf x)) none) ≡ some (machineStep x step m .held)
+last-step Nothing step m = refl
+last-step (Reference x) step m = refl
+last-step (Remap k) step m = refl
+last-step Unknown step m = refl
+
+-- ---- copies counted
+
+visited-copies : (r : ArrayRecord) (x : Action) (u : Use) (keep step : ℕ) (s : State) → visited r x u keep step s .copies ≡ s .copies + cond (copiedBy x u s) 1 0
+unfolding labelled referenced
+visited-copies r Nothing u keep step s = sym (add-zero (s .copies))
+visited-copies r (Reference x) u keep step s = sym (add-zero (s .copies))
+visited-copies r (Remap t) u keep step s =
+    at-cond (λ (s' : State). s' .copies ≡ s .copies + cond (copies u t s) 1 0) (moves u t s) (λ h. refl) (λ h. cc (add-zero (s .copies)))
+visited-copies r Unknown u keep step s = sym (add-zero (s .copies))
+
+-- ---- one array of an accepted file along an accepted path
+
+module _ {file path : List ℕ} (walk : Walk file path) (a : ℕ) where
+  follows : Follows (planOf file a) (vertexAt path) (steps path) (stateAfter file path a) (machineAfter file path a)
+  unfolding stateAfter machineAfter
+  follows =
+      record {
+        short = walk .short;
+        begins = walk .begins;
+        joined = walk .joined;
+        run-start = refl;
+        run-step = λ i. refl;
+        machine-start = refl;
+        machine-step = λ i. refl;
+      }
+
+  counted : (n : ℕ) → stateAfter file path a n .copies ≡ stampsCopied file path a n
+  unfolding stateAfter stampsCopied
+  counted zero = at-cond (λ (s : State). s .copies ≡ 0) (isInOrInout (kind file a)) (λ _. refl) (λ _. refl)
+  counted (suc i) = rw (left-copies, visited-copies) (ap (λ (c : ℕ). c + cond (copiedAt file path a i) 1 0) (counted i))
+
+  module _ (sound : Sound (planOf file a)) where
+    entered : event file a (vertexAt path 0) ≡ Remap (initial file a)
+    entered = begins sound follows
+
+    -- the last label's version is held
+    last-held : (i : ℕ) → lastVersion (isLabel file a) (version file a) (table (vertexAt path) (suc i)) ≡ some (machineAfter file path a (suc i) .held)
+    unfolding machineAfter version
+    last-held zero = rw entered
+    last-held (suc i) =
+        let v = vertexAt path (suc i) in
+        last-snoc _ _ (table (vertexAt path) (suc i)) v
+        ∙ ap (λ (o : Option ℕ). orLast o (cond (isLabel file a v) (some (version file a v)) none)) (last-held i)
+        ∙ last-step (event file a v) (suc i + 1) (machineAfter file path a (suc i))
+
+    -- and a reference uses it
+    names : (i : ℕ) → i < steps path → T (isReference (event file a (vertexAt path i)))
+        → lastVersion (isLabel file a) (version file a) (table (vertexAt path) i) ≡ some (stateAfter file path a i .current)
+    names zero h g = absurd (rw entered at g)
+    names (suc i) h g = last-held i ∙ ap some (sym (used-at sound follows (suc i) h g))
+
+    home : vertexAt path (steps path - 1) ≡ exit file → 2 ≤ kind file a → IsHome file path a
+    home e k =
+        let n : suc (steps path - 1) ≡ steps path = omega (arith, walk .some) in
+        rw (← n) (home-at sound follows (steps path - 1) (omega arith) e k)
+
+-- ---- the whole
+
+module _ (file path : List ℕ) (w : WellFormed file) (accepted : pathCheck file path ≡ Passed) where
+  walks : Walk file path
+  walks = walk w accepted
+
+  plans : (a : ℕ) → a < arrays file → Sound (planOf file a)
+  plans a l = sound (proper file w a l)
+
+  pub demand3 : Demand3 file path
+  unfolding runRecords machineRecords
+  demand3 =
+      record {
+        reads-alike = byStep-same _ _ (arrays file) (steps path) (λ i a h l. alike-at (plans a l) (follows walks a) i a h);
+        source-names = λ i a h l. names walks a (plans a l) i h;
+        ends-home = λ a l. home walks a (plans a l);
+        copies-counted = λ a l. counted walks a (steps path);
+        copies-fewer = λ a l. few-at (plans a l) (follows walks a) (steps path) (omega arith);
+      }
+
+  -- every state on the way fits its types
+  pub state-fits : (a n : ℕ) → a < arrays file → n ≤ steps path → Fits (stateAfter file path a n) n
+  state-fits a n l = fits (plans a l) (follows walks a) n
+
+  -- and at a reference a version is current
+  pub reference-below :
+      (i a : ℕ) → i < steps path → a < arrays file → T (isReference (event file a (vertexAt path i))) → stateAfter file path a i .current < 16
+  reference-below i a h l = below-at (plans a l) (follows walks a) i h

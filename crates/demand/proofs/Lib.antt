@@ -1,0 +1,5 @@
+pub mod Along
+pub mod Demand
+pub mod Invariant
+pub mod Labels
+pub mod Planned

@@ -1,0 +1,63 @@
+-- The computed plan of each array of a well-formed file is sound.
+-- Assumes nothing.
+use mathlib.Core.Path.{_≡_, refl, sym, ap, _∙_}
+use mathlib.Core.Bool.{Bool, false, cond, or-true}
+use mathlib.Core.List.{List}
+use Prim.Native.Nat.{ℕ, _≤_}
+use native.Mathlib.Omega.{arith}
+use borrow.Author.Tests.{eqb-true, eq-eqb, ne-eqb}
+use Rattle.labels.specs.Events.{edgeBytes, entry, exit, kind, initial, event, versionOf, version}
+use Rattle.labels.specs.Kept.{isNOrR, keptOf}
+use Rattle.labels.specs.Proper.{Proper}
+use Rattle.labels.specs.Uses.{isN, useOf}
+use Rattle.labels.specs.declared.Use.{Use}
+use Rattle.labels.specs.declared.Use.the-variants.{N, D, R, W}
+use Rattle.labels.proofs.Rules.Events.{version-fits}
+use Rattle.labels.proofs.Rules.Kept.{kept-alone}
+use Rattle.labels.proofs.Rules.Uses.{exit-letter, n-segment, d-segment, r-segment}
+use Rattle.routine.specs.Arrays.{arrayOf}
+use Rattle.routine.specs.declared.action.Action.the-variants.{Remap}
+use Rattle.sets.specs.Sets.{has}
+use Rattle.sets.proofs.Laws.{has-single}
+use Rattle.demand.proofs.Invariant.{Plan, Sound}
+
+-- the plan of array a
+abbrev pub planOf : List ℕ → ℕ → Plan
+planOf file a =
+    record { edges = edgeBytes file; event = event file a; letter = useOf file a; keep = keptOf file a; array = arrayOf file a; exit = exit file }
+
+not-N-or-R : (u : Use) → isN u ≡ false → (u ≡ R → ⊥) → isNOrR u ≡ false
+not-N-or-R N h g = cc
+not-N-or-R D h g = refl
+not-N-or-R R h g = absurd (g refl)
+not-N-or-R W h g = refl
+
+module _ {file : List ℕ} {a : ℕ} (proper : Proper file a) where
+  -- a label's version
+  labels : (v k : ℕ) → event file a v ≡ Remap k → version file a v ≡ k
+  unfolding version
+  labels v k e = ap versionOf e
+
+  entry-remaps : event file a entry ≡ Remap (initial file a)
+  unfolding event
+  entry-remaps = refl
+
+  exit-remaps : 2 ≤ kind file a → event file a (exit file) ≡ Remap (initial file a)
+  unfolding event
+  exit-remaps k = rw (eq-eqb (exit file) (exit file) refl, ne-eqb (kind file a) 0 (λ e. omega arith), or-true)
+
+  pub sound : Sound (planOf file a)
+  sound =
+      record {
+        unused = λ {v} e. n-segment file a proper v;
+        defined = λ {v} e. d-segment file a proper v;
+        only-read = λ {v} e. r-segment file a proper v;
+        alone = λ {v} {k} e n c j h.
+            let m = kept-alone file a v refl (rw (not-N-or-R (useOf file a v) n c) tt) (rw e tt) in
+            sym (eqb-true (version file a v) j (sym (has-single (version file a v) j) ∙ ap (λ (m : ℕ). has m j) (sym m) ∙ h)) ∙ labels v k e;
+        below = λ {v} {k} e. omega (arith, version-fits file a proper v, labels v k e);
+        entry-remaps = entry-remaps;
+        exit-remaps = exit-remaps;
+        exit-letter = λ k. exit-letter file a proper (exit file) refl ∙ ap (λ (b : Bool). cond b R W) (ne-eqb (kind file a) 1 (λ e. omega arith));
+        exit-ends = λ {w}. proper .none-leaves w;
+      }

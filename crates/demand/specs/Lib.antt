@@ -1,0 +1,3 @@
+pub mod Demand
+pub mod Machine
+pub mod Run

@@ -1,0 +1,69 @@
+-- `path::check` meets its contract: refusals 30 to 32 in a row; a path of an accepted length has a first vertex.
+-- Assumes nothing.
+use mathlib.Core.Path.{sym, _∙_}
+use Prim.Native.Nat.{_<_}
+use borrow.Author.Needs.{needs}
+use Rattle.routine.proofs.Laws.{fails, passes, holds-true, within-limits}
+use Rattle.path.specs.Paths.{steps, pathCheck}
+use Rattle.path.proofs.check.Statement.{statement}
+use Rattle.path.proofs.check.Tie as tie
+
+check-length-requires : tie.Need-check-length-requires
+check-length-requires c κs = search needs
+
+enum-told : tie.Need-enum-told
+enum-told c = search needs
+
+returns : tie.Need-returns
+unfolding pathCheck
+returns c = fails _ (c .before .before .check-length .ensures) (c .enum-told .given .1)
+
+enum-told-2 : tie.Need-enum-told-2
+enum-told-2 c = search needs
+
+some-vertex : (c : tie.After-enum-told2) → 0 < steps (c .before .before .before .before .before .args .path .now)
+some-vertex c = within-limits 1 4096 _ (holds-true _ _ (sym (c .before .before .check-length .ensures) ∙ c .enum-told2 .given .1)) .0
+
+check-start-requires : tie.Need-check-start-requires
+check-start-requires c κs = some-vertex c
+
+enum-told-3 : tie.Need-enum-told-3
+enum-told-3 c = search needs
+
+returns-2 : tie.Need-returns-2
+unfolding pathCheck
+returns-2 c =
+    let l = c .before .before .before in
+    passes (l .before .before .check-length .ensures) (l .enum-told2 .given .1) (fails _ (c .before .before .check-start .ensures) (c .enum-told3 .given .1))
+
+enum-told-4 : tie.Need-enum-told-4
+enum-told-4 c = search needs
+
+check-arrivals-requires : tie.Need-check-arrivals-requires
+check-arrivals-requires c κs =
+    let l = c .before .before .before in
+    (l .before .before .before .before .before .pre, some-vertex l)
+
+returns-3 : tie.Need-returns-3
+unfolding pathCheck
+returns-3 c =
+    let s = c .before in
+    let l = s .before .before .before in
+    passes (l .before .before .check-length .ensures) (l .enum-told2 .given .1)
+    (passes (s .before .before .check-start .ensures) (s .enum-told4 .given .1)
+    (c .check-arrivals .ensures))
+
+pub check-spec : {M : Type 1} → statement M
+check-spec =
+    tie.close
+    (tie.spec
+    check-length-requires
+    enum-told
+    returns
+    enum-told-2
+    check-start-requires
+    enum-told-3
+    returns-2
+    enum-told-4
+    check-arrivals-requires
+    returns-3)

@@ -1,0 +1,52 @@
+-- `is_marked` meets its contract, by cases of the tests.
+-- Assumes nothing.
+use borrow.Author.Needs.{needs}
+use borrow.Author.Tests.{lt-ltb, le-ltb}
+use Rattle.path.proofs.is_marked.Statement.{statement}
+use Rattle.path.proofs.is_marked.Tie as tie
+
+returns : tie.Need-returns
+returns c = rw (le-ltb (c .before .before .args .v) 256 (c .if1 .taken))
+
+returns-2 : tie.Need-returns-2
+returns-2 c =
+    let a = c .before .before .before .args in
+    rw (lt-ltb (a .v) 256 (c .before .if1 .left), le-ltb (a .w) 256 (c .if2 .taken))
+
+mul-at : tie.Need-mul-at
+mul-at c = search needs
+
+add-at : tie.Need-add-at
+add-at c = search needs
+
+mul-member : tie.Need-mul-member
+mul-member c = search needs
+
+shared-slice-read-member : tie.Need-shared-slice-read-member
+shared-slice-read-member c = search needs
+
+cast-member : tie.Need-cast-member
+cast-member c = search needs
+
+member-requires : tie.Need-member-requires
+member-requires c κs = search needs
+
+returns-3 : tie.Need-returns-3
+returns-3 c =
+    let e = c .before .before in
+    let a = e .before .before .before .args in
+    rw (lt-ltb (a .v) 256 (e .before .if1 .left), lt-ltb (a .w) 256 (e .if2 .left)) (c .member .ensures)
+
+pub is-marked-spec : {M : Type 1} → statement M
+is-marked-spec =
+    tie.close
+    (tie.spec
+    returns
+    returns-2
+    mul-at
+    add-at
+    mul-member
+    shared-slice-read-member
+    cast-member
+    member-requires
+    returns-3)

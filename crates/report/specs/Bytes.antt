@@ -1,0 +1,28 @@
+-- Document 01, "Plan and report": the bytes of an array's entry and of a record.
+-- Assumes nothing.
+use mathlib.Core.List.{List, [], _∷_, _++_}
+use Prim.Native.Nat.{ℕ}
+use lib.ListN.{getD}
+use Rattle.report.specs.declared.record.Record.{Record}
+use Rattle.state.specs.declared.State.{State}
+use Rattle.words.specs.Tables.{rows}
+use Rattle.words.specs.Words.{bytes16}
+
+-- for each array six bytes: copies, live set, current version or 255, zero
+abbrev pub entryBytes : State → List ℕ
+entryBytes s = bytes16 (s .copies) ++ (bytes16 (s .live) ++ (s .current ∷ 0 ∷ []))
+
+-- the state of array a in a list of states, and past its end zeros
+abbrev pub stateOf : List State → ℕ → State
+stateOf states a = getD states a (record { current = 0; live = 0; stamps = []; copies = 0 })
+
+abbrev pub entriesOf : List State → ℕ → List ℕ
+entriesOf states m = rows (λ a. entryBytes (stateOf states a)) m
+
+-- ten bytes for each reference: step, array, version, kind, zero, stamp seen, new stamp
+abbrev pub recordBytes : Record → List ℕ
+recordBytes r = bytes16 (r .step) ++ (r .array ∷ r .version ∷ r .kind ∷ 0 ∷ (bytes16 (r .seen) ++ bytes16 (r .new)))
+
+abbrev pub recordsBytes : List Record → List ℕ
+recordsBytes [] = []
+recordsBytes (r ∷ rs) = recordBytes r ++ recordsBytes rs

@@ -1,0 +1,49 @@
+-- Document 01, "Plan and report": one record for each reference on the path. Run and machine build them alike.
+-- Assumes nothing.
+use mathlib.Core.List.{List, [], _∷_, _++_}
+use Prim.Native.Nat.{ℕ, zero, suc}
+use Rattle.routine.specs.declared.action.Access.{Access}
+use Rattle.routine.specs.declared.action.Access.the-variants.{Read, Define, Modify}
+use Rattle.routine.specs.declared.action.Action.{Action}
+use Rattle.routine.specs.declared.action.Action.the-variants.{Nothing, Reference, Remap, Unknown}
+use Rattle.report.specs.declared.record.Record.{Record}
+
+-- kind: 1 read, 2 define, 3 modify
+abbrev pub kindOf : Access → ℕ
+kindOf Read = 1
+kindOf Define = 2
+kindOf Modify = 3
+
+-- stamp seen, 0 for define
+abbrev pub seenBy : Access → ℕ → ℕ
+seenBy Read stamp = stamp
+seenBy Define stamp = 0
+seenBy Modify stamp = stamp
+
+-- new stamp, 0 for read: a define or modify gives its step number
+abbrev pub newBy : Access → ℕ → ℕ
+newBy Read step = 0
+newBy Define step = step
+newBy Modify step = step
+
+-- the record of a reference to an array, of the version that is used and the stamp that stood before this step
+abbrev pub recordOf : Access → ℕ → ℕ → ℕ → ℕ → Record
+recordOf x step array version stamp =
+    record { step = step; array = array; version = version; kind = kindOf x; seen = seenBy x stamp; new = newBy x step }
+
+-- an event's records: one if it is a reference
+abbrev pub recordsAt : Action → ℕ → ℕ → ℕ → ℕ → List Record
+recordsAt Nothing step array version stamp = []
+recordsAt (Reference x) step array version stamp = recordOf x step array version stamp ∷ []
+recordsAt (Remap k) step array version stamp = []
+recordsAt Unknown step array version stamp = []
+
+-- the records of n steps with m arrays each, by step, then array: `at i a` are those of array a at index i of the path
+unfoldable pub byArray : (ℕ → List Record) → ℕ → List Record
+byArray at zero = []
+byArray at (suc m) = byArray at m ++ at m
+
+unfoldable pub byStep : (ℕ → ℕ → List Record) → ℕ → ℕ → List Record
+unfolding byArray
+byStep at m zero = []
+byStep at m (suc n) = byStep at m n ++ byArray (at n) m

@@ -1,6 +1,0 @@
-pub mod Along
-pub mod Demand
-pub mod Invariant
-pub mod Labels
-pub mod Paths
-pub mod Planned

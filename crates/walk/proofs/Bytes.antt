@@ -1,0 +1,82 @@
+-- The report's bytes, entry by entry and record by record, and their number.
+-- Assumes nothing.
+use mathlib.Core.Path.{_≡_, refl, ap, ap₂}
+use mathlib.Core.Bool.{cond}
+use mathlib.Core.List.{List, _++_}
+use Prim.Native.Nat.{ℕ, zero, suc, _+_, _*_, _<_}
+use native.Mathlib.Omega.{arith}
+use lib.ListN.{length, length-append}
+use Rattle.demand.specs.Run.{stateAfter, runRecords}
+use Rattle.labels.specs.Events.{event}
+use Rattle.path.specs.Paths.{steps, vertexAt}
+use Rattle.report.specs.Bytes.{entryBytes, stateOf, entriesOf, recordsBytes}
+use Rattle.report.specs.Records.{recordsAt}
+use Rattle.report.specs.References.{referencesAmong, referencesAt}
+use Rattle.report.proofs.Bytes.{entries-length, byStep-bytes, ten}
+use Rattle.routine.specs.Actions.{isReference}
+use Rattle.routine.specs.Layout.{arrays}
+use Rattle.state.specs.States.{stampOf}
+use Rattle.state.specs.declared.State.{State}
+use Rattle.walk.specs.Report.{entries, reportBytes, referencesOn, reportLength}
+use Rattle.words.specs.Tables.{rows}
+
+-- ---- entries
+
+pub rows-same : (f g : ℕ → List ℕ) (n : ℕ) → ((i : ℕ) → i < n → f i ≡ g i) → rows f n ≡ rows g n
+unfolding rows
+rows-same f g zero same = refl
+rows-same f g (suc n) same = ap₂ _++_ (rows-same f g n (λ i h. same i (omega arith))) (same n (omega arith))
+
+pub entries-of :
+    (file path : List ℕ) (states : List State) → ((a : ℕ) → a < arrays file → stateOf states a ≡ stateAfter file path a (steps path))
+    → entriesOf states (arrays file) ≡ entries file path
+unfolding entries
+entries-of file path states is =
+    rows-same (λ a. entryBytes (stateOf states a)) (λ a. entryBytes (stateAfter file path a (steps path))) (arrays file)
+    (λ a h. ap entryBytes (is a h))
+
+-- ---- records
+
+-- the bytes of array a at index i of the path
+abbrev pub recordBytesAt : List ℕ → List ℕ → ℕ → ℕ → List ℕ
+recordBytesAt file path i a =
+    recordsBytes
+    (recordsAt (event file a (vertexAt path i)) (i + 1) a (stateAfter file path a i .current)
+    (stampOf (stateAfter file path a i) (stateAfter file path a i .current)))
+
+pub records-bytes : (file path : List ℕ) → recordsBytes (runRecords file path) ≡ rows (λ i. rows (recordBytesAt file path i) (arrays file)) (steps path)
+unfolding runRecords
+records-bytes file path = byStep-bytes _ (arrays file) (steps path)
+
+-- ---- how many bytes
+
+-- rows of ten bytes for each of `count i`, and their sum
+tens : (row : ℕ → List ℕ) (count sum : ℕ → ℕ) → sum 0 ≡ 0 → ((i : ℕ) → sum (suc i) ≡ sum i + count i) → ((i : ℕ) → length (row i) ≡ 10 * count i)
+    → (n : ℕ) → length (rows row n) ≡ 10 * sum n
+unfolding rows
+tens row count sum none more each zero = omega arith
+tens row count sum none more each (suc n) = rw length-append (omega (arith, tens row count sum none more each n, more n, each n))
+
+module _ (file path : List ℕ) where
+  at-step : (i m : ℕ) → length (rows (recordBytesAt file path i) m) ≡ 10 * referencesAmong file (vertexAt path i) m
+  unfolding referencesAmong
+  at-step i =
+      tens (recordBytesAt file path i) (λ a. cond (isReference (event file a (vertexAt path i))) 1 0) (referencesAmong file (vertexAt path i)) refl (λ a. refl)
+      (λ a. ten (event file a (vertexAt path i)) (i + 1) a _ _)
+
+  on-path : (n : ℕ) → length (rows (λ i. rows (recordBytesAt file path i) (arrays file)) n) ≡ 10 * referencesOn file path n
+  unfolding referencesOn
+  on-path =
+      tens (λ i. rows (recordBytesAt file path i) (arrays file)) (λ i. referencesAt file (vertexAt path i)) (referencesOn file path) refl (λ i. refl)
+      (λ i. at-step i (arrays file))
+
+  pub report-length : length (reportBytes file path) ≡ reportLength file path
+  unfolding reportBytes entries reportLength
+  report-length =
+      rw length-append
+      (omega (arith, entries-length (λ a. stateAfter file path a (steps path)) (arrays file), ap length (records-bytes file path), on-path (steps path)))
+
+  -- six bytes an array, and then the records
+  pub report-parts : length (reportBytes file path) ≡ 6 * arrays file + length (recordsBytes (runRecords file path))
+  unfolding reportBytes entries
+  report-parts = rw length-append (omega (arith, entries-length (λ a. stateAfter file path a (steps path)) (arrays file)))

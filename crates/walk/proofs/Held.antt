@@ -1,0 +1,162 @@
+-- The arrays' states as they are held along the path: one more is filled in, and the references of one more array are made.
+-- Assumes nothing.
+use mathlib.Core.Path.{_≡_, refl, sym, ap, ap₂, subst, _∙_}
+use mathlib.Core.Bool.{Bool, true, false, _||_, true≢false}
+use mathlib.Core.List.{List, _++_}
+use Prim.Native.Nat.{ℕ, _+_, _-_, _≤_, _<_}
+use native.Mathlib.Omega.{arith}
+use borrow.Author.Tests.{eqb-true, eqb-false}
+use lib.Dec.{eqb}
+use lib.ListN.{length, getD, set, take, drop, length-append, length-set}
+use lib.Seq.{getD-set-same, getD-set-other}
+use Rattle.labels.specs.Events.{event}
+use Rattle.routine.specs.Actions.{isRemap}
+use Rattle.routine.specs.declared.action.Action.{Action}
+use Rattle.state.specs.Current.{currentStamp, stampBy, settled}
+use Rattle.state.specs.declared.State.{State}
+use Rattle.state.proofs.Current.{settled-own}
+use Rattle.report.specs.Records.{recordsAt}
+use Rattle.report.specs.Bytes.{stateOf, recordsBytes}
+use Rattle.walk.specs.Walks.{Stands, Held, rowBytes, Referred}
+use Rattle.words.specs.Tables.{wrote}
+use Rattle.words.proofs.Tables.{rows-fit, rows-more}
+use Rattle.words.proofs.Written.{partFrom, write-more}
+
+-- ---- states
+
+stands-as : {want s s' : State} {version version' stamp stamp' : ℕ} → s' ≡ s → version' ≡ version → stamp' ≡ stamp
+    → Stands want s version stamp → Stands want s' version' stamp'
+stands-as e f g h = record { is = ap₂ settled g e ∙ h .is; version-is = f ∙ h .version-is ∙ ap (λ (s : State). s .current) (sym e) }
+
+pub held-as : {want want' : ℕ → State} {m : ℕ} {states : List State} {versions stamps : List ℕ} → ((b : ℕ) → b < m → want b ≡ want' b)
+    → Held want m states versions stamps → Held want' m states versions stamps
+held-as {want} {want'} {m} {states} {versions} {stamps} same h = record {
+  states-sized = h .states-sized;
+  versions-sized = h .versions-sized;
+  stamps-sized = h .stamps-sized;
+  stand = λ b in-b. subst (λ (s : State). Stands s (stateOf states b) (getD versions b 0) (getD stamps b 0)) (same b in-b) (h .stand b in-b);
+}
+
+-- one more state is filled in
+pub hold-more : {want : ℕ → State} {a stamp : ℕ} {states : List State} {versions stamps : List ℕ} {s : State} → Held want a states versions stamps
+    → a < 8 → s ≡ want a → stamp ≡ currentStamp s → Held want (a + 1) (set states a s) (set versions a (s .current)) (set stamps a stamp)
+hold-more {want} {a} {stamp} {states} {versions} {stamps} {s} h in-a is own = record {
+  states-sized = length-set states a s ∙ h .states-sized;
+  versions-sized = length-set versions a (s .current) ∙ h .versions-sized;
+  stamps-sized = length-set stamps a stamp ∙ h .stamps-sized;
+  stand = λ b in-b. go b in-b (eqb b a) refl;
+}
+  where
+    new : Stands (want a) s (s .current) stamp
+    new = record { is = ap (λ (x : ℕ). settled x s) own ∙ settled-own s ∙ is; version-is = refl }
+
+    go : (b : ℕ) → b < a + 1 → (t : Bool) → eqb b a ≡ t
+        → Stands (want b) (stateOf (set states a s) b) (getD (set versions a (s .current)) b 0) (getD (set stamps a stamp) b 0)
+    go b in-b true e =
+        rw (eqb-true b a e)
+        (stands-as (getD-set-same states a s _ (omega (arith, h .states-sized))) (getD-set-same versions a (s .current) 0 (omega (arith, h .versions-sized)))
+        (getD-set-same stamps a stamp 0 (omega (arith, h .stamps-sized))) new)
+    go b in-b false e =
+        let ne = eqb-false b a e in
+        stands-as (getD-set-other states a b s _ ne) (getD-set-other versions a b (s .current) 0 ne) (getD-set-other stamps a b stamp 0 ne)
+        (h .stand b (omega (arith, ne)))
+
+-- the states and stamps from array a on are as they were
+pub record Untouched (a : ℕ) (states₀ : List State) (stamps₀ : List ℕ) (states : List State) (stamps : List ℕ) : Type 0 where
+  pub states-same : (b : ℕ) → a ≤ b → stateOf states b ≡ stateOf states₀ b
+  pub stamps-same : (b : ℕ) → a ≤ b → getD stamps b 0 ≡ getD stamps₀ b 0
+
+pub untouched-more : {a : ℕ} {states₀ states : List State} {stamps₀ stamps : List ℕ} (s : State) (stamp : ℕ) → Untouched a states₀ stamps₀ states stamps
+    → Untouched (a + 1) states₀ stamps₀ (set states a s) (set stamps a stamp)
+untouched-more {a} {states₀} {states} {stamps₀} {stamps} s stamp u = record {
+  states-same = λ b h. getD-set-other states a b s _ (λ e. omega arith) ∙ u .states-same b (omega arith);
+  stamps-same = λ b h. getD-set-other stamps a b stamp 0 (λ e. omega arith) ∙ u .stamps-same b (omega arith);
+}
+
+-- the first a states have the stamps of their current copies in them, the others are as they were
+pub record Settling (stamps : List ℕ) (old : List State) (a : ℕ) (new : List State) : Type 0 where
+  pub sized : length new ≡ 8
+  pub done : (b : ℕ) → b < a → stateOf new b ≡ settled (getD stamps b 0) (stateOf old b)
+  pub rest : (b : ℕ) → a ≤ b → stateOf new b ≡ stateOf old b
+
+pub settling-more : {stamps : List ℕ} {old new : List State} {a : ℕ} {s : State} → Settling stamps old a new → a < 8
+    → s ≡ settled (getD stamps a 0) (stateOf new a) → Settling stamps old (a + 1) (set new a s)
+settling-more {stamps} {old} {new} {a} {s} h in-a is = record {
+  sized = length-set new a s ∙ h .sized;
+  done = λ b in-b. go b in-b (eqb b a) refl;
+  rest = λ b over. getD-set-other new a b s _ (λ e. omega arith) ∙ h .rest b (omega arith);
+}
+  where
+    go : (b : ℕ) → b < a + 1 → (t : Bool) → eqb b a ≡ t → stateOf (set new a s) b ≡ settled (getD stamps b 0) (stateOf old b)
+    go b in-b true e =
+        rw (eqb-true b a e)
+        (getD-set-same new a s _ (omega (arith, h .sized)) ∙ is ∙ ap (settled (getD stamps a 0)) (h .rest a (omega arith)))
+    go b in-b false e =
+        let ne = eqb-false b a e in
+        getD-set-other new a b s _ ne ∙ h .done b (omega (arith, ne))
+
+-- ---- references
+
+pub referred-none : (file : List ℕ) (v step : ℕ) (versions before old : List ℕ) → length before ≡ 8 → Referred file v step versions before old 0 0 false before old
+unfolding rowBytes
+referred-none file v step versions before old sized = record {
+  length-is = refl;
+  out-is = refl;
+  sized = sized;
+  served = λ b h. absurd (omega arith);
+  others = λ b h. refl;
+  no-label = λ e b h. absurd (omega arith);
+}
+
+-- the row of a further array has room in the whole
+pub row-fits : (file : List ℕ) (v step : ℕ) (versions before : List ℕ) {m n : ℕ} → m < n
+    → length (rowBytes file v step versions before m) + length (recordsBytes (recordsAt (event file m v) step m (getD versions m 0) (getD before m 0)))
+    ≤ length (rowBytes file v step versions before n)
+unfolding rowBytes
+row-fits file v step versions before {m} {n} h = rows-fit _ n m h
+
+pub neither : (a b : Bool) → (a || b) ≡ false → (a ≡ false) × (b ≡ false)
+neither true b e = absurd (true≢false e)
+neither false b e = (refl, e)
+
+module _ {file : List ℕ} {v step : ℕ} {versions before old : List ℕ} {m bytes : ℕ} {labels : Bool} {after new : List ℕ}
+    (r : Referred file v step versions before old m bytes labels after new) where
+  abbrev pub row : ℕ → List ℕ
+  row a = recordsBytes (recordsAt (event file a v) step a (getD versions a 0) (getD before a 0))
+
+  row-more : rowBytes file v step versions before m ++ row m ≡ rowBytes file v step versions before (m + 1)
+  unfolding rowBytes
+  row-more = rows-more row m
+
+  module _ {x : Action} (is : x ≡ event file m v) where
+    pub bytes-are : recordsBytes (recordsAt x step m (getD versions m 0) (getD after m 0)) ≡ row m
+    bytes-are = ap₂ (λ (y : Action) (s : ℕ). recordsBytes (recordsAt y step m (getD versions m 0) s)) is (r .others m (omega arith))
+
+    pub referred-more : {size stamp : ℕ} {ys : List ℕ} {label : Bool} → m < 8
+        → size ≡ length (recordsBytes (recordsAt x step m (getD versions m 0) (getD after m 0)))
+        → ys ≡ wrote (partFrom new bytes) (recordsBytes (recordsAt x step m (getD versions m 0) (getD after m 0)))
+        → stamp ≡ stampBy x step (getD after m 0) → label ≡ isRemap x
+        → Referred file v step versions before old (m + 1) (bytes + size) (labels || label) (set after m stamp) (take bytes new ++ (ys ++ drop (length new - bytes) (drop bytes new)))
+    referred-more {size} {stamp} {ys} {label} in-m long written given labelled = record {
+      length-is =
+          ap₂ _+_ (r .length-is) (long ∙ ap length bytes-are) ∙ sym (length-append (rowBytes file v step versions before m) (row m)) ∙ ap length row-more;
+      out-is =
+          write-more old (rowBytes file v step versions before m) new (row m) ys bytes (r .length-is) (r .out-is) (written ∙ ap (wrote (partFrom new bytes)) bytes-are)
+          ∙ ap (wrote old) row-more;
+      sized = length-set after m stamp ∙ r .sized;
+      served = λ b h. serve b h (eqb b m) refl;
+      others = λ b h. getD-set-other after m b stamp 0 (λ e. omega arith) ∙ r .others b (omega arith);
+      no-label = λ e b h. none (neither labels label e) b h (eqb b m) refl;
+    }
+      where
+        serve : (b : ℕ) → b < m + 1 → (t : Bool) → eqb b m ≡ t → getD (set after m stamp) b 0 ≡ stampBy (event file b v) step (getD before b 0)
+        serve b h true e =
+            rw (eqb-true b m e)
+            (getD-set-same after m stamp 0 (omega (arith, r .sized)) ∙ given ∙ ap₂ (λ (y : Action) (s : ℕ). stampBy y step s) is (r .others m (omega arith)))
+        serve b h false e =
+            let ne = eqb-false b m e in
+            getD-set-other after m b stamp 0 ne ∙ r .served b (omega (arith, ne))
+
+        none : (labels ≡ false) × (label ≡ false) → (b : ℕ) → b < m + 1 → (t : Bool) → eqb b m ≡ t → isRemap (event file b v) ≡ false
+        none p b h true e = rw (eqb-true b m e) (ap isRemap (sym is) ∙ sym labelled ∙ p .1)
+        none p b h false e = r .no-label (p .0) b (omega (arith, eqb-false b m e))

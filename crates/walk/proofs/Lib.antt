@@ -1,0 +1,4 @@
+pub mod Bytes
+pub mod Held
+pub mod References
+pub mod Walking

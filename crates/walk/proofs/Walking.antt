@@ -1,0 +1,216 @@
+-- Following the path: what has been written, and how the arrays stand, after the first i vertices.
+-- Assumes nothing.
+use mathlib.Core.Path.{_≡_, refl, sym, ap, ap₂, subst, _∙_}
+use mathlib.Core.Bool.{Bool, false}
+use mathlib.Core.List.{List, _++_}
+use mathlib.Core.Logic.{_⊎_}
+use Prim.Native.Nat.{ℕ, _+_, _-_, _≤_, _<_}
+use native.Mathlib.Numerals.{add-one}
+use native.Mathlib.Omega.{arith}
+use lib.Dec.{T, eqb}
+use lib.ListN.{length, getD, take, drop, length-append}
+use Rattle.labels.specs.Events.{exit, event, versionOf}
+use Rattle.labels.specs.Kept.{keptOf}
+use Rattle.labels.specs.Letters.{letterByte, useOfByte}
+use Rattle.labels.specs.Uses.{useOf}
+use Rattle.passes.proofs.Bounds.{event-below}
+use Rattle.passes.proofs.Letters.{letter-use}
+use Rattle.routine.specs.Actions.{isReference}
+use Rattle.routine.specs.Arrays.{arrayOf}
+use Rattle.routine.specs.Layout.{arrays}
+use Rattle.routine.specs.Reader.{WellFormed}
+use Rattle.routine.specs.declared.action.Action.{Action}
+use Rattle.routine.specs.declared.action.Action.the-variants.{Nothing, Reference, Remap, Unknown}
+use Rattle.routine.specs.declared.array.ArrayRecord.{ArrayRecord}
+use Rattle.refusal.specs.declared.Verdict.the-variants.{Passed}
+use Rattle.state.specs.Current.{settled}
+use Rattle.state.specs.Exit.{left}
+use Rattle.state.specs.Fits.{Fits}
+use Rattle.state.specs.Start.{started}
+use Rattle.state.specs.States.{nothing, stampOf, Current}
+use Rattle.state.specs.Vertex.{labelled, visited, relabelled, Visits}
+use Rattle.state.specs.declared.State.{State}
+use Rattle.state.proofs.Current.{settled-current, settled-copies, settled-before, seen-is, visited-is, no-label}
+use Rattle.path.specs.Paths.{steps, vertexAt, pathCheck}
+use Rattle.report.specs.Records.{recordsAt}
+use Rattle.report.specs.Bytes.{stateOf, recordsBytes}
+use Rattle.demand.specs.Run.{stateAfter, runRecords}
+use Rattle.walk.specs.Walks.{Held, rowBytes, Referred, relabelledAt}
+use Rattle.walk.proofs.Bytes.{recordBytesAt, records-bytes, rows-same}
+use Rattle.walk.proofs.Held.{held-as}
+use Rattle.demand.proofs.Demand.{state-fits, reference-below}
+use Rattle.words.specs.Tables.{rows, wrote}
+use Rattle.words.proofs.Tables.{rows-fit, rows-more}
+use Rattle.words.proofs.Written.{partFrom, write-more}
+
+-- the records of the first i vertices
+abbrev pub doneAt : List ℕ → List ℕ → ℕ → List ℕ
+doneAt file path i = rows (λ i. rows (recordBytesAt file path i) (arrays file)) i
+
+pub record Walking (file path old : List ℕ) (at i : ℕ) (states : List State) (versions stamps out : List ℕ) : Type 0 where
+  pub on-path : i ≤ steps path
+  pub held : Held (λ b. stateAfter file path b i) (arrays file) states versions stamps
+  pub out-is : out ≡ wrote old (doneAt file path i)
+  pub place : at ≡ length (doneAt file path i)
+
+-- before the first step
+pub begins : (file path old : List ℕ) {states : List State} {versions stamps : List ℕ} → Held (λ a. started (arrayOf file a)) (arrays file) states versions stamps
+    → Walking file path old 0 0 states versions stamps old
+unfolding stateAfter rows
+begins file path old h = record { on-path = omega arith; held = h; out-is = refl; place = refl }
+
+-- the next records have room
+pub room : (file path : List ℕ) {i size : ℕ} → i < steps path → length (recordsBytes (runRecords file path)) ≤ size
+    → length (doneAt file path i) + length (rows (recordBytesAt file path i) (arrays file)) ≤ size
+room file path {i} in-i fits =
+    omega (arith, rows-fit (λ i. rows (recordBytesAt file path i) (arrays file)) (steps path) i in-i, ap length (records-bytes file path))
+
+-- ---- one vertex
+
+-- an array's next state, from what the code has
+pub relabelled-is : (file : List ℕ) (a v : ℕ) {letter keep : ℕ} {r : ArrayRecord} {x : Action} {s s' t n : State} {ends : Bool} → r ≡ arrayOf file a
+    → x ≡ event file a v → letter ≡ letterByte (useOf file a v) → keep ≡ keptOf file a v → s ≡ s' → ends ≡ eqb v (exit file)
+    → t ≡ relabelled r x (useOfByte letter) keep s → n ≡ left r ends t → n ≡ relabelledAt file a v s'
+unfolding relabelledAt
+relabelled-is file a v e1 e2 e3 e4 e5 e6 e7 e8 = e8 ∙ rw (e7, e1, e2, e3, letter-use, e4, e5, e6)
+
+-- the states after the labels of vertex v, and the exit, from states and stamps before them
+abbrev pub relabelledFrom : List ℕ → ℕ → List State → List ℕ → ℕ → State
+relabelledFrom file v states stamps b = relabelledAt file b v (settled (getD stamps b 0) (stateOf states b))
+
+records-same : (x : Action) (step a : ℕ) {version version' stamp stamp' : ℕ} → (T (isReference x) → (version ≡ version') × (stamp ≡ stamp'))
+    → recordsAt x step a version stamp ≡ recordsAt x step a version' stamp'
+records-same Nothing step a h = refl
+records-same (Reference x) step a h = ap₂ (λ (v s : ℕ). recordsAt (Reference x) step a v s) (h tt .0) (h tt .1)
+records-same (Remap t) step a h = refl
+records-same Unknown step a h = refl
+
+module _ (file path : List ℕ) (well : WellFormed file) (accepted : pathCheck file path ≡ Passed) {i : ℕ} (in-i : i < steps path) (short : steps path ≤ 4096)
+    {states : List State} {versions stamps : List ℕ} (held : Held (λ b. stateAfter file path b i) (arrays file) states versions stamps) where
+  abbrev v : ℕ
+  v = vertexAt path i
+
+  module _ (b : ℕ) (in-b : b < arrays file) where
+    abbrev s : State
+    s = stateOf states b
+
+    abbrev x : Action
+    x = event file b v
+
+    fits : Fits (stateAfter file path b i) i
+    fits = state-fits file path well accepted b i in-b (omega arith)
+
+    is : settled (getD stamps b 0) s ≡ stateAfter file path b i
+    is = held .stand b in-b .is
+
+    sixteen : length (settled (getD stamps b 0) s .stamps) ≡ 16
+    sixteen = ap (λ (s : State). length (s .stamps)) is ∙ fits .stamps .sixteen
+
+    below : T (isReference x) → settled (getD stamps b 0) s .current < 16
+    below r = subst (λ (s : State). s .current < 16) (sym is) (reference-below file path well accepted i b in-i in-b r)
+
+    record-is : recordsBytes (recordsAt x (i + 1) b (getD versions b 0) (getD stamps b 0)) ≡ recordBytesAt file path i b
+    record-is =
+        ap recordsBytes (records-same x (i + 1) b (λ r. (
+          held .stand b in-b .version-is ∙ sym (settled-current (getD stamps b 0) s) ∙ ap (λ (s : State). s .current) is,
+          sym (seen-is (getD stamps b 0) s sixteen (below r)) ∙ ap (λ (s : State). stampOf s (s .current)) is,
+        )))
+
+  pub row-is : rowBytes file v (i + 1) versions stamps (arrays file) ≡ rows (recordBytesAt file path i) (arrays file)
+  unfolding rowBytes
+  row-is = rows-same _ (recordBytesAt file path i) (arrays file) record-is
+
+  -- once the references are made
+  module _ {old : List ℕ} {bytes : ℕ} {labels : Bool} {after new : List ℕ}
+      (r : Referred file v (i + 1) versions stamps old (arrays file) bytes labels after new) where
+    module _ (b : ℕ) (in-b : b < arrays file) where
+      abbrev after-b : State
+      after-b = settled (getD after b 0) (stateOf states b)
+
+      current-same : after-b .current ≡ stateAfter file path b i .current
+      current-same = settled-current (getD after b 0) (stateOf states b) ∙ sym (settled-current (getD stamps b 0) (stateOf states b)) ∙ ap (λ (s : State). s .current) (is b in-b)
+
+      copies-same : after-b .copies ≡ stateAfter file path b i .copies
+      copies-same = settled-copies (getD after b 0) (stateOf states b) ∙ sym (settled-copies (getD stamps b 0) (stateOf states b)) ∙ ap (λ (s : State). s .copies) (is b in-b)
+
+      pub visits-after : Visits (event file b v) after-b
+      visits-after = record {
+        current = subst (λ (k : ℕ). (k < 16) ⊎ (k ≡ nothing)) (sym current-same) (fits b in-b .current);
+        few-copies = omega (arith, copies-same, fits b in-b .copies);
+        at-remap = λ t g. subst (λ (x : Action). versionOf x < 16) g (event-below well in-b v);
+      }
+
+      relabelled-next : relabelledAt file b v after-b ≡ stateAfter file path b (i + 1)
+      unfolding relabelledAt stateAfter
+      relabelled-next =
+          let a = arrayOf file b in
+          let u = useOf file b v in
+          let keep = keptOf file b v in
+          let x = event file b v in
+          ap (left a (eqb v (exit file)))
+          (ap (λ (y : ℕ). relabelled a x u keep (settled y (stateOf states b))) (r .served b in-b)
+          ∙ visited-is a u keep (i + 1) (getD stamps b 0) (stateOf states b) x (sixteen b in-b) (below b in-b)
+          ∙ ap (visited a x u keep (i + 1)) (is b in-b))
+          ∙ ap (stateAfter file path b) (sym (add-one i))
+
+      unlabelled : labels ≡ false → eqb v (exit file) ≡ false → relabelledAt file b v after-b ≡ after-b
+      unfolding relabelledAt labelled
+      unlabelled e f =
+          ap (λ (t : Bool). left (arrayOf file b) t (relabelled (arrayOf file b) (event file b v) (useOf file b v) (keptOf file b v) after-b)) f
+          ∙ no-label (arrayOf file b) (useOf file b v) (keptOf file b v) after-b (event file b v) (r .no-label e b in-b)
+
+    -- no array has a label, and the path is not at the exit
+    pub held-on : labels ≡ false → eqb v (exit file) ≡ false → Held (λ b. stateAfter file path b (i + 1)) (arrays file) states versions after
+    held-on e f = record {
+      states-sized = held .states-sized;
+      versions-sized = held .versions-sized;
+      stamps-sized = r .sized;
+      stand = λ b in-b. record { is = sym (unlabelled b in-b e f) ∙ relabelled-next b in-b; version-is = held .stand b in-b .version-is };
+    }
+
+    pub held-labelled : {states' : List State} {versions' stamps' : List ℕ} → Held (relabelledFrom file v states after) (arrays file) states' versions' stamps'
+        → Held (λ b. stateAfter file path b (i + 1)) (arrays file) states' versions' stamps'
+    held-labelled = held-as relabelled-next
+
+-- the step is made
+module _ (file path : List ℕ) (well : WellFormed file) (accepted : pathCheck file path ≡ Passed) {old : List ℕ} {at i : ℕ}
+    {states : List State} {versions stamps out : List ℕ} (in-i : i < steps path) (short : steps path ≤ 4096) (w : Walking file path old at i states versions stamps out)
+    {bytes : ℕ} {labels : Bool} {after new : List ℕ} (r : Referred file (vertexAt path i) (i + 1) versions stamps (partFrom out at) (arrays file) bytes labels after new) where
+  abbrev row : List ℕ
+  row = rows (recordBytesAt file path i) (arrays file)
+
+  row-same : rowBytes file (vertexAt path i) (i + 1) versions stamps (arrays file) ≡ row
+  row-same = row-is file path well accepted in-i short (w .held)
+
+  more : doneAt file path i ++ row ≡ doneAt file path (i + 1)
+  more = rows-more (λ i. rows (recordBytesAt file path i) (arrays file)) i
+
+  pub steps-on : {states' : List State} {versions' stamps' : List ℕ} → Held (λ b. stateAfter file path b (i + 1)) (arrays file) states' versions' stamps'
+      → Walking file path old (at + bytes) (i + 1) states' versions' stamps' (take at out ++ (new ++ drop (length out - at) (drop at out)))
+  steps-on h = record {
+    on-path = omega arith;
+    held = h;
+    out-is =
+        write-more old (doneAt file path i) out row new at (w .place) (w .out-is) (r .out-is ∙ ap (wrote (partFrom out at)) row-same)
+        ∙ ap (wrote old) more;
+    place =
+        ap₂ _+_ (w .place) (r .length-is ∙ ap length row-same) ∙ sym (length-append (doneAt file path i) row) ∙ ap length more;
+  }
+
+-- ---- the path ends
+
+module _ {file path old : List ℕ} {at i : ℕ} {states : List State} {versions stamps out : List ℕ}
+    (w : Walking file path old at i states versions stamps out) (ends : steps path ≤ i) where
+  over : i ≡ steps path
+  over = omega (arith, w .on-path)
+
+  pub all-written : out ≡ wrote old (recordsBytes (runRecords file path))
+  all-written = w .out-is ∙ ap (wrote old) (ap (doneAt file path) over ∙ sym (records-bytes file path))
+
+  pub last-states : (b : ℕ) → b < arrays file → settled (getD stamps b 0) (stateOf states b) ≡ stateAfter file path b (steps path)
+  last-states b in-b = w .held .stand b in-b .is ∙ ap (stateAfter file path b) over
+
+  pub last-current : WellFormed file → pathCheck file path ≡ Passed → (b : ℕ) → b < arrays file → Current (stateOf states b)
+  last-current well accepted b in-b =
+      settled-before (getD stamps b 0) (stateOf states b)
+      (subst Current (sym (w .held .stand b in-b .is)) (state-fits file path well accepted b i in-b (w .on-path) .current))

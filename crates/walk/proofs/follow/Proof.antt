@@ -1,0 +1,329 @@
+-- `walk::follow` meets its contract: at each vertex of the path the references, and then the labels.
+-- Assumes nothing.
+use mathlib.Core.Path.{_≡_, refl, sym, ap, ap₂, subst, _∙_}
+use mathlib.Core.List.{List}
+use Prim.Native.Nat.{ℕ, _+_, _-_, _≤_, _<_}
+use native.Mathlib.Omega.{arith}
+use borrow.Author.Needs.{needs}
+use lib.Dec.{eqb}
+use lib.ListN.{length, getD}
+use Rattle.labels.specs.Events.{event}
+use Rattle.routine.specs.Layout.{arrays, vertices}
+use Rattle.state.specs.Current.{settled}
+use Rattle.state.specs.Vertex.{Visits}
+use Rattle.path.specs.Paths.{steps, vertexAt}
+use Rattle.report.specs.Bytes.{stateOf, recordsBytes}
+use Rattle.demand.specs.Run.{runRecords}
+use Rattle.walk.specs.Walks.{Held, rowBytes, Referred, relabelledAt}
+use Rattle.walk.proofs.Held.{hold-more, Untouched, untouched-more, neither}
+use Rattle.path.proofs.Paths.{Walk, walk, within-vertices}
+use Rattle.walk.proofs.Walking.{Walking, relabelledFrom, begins, doneAt, room, row-is, visits-after, held-on, held-labelled, steps-on, all-written, last-states, last-current}
+use Rattle.words.proofs.Written.{partFrom, wrote-length, part-length}
+use Rattle.walk.proofs.follow.Statement.{statement}
+use Rattle.walk.proofs.follow.Tie as tie
+
+-- the labels of vertex v: the first a arrays are done
+abbrev Inv-loop2 : tie.InvT-loop2
+Inv-loop2 file h path letters kept out versions₀ stamps₀ states₀ n m at i v a₀ versions stamps states a =
+    (a ≤ m) × Held (relabelledFrom file v states₀ stamps₀) a states versions stamps × Untouched a states₀ stamps₀ states stamps
+
+abbrev μ-loop2 : tie.MeasureT-loop2
+μ-loop2 file h path letters kept out versions₀ stamps₀ states₀ n m at i v a₀ versions stamps states a = m - a
+
+abbrev Inv-loop : tie.InvT-loop
+Inv-loop file h path letters kept out₀ versions₀ stamps₀ states₀ n m at₀ i₀ out versions stamps states at i = Walking file path out₀ at i states versions stamps out
+
+abbrev μ-loop : tie.MeasureT-loop
+μ-loop file h path letters kept out₀ versions₀ stamps₀ states₀ n m at₀ i₀ out versions stamps states at i = n - i
+
+-- what holds in a turn
+module _ (c : tie.In-loop Inv-loop2 μ-loop2 Inv-loop μ-loop) where
+  abbrev s : tie.Start Inv-loop2 μ-loop2 Inv-loop μ-loop
+  s = c .before .before .before .before .before .before .before .before .before .before .before
+
+  abbrev file : List ℕ
+  file = s .args .file .now
+
+  abbrev path : List ℕ
+  path = s .args .path .now
+
+  in-i : c .before .loop .i < steps path
+  in-i = omega (arith, c .before .before .count .ensures)
+
+  along : Walk file path
+  along = walk (s .pre .0 .well) (s .pre .1 .0)
+
+  -- the buffer keeps its length
+  same-room : length (c .before .loop .out) ≡ length (s .args .out .now)
+  same-room = ap length (c .before .loop .inv .out-is) ∙ wrote-length (s .args .out .now) (doneAt file path (c .before .loop .i)) (omega (arith, room file path in-i (s .pre .1 .1 .1)))
+
+-- once the vertex is known
+module _ (c : tie.After-vertex Inv-loop2 μ-loop2 Inv-loop μ-loop) where
+  abbrev turn : tie.In-loop Inv-loop2 μ-loop2 Inv-loop μ-loop
+  turn = c .before
+
+  abbrev l : tie.At-loop Inv-loop2 μ-loop2 Inv-loop μ-loop
+  l = turn .before
+
+  in-v : c .vertex .result < vertices (file turn)
+  in-v = subst (λ (v : ℕ). v < vertices (file turn)) (sym (c .vertex .ensures)) (within-vertices (s turn .pre .0 .well) (along turn) (l .loop .i) (in-i turn))
+
+  has-room : l .loop .at + length (rowBytes (file turn) (c .vertex .result) (l .loop .i + 1) (l .loop .versions) (l .loop .stamps) (arrays (file turn))) ≤ length (l .loop .out)
+  has-room =
+      let row = ap (λ (v : ℕ). length (rowBytes (file turn) v (l .loop .i + 1) (l .loop .versions) (l .loop .stamps) (arrays (file turn)))) (c .vertex .ensures)
+      ∙ ap length (row-is (file turn) (path turn) (s turn .pre .0 .well) (s turn .pre .1 .0) (in-i turn) (along turn .short) (l .loop .inv .held)) in
+      omega (arith, row, room (file turn) (path turn) (in-i turn) (s turn .pre .1 .1 .1), l .loop .inv .place, same-room turn)
+
+start-all-requires : tie.Need-start-all-requires Inv-loop2 μ-loop2 Inv-loop μ-loop
+start-all-requires c κs = (c .before .before .before .before .before .before .before .pre .0, (refl, refl))
+
+count-requires : tie.Need-count-requires Inv-loop2 μ-loop2 Inv-loop μ-loop
+count-requires c κs = search needs
+
+loop-holds : tie.Need-loop-holds Inv-loop2 μ-loop2 Inv-loop μ-loop
+loop-holds c =
+    let s = c .before .before .before .before .before .before .before .before .before in
+    begins (s .args .file .now) (s .args .path .now) (s .args .out .now) (c .before .start-all .ensures)
+
+vertex-requires : tie.Need-vertex-requires Inv-loop2 μ-loop2 Inv-loop μ-loop
+vertex-requires c κs = in-i c
+
+add-refer : tie.Need-add-refer Inv-loop2 μ-loop2 Inv-loop μ-loop
+add-refer c = omega (arith, in-i (c .before), along (c .before) .short)
+
+sub-refer : tie.Need-sub-refer Inv-loop2 μ-loop2 Inv-loop μ-loop
+sub-refer c = omega (arith, has-room (c .before .before))
+
+part-refer-start : tie.Need-part-refer-start Inv-loop2 μ-loop2 Inv-loop μ-loop
+part-refer-start c = omega (arith, has-room (c .before .before))
+
+part-refer-end : tie.Need-part-refer-end Inv-loop2 μ-loop2 Inv-loop μ-loop
+part-refer-end c = search needs
+
+refer-requires : tie.Need-refer-requires Inv-loop2 μ-loop2 Inv-loop μ-loop
+refer-requires c κs =
+    let q = c .before .before .before in
+    let t = turn q in
+    (s t .pre .0, ((in-v q, omega (arith, in-i t, along t .short)), (l q .loop .inv .held .stamps-sized, omega (arith, has-room q, part-length (l q .loop .out) (l q .loop .at)))))
+
+-- once the references are made
+module _ (c : tie.After-refer Inv-loop2 μ-loop2 Inv-loop μ-loop) where
+  abbrev q : tie.After-vertex Inv-loop2 μ-loop2 Inv-loop μ-loop
+  q = c .before .before .before .before
+
+  abbrev after : List ℕ
+  after = c .refer .last .1 .1 .1 .1 .1 .0
+
+  referred : Referred (file (turn q)) (vertexAt (path (turn q)) (l q .loop .i)) (l q .loop .i + 1) (l q .loop .versions) (l q .loop .stamps) (partFrom (l q .loop .out) (l q .loop .at)) (arrays (file (turn q))) (c .refer .result .bytes) (c .refer .result .labels) after (c .refer .last .1 .1 .1 .1 .1 .1 .0)
+  referred =
+      subst (λ (v : ℕ). Referred (file (turn q)) v (l q .loop .i + 1) (l q .loop .versions) (l q .loop .stamps) (partFrom (l q .loop .out) (l q .loop .at)) (arrays (file (turn q))) (c .refer .result .bytes) (c .refer .result .labels) after (c .refer .last .1 .1 .1 .1 .1 .1 .0))
+      (q .vertex .ensures) (c .refer .ensures)
+
+add-at : tie.Need-add-at Inv-loop2 μ-loop2 Inv-loop μ-loop
+add-at c =
+    let r = c .before .before .before in
+    omega (arith, r .refer .ensures .length-is, has-room (q r), same-room (turn (q r)), s (turn (q r)) .good)
+
+add-i : tie.Need-add-i Inv-loop2 μ-loop2 Inv-loop μ-loop
+add-i c =
+    let t = turn (q (c .before .before .before)) in
+    omega (arith, in-i t, along t .short)
+
+sub-if1 : tie.Need-sub-if1 Inv-loop2 μ-loop2 Inv-loop μ-loop
+sub-if1 c =
+    let t = turn (q (c .before .before .before .before)) in
+    omega (arith, s t .pre .0 .heads .vertices-are, s t .pre .0 .well .laid .limits .two-vertices)
+
+-- ---- the labels of the vertex
+
+loop2-holds : tie.Need-loop2-holds Inv-loop2 μ-loop2 Inv-loop μ-loop
+loop2-holds c =
+    let r = c .before .before .before .before .before .before in
+    let held = l (q r) .loop .inv .held in
+    (omega arith, record { states-sized = held .states-sized; versions-sized = held .versions-sized; stamps-sized = r .refer .ensures .sized; stand = λ b h. absurd (omega arith) }, record { states-same = λ b h. refl; stamps-same = λ b h. refl })
+
+-- what holds in a turn
+module _ (c : tie.In-loop2 Inv-loop2 μ-loop2 Inv-loop μ-loop) where
+  abbrev served : tie.After-refer Inv-loop2 μ-loop2 Inv-loop μ-loop
+  served = c .before .before .before .before .before .before .before .before
+
+  abbrev begun : tie.In-loop Inv-loop2 μ-loop2 Inv-loop μ-loop
+  begun = turn (q served)
+
+  abbrev a : ℕ
+  a = c .before .loop2 .a
+
+  in-a : a < arrays (file begun)
+  in-a = omega (arith, s begun .pre .0 .heads .arrays-are)
+
+  small : a < 8
+  small = omega (arith, in-a, s begun .pre .0 .well .laid .limits .few-arrays)
+
+  -- the array is as it was
+  same : settled (getD (c .before .loop2 .stamps) a 0) (stateOf (c .before .loop2 .states) a) ≡ settled (getD (after served) a 0) (stateOf (l (q served) .loop .states) a)
+  same = ap₂ settled (c .before .loop2 .inv .2 .stamps-same a (omega arith)) (c .before .loop2 .inv .2 .states-same a (omega arith))
+
+  visits : Visits (event (file begun) a (q served .vertex .result)) (settled (getD (c .before .loop2 .stamps) a 0) (stateOf (c .before .loop2 .states) a))
+  visits =
+      subst (Visits (event (file begun) a (q served .vertex .result))) (sym same)
+      (subst (λ (v : ℕ). Visits (event (file begun) a v) (settled (getD (after served) a 0) (stateOf (l (q served) .loop .states) a))) (sym (q served .vertex .ensures))
+      (visits-after (file begun) (path begun) (s begun .pre .0 .well) (s begun .pre .1 .0) (in-i begun) (along begun .short) (l (q served) .loop .inv .held) (referred served) a in-a))
+
+mul-s : tie.Need-mul-s Inv-loop2 μ-loop2 Inv-loop μ-loop
+mul-s c = omega (arith, small c)
+
+array-copy-out-s : tie.Need-array-copy-out-s Inv-loop2 μ-loop2 Inv-loop μ-loop
+array-copy-out-s c = omega (arith, small c)
+
+mul-relabel : tie.Need-mul-relabel Inv-loop2 μ-loop2 Inv-loop μ-loop
+mul-relabel c = omega (arith, small (c .before))
+
+array-read-relabel : tie.Need-array-read-relabel Inv-loop2 μ-loop2 Inv-loop μ-loop
+array-read-relabel c = omega (arith, small (c .before))
+
+relabel-requires : tie.Need-relabel-requires Inv-loop2 μ-loop2 Inv-loop μ-loop
+relabel-requires c κs =
+    let t = c .before in
+    let s = s (begun t) in
+    (s .pre .0, ((in-a t, in-v (q (served t))), (s .pre .1 .1 .0, visits t)))
+
+array-write-versions : tie.Need-array-write-versions Inv-loop2 μ-loop2 Inv-loop μ-loop
+array-write-versions c = omega (arith, small (c .before .before))
+
+current-stamp-requires : tie.Need-current-stamp-requires Inv-loop2 μ-loop2 Inv-loop μ-loop
+current-stamp-requires c κs = c .relabel .ensures .1
+
+mul-stamps : tie.Need-mul-stamps Inv-loop2 μ-loop2 Inv-loop μ-loop
+mul-stamps c = omega (arith, small (c .before .before .before))
+
+array-write-stamps : tie.Need-array-write-stamps Inv-loop2 μ-loop2 Inv-loop μ-loop
+array-write-stamps c = omega (arith, small (c .before .before .before))
+
+mul-states : tie.Need-mul-states Inv-loop2 μ-loop2 Inv-loop μ-loop
+mul-states c = omega (arith, small (c .before .before .before))
+
+array-set-from-states : tie.Need-array-set-from-states Inv-loop2 μ-loop2 Inv-loop μ-loop
+array-set-from-states c = omega (arith, small (c .before .before .before))
+
+add-a : tie.Need-add-a Inv-loop2 μ-loop2 Inv-loop μ-loop
+add-a c = omega (arith, small (c .before .before .before))
+
+loop2-less : tie.Need-loop2-less Inv-loop2 μ-loop2 Inv-loop μ-loop
+loop2-less c = omega arith
+
+loop2-again : tie.Need-loop2-again Inv-loop2 μ-loop2 Inv-loop μ-loop
+loop2-again c =
+    let t = c .before .before .before in
+    let inv = t .before .loop2 .inv in
+    let is = c .before .relabel .ensures .0 ∙ ap (relabelledAt (file (begun t)) (a t) (q (served t) .vertex .result)) (same t) in (
+      omega arith,
+      hold-more (inv .1) (small t) is (c .current-stamp .ensures),
+      untouched-more (c .before .relabel .result) (c .current-stamp .result) (inv .2),
+    )
+
+-- ---- the next vertex
+
+loop-less : tie.Need-loop-less Inv-loop2 μ-loop2 Inv-loop μ-loop
+loop-less c = omega arith
+
+loop-again : tie.Need-loop-again Inv-loop2 μ-loop2 Inv-loop μ-loop
+loop-again c =
+    let r = c .before .before .before .before .before .before .before .before in
+    let t = turn (q r) in
+    let g = l (q r) .loop in
+    let m = c .before .loop2 in
+    let well = s t .pre .0 .well in
+    let accepted = s t .pre .1 .0 in
+    let short = along t .short in
+    let all : m .a ≡ arrays (file t) = omega (arith, s t .pre .0 .heads .arrays-are, m .inv .0) in
+    steps-on (file t) (path t) well accepted (in-i t) short (g .inv) (referred r)
+    (held-labelled (file t) (path t) well accepted (in-i t) short (g .inv .held) (referred r)
+    (subst (λ (v : ℕ). Held (relabelledFrom (file t) v (g .states) (after r)) (arrays (file t)) (m .states) (m .versions) (m .stamps)) (q r .vertex .ensures)
+    (subst (λ (k : ℕ). Held (relabelledFrom (file t) (q r .vertex .result) (g .states) (after r)) k (m .states) (m .versions) (m .stamps)) all (m .inv .1))))
+
+loop-less-2 : tie.Need-loop-less-2 Inv-loop2 μ-loop2 Inv-loop μ-loop
+loop-less-2 c = omega arith
+
+loop-again-2 : tie.Need-loop-again-2 Inv-loop2 μ-loop2 Inv-loop μ-loop
+loop-again-2 c =
+    let r = c .before .before .before .before .before .before in
+    let t = turn (q r) in
+    let g = l (q r) .loop in
+    let well = s t .pre .0 .well in
+    let accepted = s t .pre .1 .0 in
+    let short = along t .short in
+    let no = neither (r .refer .result .labels) _ (c .if1 .left) in
+    let ends = ap₂ (λ (v n : ℕ). eqb v (n - 1)) (q r .vertex .ensures) (s t .pre .0 .heads .vertices-are) in
+    steps-on (file t) (path t) well accepted (in-i t) short (g .inv) (referred r)
+    (held-on (file t) (path t) well accepted (in-i t) short (g .inv .held) (referred r) (no .0) (sym ends ∙ no .1))
+
+-- the path has been followed
+module _ (c : tie.After-loop Inv-loop2 μ-loop2 Inv-loop μ-loop) where
+  abbrev first : tie.Start Inv-loop2 μ-loop2 Inv-loop μ-loop
+  first = c .before .before .before .before .before .before .before .before .before .before .before
+
+  over : steps (first .args .path .now) ≤ c .before .loop .i
+  over = omega (arith, c .before .before .count .ensures)
+
+settle-all-requires : tie.Need-settle-all-requires Inv-loop2 μ-loop2 Inv-loop μ-loop
+settle-all-requires c κs =
+    let w = c .before .loop .inv in
+    let heads = first c .pre .0 .heads in
+    let well = first c .pre .0 .well in
+    (omega (arith, heads .arrays-are, well .laid .limits .few-arrays), (w .held .states-sized, (w .held .stamps-sized, λ b in-b. last-current w (over c) well (first c .pre .1 .0) b (omega (arith, heads .arrays-are)))))
+
+same-length : tie.Need-same-length Inv-loop2 μ-loop2 Inv-loop μ-loop
+same-length c =
+    let s = first (c .before) in
+    ap length (all-written (c .before .before .loop .inv) (over (c .before)))
+    ∙ wrote-length (s .args .out .now) (recordsBytes (runRecords (s .args .file .now) (s .args .path .now))) (s .pre .1 .1 .1)
+
+returns : tie.Need-returns Inv-loop2 μ-loop2 Inv-loop μ-loop
+returns c =
+    let w = c .before .before .loop .inv in
+    let e = over (c .before) in
+    let heads = first (c .before) .pre .0 .heads in
+    (λ a in-a. c .settle-all .ensures a (omega (arith, heads .arrays-are)) ∙ last-states w e a in-a, all-written w e)
+
+pub follow-spec : {M : Type 1} → statement M
+follow-spec =
+    tie.close
+    (tie.spec
+    Inv-loop2
+    μ-loop2
+    Inv-loop
+    μ-loop
+    start-all-requires
+    count-requires
+    loop-holds
+    vertex-requires
+    add-refer
+    sub-refer
+    part-refer-start
+    part-refer-end
+    refer-requires
+    add-at
+    add-i
+    sub-if1
+    loop2-holds
+    loop-less
+    loop-again
+    mul-s
+    array-copy-out-s
+    mul-relabel
+    array-read-relabel
+    relabel-requires
+    array-write-versions
+    current-stamp-requires
+    mul-stamps
+    array-write-stamps
+    mul-states
+    array-set-from-states
+    add-a
+    loop2-less
+    loop2-again
+    loop-less-2
+    loop-again-2
+    settle-all-requires
+    same-length
+    returns)

@@ -1,0 +1,125 @@
+-- `walk::relabel` meets its contract: the rules of one label and of the exit, with the letter and the kept set from the tables.
+-- Assumes nothing.
+use mathlib.Core.Path.{_≡_, sym, ap, subst}
+use mathlib.Core.List.{List}
+use Prim.Native.Nat.{ℕ, _+_, _-_, _*_, _<_}
+use native.Mathlib.Omega.{arith}
+use borrow.Author.Needs.{needs}
+use lib.Dec.{eqb}
+use lib.ListN.{length, getD}
+use Rattle.labels.specs.Events.{event}
+use Rattle.labels.specs.Letters.{useOfByte}
+use Rattle.passes.proofs.Bounds.{initial-below}
+use Rattle.passes.proofs.Cells.{few-cells, in-table}
+use Rattle.routine.specs.Layout.{vertices}
+use Rattle.routine.specs.declared.action.Action.{Action}
+use Rattle.routine.specs.declared.array.ArrayRecord.{ArrayRecord}
+use Rattle.state.specs.States.{Current}
+use Rattle.state.specs.Vertex.{Visits}
+use Rattle.state.proofs.Current.{settled-before, relabelled-current, left-current}
+use Rattle.walk.proofs.Walking.{relabelled-is}
+use Rattle.walk.proofs.relabel.Statement.{statement}
+use Rattle.walk.proofs.relabel.Tie as tie
+
+-- the array's place in the tables
+module _ (s : tie.Start) where
+  abbrev place : ℕ
+  place = 8 * s .args .v + s .args .a
+
+  few-places : place < 2048
+  few-places = few-cells (s .pre .0) (s .pre .1 .0 .0) (s .pre .1 .0 .1)
+
+  inside : (l : List ℕ) → length l ≡ 8 * vertices (s .args .file .now) → place < length l
+  inside = in-table (s .pre .0) (s .pre .1 .0 .0) (s .pre .1 .0 .1)
+
+record-of-requires : tie.Need-record-of-requires
+record-of-requires c κs = search needs
+
+at-requires : tie.Need-at-requires
+at-requires c κs = search needs
+
+mul-place : tie.Need-mul-place
+mul-place c = omega (arith, few-places (c .before .before .before .before .before))
+
+add-place : tie.Need-add-place
+add-place c = omega (arith, few-places (c .before .before .before .before .before))
+
+settled-requires : tie.Need-settled-requires
+settled-requires c κs =
+    let s = c .before .before .before .before .before in
+    settled-before (s .args .stamp) (s .args .s) (s .pre .1 .1 .1 .current)
+
+shared-slice-read-relabelled : tie.Need-shared-slice-read-relabelled
+shared-slice-read-relabelled c =
+    let s = c .before .before .before .before .before .before .before in
+    inside s (s .args .letters .now) (s .pre .1 .1 .0 .letters-are .size)
+
+mul-relabelled : tie.Need-mul-relabelled
+mul-relabelled c = omega (arith, few-places (c .before .before .before .before .before .before .before))
+
+shared-slice-read-relabelled-2 : tie.Need-shared-slice-read-relabelled-2
+shared-slice-read-relabelled-2 c =
+    let s = c .before .before .before .before .before .before .before .before in
+    inside s (s .args .kept .now) (s .pre .1 .1 .0 .kept-are .size)
+
+-- the settled state, and the array's record and event
+module _ (c : tie.After-settled) where
+  abbrev start : tie.Start
+  start = c .before .before .before .before .before .before
+
+  abbrev r : ArrayRecord
+  r = c .before .before .record-of .result
+
+  abbrev x : Action
+  x = c .before .at .result
+
+  visits : Visits x (c .settled .result)
+  visits =
+      subst (λ (x : Action). Visits x (c .settled .result)) (sym (c .before .at .ensures))
+      (subst (Visits (event (start .args .file .now) (start .args .a) (start .args .v))) (sym (c .settled .ensures)) (start .pre .1 .1 .1))
+
+relabelled-requires : tie.Need-relabelled-requires
+relabelled-requires c κs =
+    let q = c .before .before in
+    (subst (λ (r : ArrayRecord). r .initial < 16) (sym (q .before .before .record-of .ensures)) (initial-below (start q .pre .0 .well) (start q .pre .1 .0 .0)), visits q)
+
+sub-leave : tie.Need-sub-leave
+sub-leave c =
+    let s = start (c .before .before .before .before) in
+    omega (arith, s .pre .0 .heads .vertices-are, s .pre .0 .well .laid .limits .two-vertices)
+
+leave-requires : tie.Need-leave-requires
+leave-requires c κs = search needs
+
+returns : tie.Need-returns
+returns c =
+    let q = c .before .before .before .before .before in
+    let s = start q in
+    let g = s .args in
+    let heads = s .pre .0 .heads in
+    let letter = s .pre .1 .1 .0 .letters-are .cells (g .a) (g .v) (s .pre .1 .0 .0) (s .pre .1 .0 .1) in
+    let keep = s .pre .1 .1 .0 .kept-are .cells (g .a) (g .v) (s .pre .1 .0 .0) (s .pre .1 .0 .1) in
+    let ends = ap (λ (n : ℕ). eqb (g .v) (n - 1)) (heads .vertices-are) in
+    let t = c .before .before .relabelled in
+    let u = useOfByte (getD (g .letters .now) (place s) 0) in
+    let labelled = subst Current (sym (t .ensures)) (relabelled-current (r q) u (getD (g .kept .now) (place s) 0) (q .settled .result) (x q) (visits q)) in (
+      relabelled-is (g .file .now) (g .a) (g .v) (q .before .before .record-of .ensures) (q .before .at .ensures) letter keep (q .settled .ensures) ends (t .ensures) (c .leave .ensures),
+      subst Current (sym (c .leave .ensures)) (left-current (r q) (eqb (g .v) (g .h .vertices - 1)) (t .result) labelled),
+    )
+
+pub relabel-spec : {M : Type 1} → statement M
+relabel-spec =
+    tie.close
+    (tie.spec
+    record-of-requires
+    at-requires
+    mul-place
+    add-place
+    settled-requires
+    shared-slice-read-relabelled
+    mul-relabelled
+    shared-slice-read-relabelled-2
+    relabelled-requires
+    sub-leave
+    leave-requires
+    returns)

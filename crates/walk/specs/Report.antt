@@ -1,0 +1,32 @@
+-- Document 01, "Plan and report": the report's bytes, and its length.
+-- Assumes nothing.
+use mathlib.Core.List.{List, _++_}
+use Prim.Native.Nat.{ℕ, zero, suc, _+_, _*_}
+use Rattle.demand.specs.Run.{stateAfter, runRecords}
+use Rattle.path.specs.Paths.{steps, vertexAt}
+use Rattle.report.specs.Bytes.{entryBytes, recordsBytes}
+use Rattle.report.specs.References.{referencesAmong, referencesAt}
+use Rattle.routine.specs.Layout.{arrays}
+use Rattle.words.specs.Tables.{rows}
+
+-- the entry of each array, from its last state
+unfoldable pub entries : List ℕ → List ℕ → List ℕ
+unfolding rows stateAfter
+entries file path = rows (λ a. entryBytes (stateAfter file path a (steps path))) (arrays file)
+
+-- the entries of the arrays, then the records
+unfoldable pub reportBytes : List ℕ → List ℕ → List ℕ
+unfolding entries runRecords
+reportBytes file path = entries file path ++ recordsBytes (runRecords file path)
+
+-- ---- the length: six bytes an array, ten a reference on the path
+
+-- references at the first n vertices of the path
+unfoldable pub referencesOn : List ℕ → List ℕ → ℕ → ℕ
+unfolding referencesAmong
+referencesOn file path zero = 0
+referencesOn file path (suc i) = referencesOn file path i + referencesAt file (vertexAt path i)
+
+unfoldable pub reportLength : List ℕ → List ℕ → ℕ
+unfolding referencesOn
+reportLength file path = 6 * arrays file + 10 * referencesOn file path (steps path)

@@ -1,0 +1,58 @@
+-- What the functions that follow the path are handed, and what they leave.
+-- Assumes nothing.
+use mathlib.Core.Path.{_≡_}
+use mathlib.Core.Bool.{Bool, false}
+use mathlib.Core.List.{List}
+use Prim.Native.Nat.{ℕ, _≤_, _<_}
+use lib.Dec.{eqb}
+use lib.ListN.{length, getD}
+use Rattle.labels.specs.Events.{exit, event}
+use Rattle.labels.specs.Kept.{keptOf}
+use Rattle.passes.specs.Tables.{Cells, Letters}
+use Rattle.labels.specs.Uses.{useOf}
+use Rattle.routine.specs.Actions.{isRemap}
+use Rattle.routine.specs.Arrays.{arrayOf}
+use Rattle.state.specs.Current.{stampBy, settled}
+use Rattle.state.specs.Exit.{left}
+use Rattle.state.specs.Vertex.{labelled, relabelled}
+use Rattle.state.specs.declared.State.{State}
+use Rattle.report.specs.Records.{recordsAt}
+use Rattle.report.specs.Bytes.{stateOf, recordsBytes}
+use Rattle.words.specs.Tables.{rows, wrote}
+
+-- tables of letters and kept sets
+pub record Tabled (file letters kept : List ℕ) : Type 0 where
+  pub letters-are : Letters file letters
+  pub kept-are : Cells file (keptOf file) kept
+
+-- an array's state, held as a state, its current version, and the stamp of its current copy
+pub record Stands (want s : State) (version stamp : ℕ) : Type 0 where
+  pub is : settled stamp s ≡ want
+  pub version-is : version ≡ s .current
+
+-- the states of the first m arrays
+pub record Held (want : ℕ → State) (m : ℕ) (states : List State) (versions stamps : List ℕ) : Type 0 where
+  pub states-sized : length states ≡ 8
+  pub versions-sized : length versions ≡ 8
+  pub stamps-sized : length stamps ≡ 8
+  pub stand : (b : ℕ) → b < m → Stands (want b) (stateOf states b) (getD versions b 0) (getD stamps b 0)
+
+-- the records of the first m arrays at vertex v
+unfoldable pub rowBytes : List ℕ → ℕ → ℕ → List ℕ → List ℕ → ℕ → List ℕ
+unfolding rows event
+rowBytes file v step versions stamps m =
+    rows (λ a. recordsBytes (recordsAt (event file a v) step a (getD versions a 0) (getD stamps a 0))) m
+
+-- the references of the first m arrays at vertex v: the records, the stamps after them, and whether no array has a label there
+pub record Referred (file : List ℕ) (v step : ℕ) (versions before old : List ℕ) (m bytes : ℕ) (labels : Bool) (after new : List ℕ) : Type 0 where
+  pub length-is : bytes ≡ length (rowBytes file v step versions before m)
+  pub out-is : new ≡ wrote old (rowBytes file v step versions before m)
+  pub sized : length after ≡ 8
+  pub served : (b : ℕ) → b < m → getD after b 0 ≡ stampBy (event file b v) step (getD before b 0)
+  pub others : (b : ℕ) → m ≤ b → getD after b 0 ≡ getD before b 0
+  pub no-label : labels ≡ false → (b : ℕ) → b < m → isRemap (event file b v) ≡ false
+
+-- an array's label at vertex v, and the exit
+unfoldable pub relabelledAt : List ℕ → ℕ → ℕ → State → State
+unfolding arrayOf event useOf keptOf labelled
+relabelledAt file a v s = left (arrayOf file a) (eqb v (exit file)) (relabelled (arrayOf file a) (event file a v) (useOf file a v) (keptOf file a v) s)

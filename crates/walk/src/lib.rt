@@ -1,0 +1,221 @@
+// Following the path: at each step the references of all arrays, a record for each, and then the labels (document 01, "Run"). The
+// report of an accepted path, and before that its length.
+use labels::event;
+use report::record::Record;
+use routine::array;
+use routine::array::ArrayRecord;
+use routine::header::Header;
+use state::State;
+ghost use mathlib.Core.Path.{_≡_};
+ghost use Prim.Native.Nat.{ℕ, _≤_, _<_};
+ghost use lib.ListN.{length, getD};
+ghost use Rattle.labels.specs.Events.{event};
+ghost use Rattle.labels.specs.Routines.{ReadAs};
+ghost use Rattle.routine.specs.Arrays.{arrayOf};
+ghost use Rattle.routine.specs.Layout.{arrays, vertices};
+ghost use Rattle.routine.specs.Reader.{WellFormed};
+ghost use Rattle.refusal.specs.declared.Verdict.the-variants.{Passed};
+ghost use Rattle.state.specs.Current.{settled};
+ghost use Rattle.state.specs.Start.{started};
+ghost use Rattle.state.specs.States.{Current};
+ghost use Rattle.state.specs.Vertex.{Visits};
+ghost use Rattle.path.specs.Paths.{steps, pathCheck};
+ghost use Rattle.report.specs.Bytes.{stateOf, recordsBytes};
+ghost use Rattle.report.specs.References.{referencesAt};
+ghost use Rattle.walk.specs.Report.{reportBytes, referencesOn, reportLength};
+ghost use Rattle.demand.specs.Run.{stateAfter, runRecords};
+ghost use Rattle.walk.specs.Walks.{Tabled, Held, rowBytes, Referred, relabelledAt};
+ghost use Rattle.words.specs.Tables.{table, wrote};
+
+// How many references the path meets.
+fn references_on(file: &[u8], path: &[u8], counts: &[u8]) -> usize
+    requires { ⌜ WellFormed (now file) ⌝ }
+    requires { ⌜ now counts ≡ table (referencesAt (now file)) (vertices (now file)) ⌝ }
+    requires { ⌜ pathCheck (now file) (now path) ≡ Passed ⌝ }
+    ensures { λ r. ⌜ r ≡ referencesOn (now (file .entry)) (now (path .entry)) (steps (now (path .entry))) ⌝ }
+    ensures { λ r. ⌜ r ≤ 32768 ⌝ }
+{
+    let n = path::count(path);
+    let mut count = 0;
+    let mut i = 0;
+    while i < n {
+        count += counts[path::vertex(path, i)] as usize;
+        i += 1;
+    }
+    count
+}
+
+// The length of the report. `counts` is a work slice of one entry for each vertex.
+pub fn length(file: &[u8], h: Header, path: &[u8], counts: &mut [u8]) -> usize
+    requires { ⌜ ReadAs (now file) h ⌝ }
+    requires { ⌜ pathCheck (now file) (now path) ≡ Passed ⌝ }
+    requires { ⌜ length (now counts) ≡ vertices (now file) ⌝ }
+    ensures { λ r. ⌜ r ≡ reportLength (now (file .entry)) (now (path .entry)) ⌝ }
+{
+    report::fill(file, h, counts);
+    report::ENTRY * h.arrays + Record::SIZE * references_on(file, path, counts)
+}
+
+// The states before the first step, with the current versions and their stamps.
+fn start_all(
+    file: &[u8],
+    h: Header,
+    versions: &mut [u8; ArrayRecord::MAX],
+    stamps: &mut [u16; ArrayRecord::MAX],
+) -> [State; ArrayRecord::MAX]
+    requires { ⌜ ReadAs (now file) h ⌝ }
+    requires { ⌜ length (now versions) ≡ 8 ⌝ }
+    requires { ⌜ length (now stamps) ≡ 8 ⌝ }
+    ensures { λ r. ⌜ Held (λ a. started (arrayOf (now (file .entry)) a)) (arrays (now (file .entry))) r (now (versions .exit)) (now (stamps .exit)) ⌝ }
+{
+    let none = state::empty(0);
+    let mut states = [none; ArrayRecord::MAX];
+    let m = h.arrays;
+    let mut a = 0;
+    while a < m {
+        let s = state::start(array::record_of(file, a));
+        versions[a] = s.current;
+        stamps[a] = state::current_stamp(s);
+        states[a] = s;
+        a += 1;
+    }
+    states
+}
+
+// What the references of a vertex leave: the bytes written, and whether the vertex has a label.
+struct Row {
+    bytes: usize,
+    labels: bool,
+}
+
+// The references of vertex v: their records, and the stamps of the current copies.
+fn refer(
+    file: &[u8],
+    h: Header,
+    v: usize,
+    step: usize,
+    versions: &[u8; ArrayRecord::MAX],
+    stamps: &mut [u16; ArrayRecord::MAX],
+    out: &mut [u8],
+) -> Row
+    requires { ⌜ ReadAs (now file) h ⌝ }
+    requires { ⌜ (v < vertices (now file)) × (step ≤ 4096) ⌝ }
+    requires { ⌜ length (now stamps) ≡ 8 ⌝ }
+    requires { ⌜ length (rowBytes (now file) v step (now versions) (now stamps) (arrays (now file))) ≤ length (now out) ⌝ }
+    ensures { λ r. ⌜ Referred (now (file .entry)) v step (now (versions .entry)) (now (stamps .entry)) (now (out .entry)) (arrays (now (file .entry))) (r .bytes) (r .labels) (now (stamps .exit)) (now (out .exit)) ⌝ }
+{
+    let m = h.arrays;
+    let mut bytes = 0;
+    let mut labels = false;
+    let mut a = 0;
+    while a < m {
+        let x = event::at(file, h, array::record_of(file, a), a, v);
+        bytes += report::put(x, step, a, versions[a], stamps[a], &mut out[bytes..]);
+        stamps[a] = state::stamp_after(x, step as u16, stamps[a]);
+        labels = labels | event::is_label(x);
+        a += 1;
+    }
+    Row { bytes, labels }
+}
+
+// One array's state after its label at vertex v, if it has one, and the exit. The stamp is that of its current copy.
+fn relabel(
+    file: &[u8],
+    h: Header,
+    letters: &[u8],
+    kept: &[u16],
+    a: usize,
+    v: usize,
+    s: State,
+    stamp: u16,
+) -> State
+    requires { ⌜ ReadAs (now file) h ⌝ }
+    requires { ⌜ (a < arrays (now file)) × (v < vertices (now file)) ⌝ }
+    requires { ⌜ Tabled (now file) (now letters) (now kept) ⌝ }
+    requires { ⌜ Visits (event (now file) a v) (settled stamp s) ⌝ }
+    ensures { λ r. ⌜ r ≡ relabelledAt (now (file .entry)) a v (settled stamp s) ⌝ }
+    ensures { λ r. ⌜ Current r ⌝ }
+{
+    let r = array::record_of(file, a);
+    let x = event::at(file, h, r, a, v);
+    let place = flow::COLUMNS * v + a;
+    let t = state::relabelled(state::settled(s, stamp), r, x, letters[place], kept[place]);
+    state::leave(t, r, v == h.vertices - 1)
+}
+
+// The states with the stamps of their current copies in them.
+fn settle_all(
+    states: [State; ArrayRecord::MAX],
+    m: usize,
+    stamps: [u16; ArrayRecord::MAX],
+) -> [State; ArrayRecord::MAX]
+    requires { ⌜ m ≤ 8 ⌝ }
+    requires { ⌜ length states ≡ 8 ⌝ }
+    requires { ⌜ length stamps ≡ 8 ⌝ }
+    requires { ⌜ ((b : ℕ) → b < m → Current (stateOf states b)) ⌝ }
+    ensures { λ r. ⌜ ((b : ℕ) → b < m → stateOf r b ≡ settled (getD stamps b 0) (stateOf states b)) ⌝ }
+{
+    let mut new = states;
+    let mut a = 0;
+    while a < m {
+        new[a] = state::settled(new[a], stamps[a]);
+        a += 1;
+    }
+    new
+}
+
+// Follows the path and writes the records at the front of what is lent; returns the last states.
+fn follow(
+    file: &[u8],
+    h: Header,
+    path: &[u8],
+    letters: &[u8],
+    kept: &[u16],
+    out: &mut [u8],
+) -> [State; ArrayRecord::MAX]
+    requires { ⌜ ReadAs (now file) h ⌝ }
+    requires { ⌜ pathCheck (now file) (now path) ≡ Passed ⌝ }
+    requires { ⌜ Tabled (now file) (now letters) (now kept) ⌝ }
+    requires { ⌜ length (recordsBytes (runRecords (now file) (now path))) ≤ length (now out) ⌝ }
+    ensures { λ r. ⌜ ((a : ℕ) → a < arrays (now (file .entry)) → stateOf r a ≡ stateAfter (now (file .entry)) (now (path .entry)) a (steps (now (path .entry)))) ⌝ }
+    ensures { λ _. ⌜ now (out .exit) ≡ wrote (now (out .entry)) (recordsBytes (runRecords (now (file .entry)) (now (path .entry)))) ⌝ }
+{
+    let mut versions = [0u8; ArrayRecord::MAX];
+    let mut stamps = [0u16; ArrayRecord::MAX];
+    let mut states = start_all(file, h, &mut versions, &mut stamps);
+    let n = path::count(path);
+    let m = h.arrays;
+    let mut at = 0;
+    let mut i = 0;
+    while i < n {
+        let v = path::vertex(path, i);
+        let row = refer(file, h, v, i + 1, &versions, &mut stamps, &mut out[at..]);
+        at += row.bytes;
+        i += 1;
+        if row.labels | (v == h.vertices - 1) {
+            let mut a = 0;
+            while a < m {
+                let s = states[a];
+                let t = relabel(file, h, letters, kept, a, v, s, stamps[a]);
+                versions[a] = t.current;
+                stamps[a] = state::current_stamp(t);
+                states[a] = t;
+                a += 1;
+            }
+        }
+    }
+    settle_all(states, m, stamps)
+}
+
+// Writes the report.
+pub fn write(file: &[u8], h: Header, path: &[u8], letters: &[u8], kept: &[u16], out: &mut [u8])
+    requires { ⌜ ReadAs (now file) h ⌝ }
+    requires { ⌜ pathCheck (now file) (now path) ≡ Passed ⌝ }
+    requires { ⌜ Tabled (now file) (now letters) (now kept) ⌝ }
+    requires { ⌜ length (reportBytes (now file) (now path)) ≤ length (now out) ⌝ }
+    ensures { λ _. ⌜ now (out .exit) ≡ wrote (now (out .entry)) (reportBytes (now (file .entry)) (now (path .entry))) ⌝ }
+{
+    let at = report::ENTRY * h.arrays;
+    let states = follow(file, h, path, letters, kept, &mut out[at..]);
+    report::write_entries(states, h.arrays, out);
+}
