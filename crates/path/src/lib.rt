@@ -1,9 +1,9 @@
 // The path: 16-bit vertices, an odd last byte ignored; refusals 30 to 32 (document 01, "Who can cause a refusal").
+use refusal::Refusal;
+use refusal::Verdict;
 use routine::edge;
 use routine::edge::Edge;
 use routine::header::Header;
-use refusal::Refusal;
-use refusal::Verdict;
 ghost use mathlib.Core.Path.{_≡_};
 ghost use Prim.Native.Nat.{_+_, _<_};
 ghost use lib.ListN.{length, replicate};

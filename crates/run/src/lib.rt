@@ -2,12 +2,12 @@
 use passes::events;
 use passes::pass;
 use passes::tables;
-use routine::header::Header;
-use routine::reader;
-use routine::reader::Answer;
 use refusal::Refusal;
 use refusal::Reply;
 use refusal::Verdict;
+use routine::header::Header;
+use routine::reader;
+use routine::reader::Answer;
 ghost use mathlib.Core.Path.{_≡_};
 ghost use Prim.Native.Nat.{_*_};
 ghost use lib.ListN.{length};
