@@ -24,7 +24,7 @@ use Rattle.labels.specs.Ambiguity.{arrivingSets, isAmbiguous}
 use Rattle.labels.specs.Checks.{writesIn}
 use Rattle.labels.specs.Events.{kind, isIn, event, isWrite}
 use Rattle.labels.specs.Uses.{useGives}
-use Rattle.labels.proofs.Faults.{faultless}
+use Rattle.checks.proofs.Faults.{faultless}
 use Rattle.passes.specs.Tables.{Cells, UseGives}
 use Rattle.checks.specs.Rows.{anyBelow, InMasks}
 use Rattle.passes.proofs.Steps.{use-reference}

@@ -30,7 +30,7 @@ use Rattle.state.specs.References.{referenced}
 use Rattle.state.specs.Start.{started}
 use Rattle.state.specs.States.{nothing, hasCurrent, stampOf}
 use Rattle.state.specs.Vertex.{labelled, visited}
-use Rattle.state.proofs.Cases.{at-cond}
+use Rattle.words.proofs.Cases.{at-cond}
 use Rattle.state.proofs.Fits.{started-fits, step-fits}
 use Rattle.demand.proofs.Labels.{Ready, Labelled, labelled-does}
 use Rattle.demand.proofs.Invariant.{Plan, Sound, Holds, Before, label-holds, ready, used, below, visit, alike}

@@ -31,7 +31,7 @@ use Rattle.state.specs.References.{referenced}
 use Rattle.state.specs.Vertex.{labelled, visited}
 use Rattle.demand.specs.Run.{stateAfter, runRecords, copiedBy, copiedAt, stampsCopied}
 use Rattle.demand.proofs.Along.{Follows, left-copies, fits, begins, used-at, below-at, alike-at, few-at, home-at}
-use Rattle.state.proofs.Cases.{at-cond}
+use Rattle.words.proofs.Cases.{at-cond}
 use Rattle.demand.proofs.Invariant.{Sound}
 use Rattle.path.proofs.Paths.{Walk, walk}
 use Rattle.demand.proofs.Planned.{planOf, sound}

@@ -19,7 +19,7 @@ use Rattle.state.specs.Moves.{moves, copies, moved, isD}
 use Rattle.state.specs.States.{hasCurrent}
 use Rattle.state.specs.Vertex.{labelled}
 use Rattle.demand.specs.Machine.{Machine, machineStep}
-use Rattle.state.proofs.Cases.{at-cond, or-cases}
+use Rattle.words.proofs.Cases.{at-cond, or-cases}
 use Rattle.state.proofs.Labels.{Agree, Sits, cleaned-has, cleaned-agree, cleaned-sits, copies-current, moved-agree, moved-sits, moved-current}
 
 -- ---- the counts

@@ -1,6 +1,6 @@
 -- Document 01, "Run": each array along the path, and the report's records. The rules of one vertex are those of crate `state`.
 -- Assumes nothing.
-use mathlib.Core.Bool.{Bool, false, cond}
+use mathlib.Core.Bool.{Bool, false}
 use mathlib.Core.List.{List}
 use Prim.Native.Nat.{ℕ, zero, suc, _+_}
 use lib.Dec.{eqb}
@@ -22,6 +22,7 @@ use Rattle.state.specs.declared.State.{State}
 use Rattle.report.specs.declared.record.Record.{Record}
 use Rattle.path.specs.Paths.{steps, vertexAt}
 use Rattle.report.specs.Records.{recordsAt, byStep}
+use Rattle.words.specs.Sums.{total, countOf}
 
 -- after the first n vertices of the path; the vertex at index i is step i + 1
 unfoldable pub stateAfter : List ℕ → List ℕ → ℕ → ℕ → State
@@ -56,6 +57,5 @@ copiedAt file path a i = copiedBy (event file a (vertexAt path i)) (useOf file a
 
 -- the number of stamps copied at the first n vertices
 unfoldable pub stampsCopied : List ℕ → List ℕ → ℕ → ℕ → ℕ
-unfolding copiedAt
-stampsCopied file path a zero = 0
-stampsCopied file path a (suc i) = stampsCopied file path a i + cond (copiedAt file path a i) 1 0
+unfolding total copiedAt
+stampsCopied file path a n = countOf (copiedAt file path a) n

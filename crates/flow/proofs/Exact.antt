@@ -17,7 +17,7 @@ use lib.ListN.{length, getD, set, replicate, length-replicate, length-set, List�
 use lib.Seq.{map-set-same, set-getD, ext-getD}
 use Rattle.sets.specs.Sets.{bit, has}
 use Rattle.sets.proofs.Laws.{bit-lt, bit-or, bit-and, has-zero, same}
-use Rattle.flow.specs.Order.{Order, natural}
+use Rattle.flow.specs.Order.{Order}
 use Rattle.flow.specs.Paths.{last, next, edgeCount}
 use Rattle.flow.specs.Solver.{Leads, Holds, near, far, turn, handed, relaxed, swept, rounds, solution, Ends}
 use Rattle.flow.proofs.Tests.{member-or, member-and}

@@ -1,12 +1,12 @@
 -- Laws of rounds, by any step: what each step keeps, rounds keep; and what two tables have in common, they keep in common.
 -- Assumes nothing.
-use mathlib.Core.Path.{_≡_, refl, sym, ap, ap₂, subst, _∙_}
+use mathlib.Core.Path.{_≡_, refl, sym, ap, subst, _∙_}
 use mathlib.Core.Bool.{Bool, true, false, cond}
 use mathlib.Core.List.{List, [], _∷_}
 use Prim.Native.Nat.{ℕ, zero, suc, _+_, _-_, _*_, _≤_, _<_}
 use native.Mathlib.Nat.{le-refl, le-of-lt}
 use native.Mathlib.Omega.{arith}
-use lib.ListN.{length, getD, set, length-set}
+use lib.ListN.{length, getD, set}
 use Rattle.flow.specs.Order.{Order, natural}
 use Rattle.flow.specs.Paths.{edgeCount}
 use Rattle.flow.specs.Solver.{near, far, turn, swept, rounds, Ends}

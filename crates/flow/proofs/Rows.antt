@@ -10,20 +10,20 @@ use native.Mathlib.Decide.{le-ind, decLt, ℕ-discrete}
 use native.Mathlib.Numerals.{add-one}
 use native.Mathlib.Omega.{arith}
 use borrow.Author.Count.{below-more}
-use lib.Bits.{bitAnd, bitOr, or-add-and, and-le-l, and-comm}
+use lib.Bits.{bitAnd, bitOr, or-add-and, and-comm}
 use lib.Dec.{eqb, eqb·suc-zero}
 use lib.ListN.{length, getD, set, replicate, length-replicate, length-set}
-use lib.Seq.{set-getD, getD-set-same, getD-set-other, ext-getD}
+use lib.Seq.{getD-set-same, getD-set-other, ext-getD}
 use Rattle.sets.specs.Sets.{bit, minus}
-use Rattle.sets.proofs.Laws.{bit-none, bit-minus}
+use Rattle.sets.proofs.Laws.{bit-none, bit-minus, or-none}
 use Rattle.words.specs.Tables.{withRow}
 use Rattle.words.proofs.Rows.{row-length, row-other, row-at, row-still}
 use Rattle.words.proofs.Tables.{table-length, table-at}
 use Rattle.flow.specs.Order.{Order}
 use Rattle.flow.specs.Paths.{edgeCount}
-use Rattle.flow.specs.Solver.{near, far, turn, handed, relaxed, swept, rounds, solution, column, handedRow, grown, relaxedRow, roundsRow, Ends, rowCount, Tables, noted, inAll, Altered, Advanced, Solved}
+use Rattle.flow.specs.Solver.{near, far, turn, handed, relaxed, swept, rounds, solution, column, handedRow, grown, relaxedRow, roundsRow, Ends, Tables, noted, inAll, Altered, Advanced, Solved}
 use Rattle.flow.proofs.Rounds.{turn-lt, near-lt, far-lt, swept-keeps, rounds-keeps, rounds-both}
-use Rattle.flow.proofs.Exact.{or-le, or-subset, cleared, after, after-length, ends-alike}
+use Rattle.flow.proofs.Exact.{or-le, or-subset, cleared, after, ends-alike}
 
 -- ---- a row that grows
 
@@ -111,10 +111,6 @@ pub record Notes (note before after : List ℕ) : Type 0 where
 
 pub notes-none : (s : List ℕ) → Notes (replicate 8 0) s s
 notes-none s = record { none = λ h. refl; some = λ e a l. cleared 8 a }
-
--- a union is empty if both are
-or-none : (a b : ℕ) → bitOr a b ≡ 0 → (a ≡ 0) × (b ≡ 0)
-or-none a b e = (omega (arith, or-le a b), omega (arith, or-add-and a b, or-le a b, and-le-l a b))
 
 -- what a set lacks, and what it grows by
 lacks-none : (a b : ℕ) → minus b a ≡ 0 → bitOr a b ≡ a

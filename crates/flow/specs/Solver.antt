@@ -11,7 +11,7 @@ use lib.Bits.{bitAnd, bitOr}
 use lib.ListN.{length, getD, set, replicate}
 use Rattle.sets.specs.Sets.{has, minus}
 use Rattle.words.specs.Tables.{table, withRow}
-use Rattle.flow.specs.Order.{Order, natural}
+use Rattle.flow.specs.Order.{natural}
 use Rattle.flow.specs.Paths.{edgeCount, edgeFrom, edgeTo, Path}
 
 -- ---- by paths: what a set holds

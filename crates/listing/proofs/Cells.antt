@@ -1,7 +1,7 @@
 -- No column has more than 20 bytes, and no cell more than 21.
 -- Assumes nothing.
 use mathlib.Core.Bool.{Bool, true, false, cond}
-use mathlib.Core.List.{List, [], _∷_, _++_}
+use mathlib.Core.List.{List, [], _∷_}
 use Prim.Native.Nat.{ℕ, zero, suc, _*_, _/_, _%_, _≤_, zero-le}
 use native.Mathlib.Omega.{arith}
 use lib.Dec.{eqb, ltb}
@@ -9,7 +9,7 @@ use lib.ListN.{length, getD, length-append}
 use Rattle.io.specs.Digits.{glyph}
 use Rattle.words.specs.Tables.{rows}
 use Rattle.words.proofs.Tables.{rows-most}
-use Rattle.listing.specs.Text.{decimalIn, decimal, mask, version, CHARACTER, VERSION, MASK, column, separator, cell}
+use Rattle.listing.specs.Text.{decimalIn, decimal, version, CHARACTER, VERSION, MASK, column, separator, cell}
 use Rattle.listing.proofs.Digits.{mask-length}
 
 choice : (t : Bool) (xs ys : List ℕ) {n : ℕ} → length xs ≤ n → length ys ≤ n → length (cond t xs ys) ≤ n

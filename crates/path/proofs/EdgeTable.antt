@@ -1,7 +1,7 @@
 -- The table of edges has exactly the edges of a well-formed file.
 -- Assumes nothing.
 use mathlib.Core.Path.{_≡_, refl, sym, ap, ap₂, _∙_}
-use mathlib.Core.Bool.{Bool, true, false, _&&_, _||_, or-false, and-false}
+use mathlib.Core.Bool.{Bool, false, _&&_, _||_, or-false, and-false}
 use mathlib.Core.List.{List}
 use Prim.Native.Nat.{ℕ, zero, suc, _+_, _-_, _/_, _%_, _≤_, _<_, _^_}
 use native.Mathlib.Numerals.{add-one}
@@ -19,11 +19,8 @@ use Rattle.routine.proofs.WellFormed.{edge-limits}
 use Rattle.sets.specs.Sets.{has}
 use Rattle.sets.proofs.Laws.{has-or, has-single, has-zero}
 use Rattle.path.specs.EdgeTable.{wordAt, marked, edgeTable, isMarked, arrivalBy}
+use Rattle.words.proofs.Cases.{by-test}
 use Rattle.path.specs.Paths.{vertexAt, edgeAmong, isEdge, arrivalCheck}
-
-by-test : {P : Type 0} (b : Bool) → (b ≡ true → P) → (b ≡ false → P) → P
-by-test true f g = f refl
-by-test false f g = g refl
 
 pub marked-length : (table : List ℕ) (e : Edge) → length (marked table e) ≡ length table
 unfolding marked

@@ -1,7 +1,7 @@
 -- An accepted path: 1 to 4,096 vertices of the routine from the entry on, each joined to the next by an edge.
 -- Assumes nothing.
-use mathlib.Core.Path.{_≡_, refl, ap₂, _∙_}
-use mathlib.Core.Bool.{Bool, true, false, _&&_, _||_, false≢true}
+use mathlib.Core.Path.{_≡_, ap₂, _∙_}
+use mathlib.Core.Bool.{true, false, _&&_, false≢true}
 use mathlib.Core.List.{List}
 use Prim.Native.Nat.{ℕ, zero, suc, _+_, _-_, _≤_, _<_}
 use native.Mathlib.Omega.{arith}
@@ -16,18 +16,15 @@ use Rattle.routine.specs.Reader.{WellFormed}
 use Rattle.refusal.specs.declared.Verdict.the-variants.{Passed}
 use Rattle.routine.proofs.Laws.{holds-true, allowed, and-parts, within-limits, scan-passed}
 use Rattle.routine.proofs.WellFormed.{edge-limits}
+use Rattle.words.proofs.Cases.{or-cases}
 use Rattle.path.specs.Paths.{steps, vertexAt, edgeAmong, isEdge, arrivalCheck, check32, pathCheck}
-
-either : {P : Type 0} (a b : Bool) → (a ≡ true → P) → (b ≡ true → P) → (a || b) ≡ true → P
-either true b f g h = f refl
-either false b f g h = g h
 
 module _ {file : List ℕ} (w : WellFormed file) where
   edge-there : (u v n : ℕ) → n ≤ edges file → edgeAmong file u v n ≡ true → Edge (edgeBytes file) u v
   unfolding edgeAmong
   edge-there u v zero h e = absurd (false≢true e)
   edge-there u v (suc n) h e =
-      either (edgeAmong file u v n) (eqb (edgeOf file n .from) u && eqb (edgeOf file n .to) v)
+      or-cases (edgeAmong file u v n) (eqb (edgeOf file n .from) u && eqb (edgeOf file n .to) v)
       (edge-there u v n (omega arith))
       (λ g.
       let q = and-parts (eqb (edgeOf file n .from) u) _ g in

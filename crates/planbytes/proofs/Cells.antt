@@ -1,20 +1,16 @@
 -- What the tables hold for array a and vertex v, and the bytes of the label that is made of it.
 -- Assumes nothing.
-use mathlib.Core.Path.{_≡_, refl, sym, ap, ap₂, subst, _∙_}
+use mathlib.Core.Path.{_≡_, refl, sym, ap, _∙_}
 use mathlib.Core.Bool.{Bool, true, false, cond, true≢false}
 use mathlib.Core.List.{List, [], _++_}
 use Prim.Native.Nat.{ℕ, _+_, _*_, _≤_, _<_, _^_}
 use native.Mathlib.Omega.{arith}
 use borrow.Author.Tests.{eqb-true, eq-eqb, ne-eqb}
-use lib.Bits.{bitOr, or-add-and, and-le-l, and-comm}
 use lib.Dec.{eqb}
 use lib.ListN.{length, getD, drop}
 use lib.Pow.{pow-pos}
-use Rattle.labels.specs.declared.Use.{Use}
 use Rattle.labels.specs.Events.{event, isLabel, version, versionOf, versionSet}
-use Rattle.labels.specs.Kept.{keptOf}
 use Rattle.labels.specs.Letters.{letterByte, useOfByte}
-use Rattle.labels.specs.Reaching.{reachingOf}
 use Rattle.labels.specs.Routines.{ReadAs}
 use Rattle.labels.specs.Uses.{useOf, isN}
 use Rattle.planbytes.specs.Plan.{leavingByte, eightBytes, labelBytes, labelEntry}
@@ -91,10 +87,6 @@ counts-few x b = by (eqb x 0) b
     by true c = omega arith
     by false true = omega arith
     by false false = omega arith
-
--- a union is empty if both are
-pub or-none : (a b : ℕ) → bitOr a b ≡ 0 → (a ≡ 0) × (b ≡ 0)
-or-none a b e = (omega (arith, or-add-and a b, and-comm a b, and-le-l b a), omega (arith, or-add-and a b, and-le-l a b))
 
 -- the leaving byte that a label's version and letter give
 leaving-is : (file : List ℕ) (a v : ℕ) {x letter byte : ℕ} → isLabel file a v ≡ true → x ≡ versionSet (event file a v) → letter ≡ letterByte (useOf file a v)

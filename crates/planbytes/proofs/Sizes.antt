@@ -5,31 +5,38 @@ use mathlib.Core.Bool.{Bool, true, false, cond}
 use mathlib.Core.List.{List, [], _++_}
 use Prim.Native.Nat.{ℕ, zero, suc, _+_, _-_, _*_, _≤_, _<_, min}
 use native.Mathlib.Decide.{decLt}
-use native.Mathlib.Numerals.{add-one}
 use native.Mathlib.Omega.{arith}
 use lib.ListN.{length, getD, set, drop, length-append, List·getD-append}
 use Rattle.labels.specs.Events.{isLabel}
 use Rattle.labels.specs.Routines.{ReadAs}
-use Rattle.planbytes.specs.Plan.{labelsAmong, labelsAt, labelsBefore, labelCount, contentsEntry, contents, labelBytes, labelEntry, labelRow, labels, planHead, planBytes, planLength}
+use Rattle.planbytes.specs.Plan.{labelsAt, labelsBefore, labelCount, contentsEntry, contents, labelBytes, labelEntry, labelRow, labels, planHead, planBytes, planLength}
 use Rattle.planbytes.specs.Tables.{Firsts}
 use Rattle.routine.specs.declared.header.Header.{Header}
 use Rattle.routine.specs.Layout.{arrays, vertices}
 use Rattle.routine.specs.Reader.{Laid}
+use Rattle.words.specs.Sums.{total}
 use Rattle.words.specs.Tables.{table, rows}
 use Rattle.words.proofs.Fills.{Filling, onward}
-use Rattle.words.proofs.Tables.{at-most-one, table-length, table-at, rows-length}
+use Rattle.words.proofs.Sums.{total-none, total-more, total-few, count-few, rows-total}
+use Rattle.words.proofs.Tables.{table-length, table-at, rows-length}
 
--- ---- sums: what `total` counts, item by item
+-- ---- a count over columns of which those from m on count for nothing
 
-module _ (size total : ℕ → ℕ) (none : total 0 ≡ 0) (more : (i : ℕ) → total (suc i) ≡ total i + size i) where
-  sum-few : (k : ℕ) → ((i : ℕ) → size i ≤ k) → (n : ℕ) → total n ≤ k * n
-  sum-few k few zero = omega arith
-  sum-few k few (suc n) = omega (arith, more n, few n, sum-few k few n)
+pub none-yet : (size : ℕ → ℕ) (m : ℕ) → 0 ≡ total size (min 0 m)
+none-yet size m = let e : 0 ≡ min 0 m = omega arith in total-none size ∙ ap (total size) e
 
-  sum-length : (row : ℕ → List ℕ) → ((i : ℕ) → length (row i) ≡ 8 * size i) → (n : ℕ) → length (rows row n) ≡ 8 * total n
-  unfolding rows
-  sum-length row wide zero = omega arith
-  sum-length row wide (suc n) = omega (arith, length-append (rows row n) (row n), more n, wide n, sum-length row wide n)
+pub next-column : {count more : ℕ} (size : ℕ → ℕ) (m a : ℕ) → count ≡ total size (min a m) → (a < m → more ≡ size a) → (m ≤ a → more ≡ 0)
+    → count + more ≡ total size (min (a + 1) m)
+next-column {count} {more} size m a e f g = elim (decLt a m) [
+  | yes l ↦
+      let before : min a m ≡ a = omega arith in
+      let after : a + 1 ≡ min (a + 1) m = omega arith in
+      total-more size a (e ∙ ap (total size) before) (f l) ∙ ap (total size) after
+  | no l ↦
+      let same : min a m ≡ min (a + 1) m = omega arith in
+      let none : count + more ≡ count = omega (arith, g (omega arith)) in
+      none ∙ e ∙ ap (total size) same
+]
 
 -- ---- counts
 
@@ -41,35 +48,9 @@ pub record Entry (file firsts : List ℕ) (v : ℕ) : Type 0 where
   pub few : getD firsts (v + 1) 0 ≤ 2048
 
 module _ (file : List ℕ) where
-  pub among-more : {count more : ℕ} (v a : ℕ) → count ≡ labelsAmong file v a → more ≡ cond (isLabel file a v) 1 0 → count + more ≡ labelsAmong file v (a + 1)
-  unfolding labelsAmong
-  among-more v a e f = ap₂ _+_ e f ∙ ap (labelsAmong file v) (sym (add-one a))
-
-  pub among-none : (v m : ℕ) → 0 ≡ labelsAmong file v (min 0 m)
-  unfolding labelsAmong
-  among-none v m = let e : 0 ≡ min 0 m = omega arith in ap (labelsAmong file v) e
-
-  -- the next column; those from m on count for nothing
-  pub among-next : {count more : ℕ} (v m a : ℕ) → count ≡ labelsAmong file v (min a m) → (a < m → more ≡ cond (isLabel file a v) 1 0) → (m ≤ a → more ≡ 0)
-      → count + more ≡ labelsAmong file v (min (a + 1) m)
-  among-next {count} {more} v m a e f g = elim (decLt a m) [
-    | yes l ↦
-        let before : min a m ≡ a = omega arith in
-        let after : a + 1 ≡ min (a + 1) m = omega arith in
-        among-more v a (e ∙ ap (labelsAmong file v) before) (f l) ∙ ap (labelsAmong file v) after
-    | no l ↦
-        let same : min a m ≡ min (a + 1) m = omega arith in
-        let none : count + more ≡ count = omega (arith, g (omega arith)) in
-        none ∙ e ∙ ap (labelsAmong file v) same
-  ]
-
   pub before-more : {count more : ℕ} (v : ℕ) → count ≡ labelsBefore file v → more ≡ labelsAt file v → count + more ≡ labelsBefore file (v + 1)
   unfolding labelsBefore
-  before-more v e f = ap₂ _+_ e f ∙ ap (labelsBefore file) (sym (add-one v))
-
-  pub among-few : (v m : ℕ) → labelsAmong file v m ≤ m
-  unfolding labelsAmong
-  among-few v m = omega (arith, sum-few (λ a. cond (isLabel file a v) 1 0) (labelsAmong file v) refl (λ a. refl) 1 (λ a. at-most-one (isLabel file a v)) m)
+  before-more v e f = total-more (labelsAt file) v e f
 
   -- entry u of a table that has been filled from the front
   first-at : {n : ℕ} {old new : List ℕ} {v : ℕ} → Filling (labelsBefore file) n old new v → (u : ℕ) → u < v → getD new u 0 ≡ labelsBefore file u
@@ -87,20 +68,20 @@ module _ (file : List ℕ) where
   module _ (laid : Laid file) where
     pub at-few : (v : ℕ) → labelsAt file v ≤ 8
     unfolding labelsAt
-    at-few v = omega (arith, among-few v (arrays file), laid .limits .few-arrays)
+    at-few v = omega (arith, count-few (λ a. isLabel file a v) (arrays file), laid .limits .few-arrays)
 
     pub before-few : (v : ℕ) → labelsBefore file v ≤ 8 * v
     unfolding labelsBefore
-    before-few v = sum-few (labelsAt file) (labelsBefore file) refl (λ v. refl) 8 at-few v
+    before-few v = total-few (labelsAt file) 8 at-few v
 
     -- counts and indices fit 16 bits
-    pub count-few : labelCount file ≤ 2048
+    pub labels-few : labelCount file ≤ 2048
     unfolding labelCount
-    count-few = omega (arith, before-few (vertices file), laid .limits .few-vertices)
+    labels-few = omega (arith, before-few (vertices file), laid .limits .few-vertices)
 
     pub plan-few : planLength file ≤ 17416
     unfolding planLength
-    plan-few = omega (arith, count-few, laid .limits .few-vertices)
+    plan-few = omega (arith, labels-few, laid .limits .few-vertices)
 
   -- a vertex without labels writes nothing
   pub row-none : (v : ℕ) → ((a : ℕ) → a < arrays file → isLabel file a v ≡ false) → labelRow file v ≡ []
@@ -141,12 +122,12 @@ module _ (file : List ℕ) where
       go false = refl
 
   row-length : (v : ℕ) → length (labelRow file v) ≡ 8 * labelsAt file v
-  unfolding labelRow labelsAt labelsAmong
-  row-length v = sum-length (λ a. cond (isLabel file a v) 1 0) (labelsAmong file v) refl (λ a. refl) (labelEntry file v) (entry-length v) (arrays file)
+  unfolding labelRow labelsAt
+  row-length v = rows-total (labelEntry file v) (λ a. cond (isLabel file a v) 1 0) 8 (entry-length v) (arrays file)
 
   pub labels-length : length (labels file) ≡ 8 * labelCount file
   unfolding labels labelCount labelsBefore
-  labels-length = sum-length (labelsAt file) (labelsBefore file) refl (λ v. refl) (labelRow file) row-length (vertices file)
+  labels-length = rows-total (labelRow file) (labelsAt file) 8 row-length (vertices file)
 
   -- where the labels stand
   pub labels-at : 8 + 4 * vertices file ≡ length (planHead (vertices file) (labelCount file) ++ contents file)

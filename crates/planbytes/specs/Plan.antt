@@ -2,13 +2,14 @@
 -- Assumes nothing.
 use mathlib.Core.Bool.{cond}
 use mathlib.Core.List.{List, [], _∷_, _++_}
-use Prim.Native.Nat.{ℕ, zero, suc, _+_, _*_}
+use Prim.Native.Nat.{ℕ, _+_, _*_}
 use Rattle.labels.specs.Events.{event, isLabel, version}
 use Rattle.labels.specs.Kept.{keptOf}
 use Rattle.labels.specs.Letters.{letterByte}
 use Rattle.labels.specs.Reaching.{reachingOf}
 use Rattle.labels.specs.Uses.{useOf, isN}
 use Rattle.routine.specs.Layout.{arrays, vertices}
+use Rattle.words.specs.Sums.{total, countOf}
 use Rattle.words.specs.Tables.{rows}
 use Rattle.words.specs.Words.{bytes16}
 
@@ -18,22 +19,15 @@ mark = 72 ∷ 80 ∷ 70 ∷ 80 ∷ []
 
 -- ---- how many labels
 
--- among the first m arrays of vertex v
-unfoldable pub labelsAmong : List ℕ → ℕ → ℕ → ℕ
-unfolding event
-labelsAmong file v zero = 0
-labelsAmong file v (suc a) = labelsAmong file v a + cond (isLabel file a v) 1 0
-
 -- the labels of vertex v
 unfoldable pub labelsAt : List ℕ → ℕ → ℕ
-unfolding labelsAmong
-labelsAt file v = labelsAmong file v (arrays file)
+unfolding total event
+labelsAt file v = countOf (λ a. isLabel file a v) (arrays file)
 
 -- of the vertices before v: the index of v's first label, or the one that it would have had
 unfoldable pub labelsBefore : List ℕ → ℕ → ℕ
-unfolding labelsAt
-labelsBefore file zero = 0
-labelsBefore file (suc v) = labelsBefore file v + labelsAt file v
+unfolding total labelsAt
+labelsBefore file v = total (labelsAt file) v
 
 unfoldable pub labelCount : List ℕ → ℕ
 unfolding labelsBefore

@@ -1,14 +1,14 @@
 -- Laws of masks as sets, for any width: a width enters as a number, and only where a complement, a shift or an upper bound does.
 -- Assumes nothing.
 use mathlib.Core.Path.{_≡_, refl, sym, ap, ap₂, _∙_}
-use mathlib.Core.Bool.{Bool, true, false, not, _&&_, _||_, true≢false}
+use mathlib.Core.Bool.{true, false, not, _&&_, _||_, true≢false}
 use mathlib.Core.Logic.{⊎-elim}
 use Prim.Native.Nat.{ℕ, zero, suc, _+_, _-_, _*_, _/_, _%_, _^_, _≤_, _<_, suc-le-suc, min, max}
 use native.Mathlib.Nat.{eq-or-lt-of-le, div-eq-of-lt, div-one, one-mul, lt-of-lt-of-le, mod-lt, pow-suc, zero-lt-suc, suc-inj}
 use native.Mathlib.Omega.{arith}
 use borrow.Author.Tests.{eqb-true, ltb-true, lt-ltb, eq-eqb}
 use lib.Dec.{eqb, lit<, eqb·zero-suc, eqb·suc-zero, eqb·suc-suc}
-use lib.Bits.{bitAnd, bitOr, and-step, or-step, and-shr, or-shr, and-le-l, and-mask}
+use lib.Bits.{bitAnd, bitOr, and-step, or-step, and-shr, or-shr, and-le-l, and-comm, and-mask, or-add-and}
 use lib.Pow.{pow-mono, shr-shr, shl-exact}
 use lib.Count.{ones, ones-step, ones-le, trailingZeros, under, trailing-le}
 use Rattle.sets.specs.Sets.{bit, has, minus, Two, several}
@@ -43,6 +43,10 @@ unfolding has
 has-suc m k = ap (λ (n : ℕ). eqb n 1) (bit-suc m k)
 
 -- ---- members of union, intersection, difference
+
+-- a union is empty where both are
+pub or-none : (a b : ℕ) → bitOr a b ≡ 0 → (a ≡ 0) × (b ≡ 0)
+or-none a b e = (omega (arith, or-add-and a b, and-comm a b, and-le-l b a), omega (arith, or-add-and a b, and-le-l a b))
 
 or-odd : (x y : ℕ) → bitOr x y % 2 ≡ max (x % 2) (y % 2)
 or-odd x y = omega (arith, or-step x y)

@@ -25,7 +25,7 @@ use Rattle.state.specs.References.{referenced}
 use Rattle.state.specs.Stamps.{stampAfter}
 use Rattle.state.specs.States.{nothing, hasCurrent, stampOf, Current}
 use Rattle.state.specs.Vertex.{labelled, visited, relabelled, Visits}
-use Rattle.state.proofs.Cases.{at-cond, by-test}
+use Rattle.words.proofs.Cases.{at-cond, by-test}
 use Rattle.state.proofs.States.{moved-current}
 
 module _ (stamp : ℕ) (s : State) where

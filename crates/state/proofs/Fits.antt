@@ -28,7 +28,7 @@ use Rattle.state.specs.References.{referenced}
 use Rattle.state.specs.Start.{started}
 use Rattle.state.specs.States.{stampOf, emptied}
 use Rattle.state.specs.Vertex.{labelled, visited}
-use Rattle.state.proofs.Cases.{at-cond}
+use Rattle.words.proofs.Cases.{at-cond}
 
 -- ---- lists of stamps
 

@@ -19,7 +19,7 @@ use Rattle.state.specs.declared.State.{State}
 use Rattle.state.specs.Cleaning.{currentSet, dying, cleared, cleaned}
 use Rattle.state.specs.Moves.{moves, copies, moved, isD, targetStamp}
 use Rattle.state.specs.States.{hasCurrent, stampOf}
-use Rattle.state.proofs.Cases.{at-cond, by-test}
+use Rattle.words.proofs.Cases.{at-cond, by-test}
 
 -- every live version has the stamp x
 abbrev pub Agree : State → ℕ → Type 0

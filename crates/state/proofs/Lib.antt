@@ -1,4 +1,3 @@
-pub mod Cases
 pub mod Current
 pub mod Fits
 pub mod Labels

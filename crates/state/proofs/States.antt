@@ -4,7 +4,7 @@ use mathlib.Core.Path.{_≡_, refl, sym, ap, ap₂, _∙_}
 use mathlib.Core.Bool.{Bool, true, false, not, _&&_, cond, true≢false, and-true, and-false}
 use mathlib.Core.List.{List}
 use mathlib.Core.Logic.{inl, inr, ⊎-elim}
-use Prim.Native.Nat.{ℕ, zero, suc, _+_, _/_, _%_, _^_, _≤_, _<_}
+use Prim.Native.Nat.{ℕ, zero, suc, _+_, _^_, _≤_, _<_}
 use native.Mathlib.Nat.{eq-or-lt-of-le}
 use native.Mathlib.Omega.{arith}
 use lib.Bits.{bitOr, and-zero-r}
@@ -20,7 +20,7 @@ use Rattle.state.specs.declared.State.{State}
 use Rattle.state.specs.States.{Current, nothing, hasCurrent, stampOf}
 use Rattle.state.specs.Cleaning.{currentSet, dying, cleared, cleaned}
 use Rattle.state.specs.Moves.{moves, isD, copies, targetStamp, moved}
-use Rattle.state.proofs.Cases.{at-cond, by-test, one-more}
+use Rattle.words.proofs.Cases.{at-cond, by-test, one-more}
 
 -- a current copy is a version
 pub current-below : (s : State) → Current s → hasCurrent s ≡ true → s .current < 16

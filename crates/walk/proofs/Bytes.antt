@@ -11,7 +11,7 @@ use Rattle.labels.specs.Events.{event}
 use Rattle.path.specs.Paths.{steps, vertexAt}
 use Rattle.report.specs.Bytes.{entryBytes, stateOf, entriesOf, recordsBytes}
 use Rattle.report.specs.Records.{recordsAt}
-use Rattle.report.specs.References.{referencesAmong, referencesAt}
+use Rattle.report.specs.References.{referencesAt}
 use Rattle.report.proofs.Bytes.{entries-length, byStep-bytes, ten}
 use Rattle.routine.specs.Actions.{isReference}
 use Rattle.routine.specs.Layout.{arrays}
@@ -19,6 +19,7 @@ use Rattle.state.specs.States.{stampOf}
 use Rattle.state.specs.declared.State.{State}
 use Rattle.walk.specs.Report.{entries, reportBytes, referencesOn, reportLength}
 use Rattle.words.specs.Tables.{rows}
+use Rattle.words.proofs.Sums.{rows-total}
 
 -- ---- entries
 
@@ -50,25 +51,16 @@ records-bytes file path = byStep-bytes _ (arrays file) (steps path)
 
 -- ---- how many bytes
 
--- rows of ten bytes for each of `count i`, and their sum
-tens : (row : ℕ → List ℕ) (count sum : ℕ → ℕ) → sum 0 ≡ 0 → ((i : ℕ) → sum (suc i) ≡ sum i + count i) → ((i : ℕ) → length (row i) ≡ 10 * count i)
-    → (n : ℕ) → length (rows row n) ≡ 10 * sum n
-unfolding rows
-tens row count sum none more each zero = omega arith
-tens row count sum none more each (suc n) = rw length-append (omega (arith, tens row count sum none more each n, more n, each n))
-
 module _ (file path : List ℕ) where
-  at-step : (i m : ℕ) → length (rows (recordBytesAt file path i) m) ≡ 10 * referencesAmong file (vertexAt path i) m
-  unfolding referencesAmong
+  at-step : (i : ℕ) → length (rows (recordBytesAt file path i) (arrays file)) ≡ 10 * referencesAt file (vertexAt path i)
   at-step i =
-      tens (recordBytesAt file path i) (λ a. cond (isReference (event file a (vertexAt path i))) 1 0) (referencesAmong file (vertexAt path i)) refl (λ a. refl)
+      rows-total (recordBytesAt file path i) (λ a. cond (isReference (event file a (vertexAt path i))) 1 0) 10
       (λ a. ten (event file a (vertexAt path i)) (i + 1) a _ _)
+      (arrays file)
 
   on-path : (n : ℕ) → length (rows (λ i. rows (recordBytesAt file path i) (arrays file)) n) ≡ 10 * referencesOn file path n
   unfolding referencesOn
-  on-path =
-      tens (λ i. rows (recordBytesAt file path i) (arrays file)) (λ i. referencesAt file (vertexAt path i)) (referencesOn file path) refl (λ i. refl)
-      (λ i. at-step i (arrays file))
+  on-path = rows-total (λ i. rows (recordBytesAt file path i) (arrays file)) (λ i. referencesAt file (vertexAt path i)) 10 at-step
 
   pub report-length : length (reportBytes file path) ≡ reportLength file path
   unfolding reportBytes entries reportLength

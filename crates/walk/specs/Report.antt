@@ -1,12 +1,14 @@
 -- Document 01, "Plan and report": the report's bytes, and its length.
 -- Assumes nothing.
 use mathlib.Core.List.{List, _++_}
-use Prim.Native.Nat.{ℕ, zero, suc, _+_, _*_}
+use Prim.Native.Nat.{ℕ, _+_, _*_}
 use Rattle.demand.specs.Run.{stateAfter, runRecords}
+use Rattle.labels.specs.Events.{event}
 use Rattle.path.specs.Paths.{steps, vertexAt}
 use Rattle.report.specs.Bytes.{entryBytes, recordsBytes}
-use Rattle.report.specs.References.{referencesAmong, referencesAt}
+use Rattle.report.specs.References.{referencesAt}
 use Rattle.routine.specs.Layout.{arrays}
+use Rattle.words.specs.Sums.{total}
 use Rattle.words.specs.Tables.{rows}
 
 -- the entry of each array, from its last state
@@ -23,9 +25,8 @@ reportBytes file path = entries file path ++ recordsBytes (runRecords file path)
 
 -- references at the first n vertices of the path
 unfoldable pub referencesOn : List ℕ → List ℕ → ℕ → ℕ
-unfolding referencesAmong
-referencesOn file path zero = 0
-referencesOn file path (suc i) = referencesOn file path i + referencesAt file (vertexAt path i)
+unfolding total event
+referencesOn file path n = total (λ i. referencesAt file (vertexAt path i)) n
 
 unfoldable pub reportLength : List ℕ → List ℕ → ℕ
 unfolding referencesOn

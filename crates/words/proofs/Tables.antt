@@ -1,7 +1,6 @@
 -- Laws of lists built by counting, and of the loops that fill them.
 -- Assumes nothing.
 use mathlib.Core.Path.{_≡_, refl, sym, ap, _∙_}
-use mathlib.Core.Bool.{Bool, true, false, cond}
 use mathlib.Core.List.{List, [], _∷_, _++_, append-assoc, append-nil}
 use mathlib.Core.Logic.{⊎-elim}
 use Prim.Native.Nat.{ℕ, zero, suc, _+_, _*_, _≤_, _<_, zero-le}
@@ -11,12 +10,6 @@ use native.Mathlib.Omega.{arith}
 use lib.ListN.{length, getD, set, drop, length-append, length-drop, List·getD-append, drop-of-length-le}
 use lib.Seq.{set-at, getD-at, drop-cons}
 use Rattle.words.specs.Tables.{table, rows}
-
--- ---- one for each that a test counts
-
-pub at-most-one : (t : Bool) → cond t 1 0 ≤ 1
-at-most-one true = omega arith
-at-most-one false = omega arith
 
 -- ---- tables of numbers
 

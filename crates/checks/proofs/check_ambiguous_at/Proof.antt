@@ -9,7 +9,7 @@ use Rattle.routine.proofs.Laws.{Undecided, start, stop, next, done}
 use Rattle.refusal.specs.Checks.{holds}
 use Rattle.routine.specs.Layout.{arrays}
 use Rattle.refusal.specs.declared.Refusal.the-variants.{AmbiguousReference}
-use Rattle.labels.proofs.Faults.{faulty, faultless}
+use Rattle.checks.proofs.Faults.{faulty, faultless}
 use Rattle.checks.proofs.check_ambiguous_at.Statement.{statement}
 use Rattle.checks.proofs.check_ambiguous_at.Tie as tie
 

@@ -4,13 +4,12 @@ use mathlib.Core.Path.{refl}
 use mathlib.Core.Bool.{not}
 use Prim.Native.Nat.{_-_}
 use native.Mathlib.Omega.{arith}
-use borrow.Author.Needs.{needs}
 use Rattle.labels.specs.Checks.{writesIn}
 use Rattle.routine.proofs.Laws.{Undecided, start, stop, next, done}
 use Rattle.refusal.specs.Checks.{holds}
 use Rattle.routine.specs.Layout.{arrays}
 use Rattle.refusal.specs.declared.Refusal.the-variants.{WritesInArgument}
-use Rattle.labels.proofs.Faults.{faulty, faultless}
+use Rattle.checks.proofs.Faults.{faulty, faultless}
 use Rattle.checks.proofs.check_writes_at.Statement.{statement}
 use Rattle.checks.proofs.check_writes_at.Tie as tie
 

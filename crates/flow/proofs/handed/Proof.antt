@@ -3,7 +3,6 @@
 use mathlib.Core.Path.{refl}
 use Prim.Native.Nat.{_+_, _-_, _*_}
 use native.Mathlib.Omega.{arith}
-use borrow.Author.Needs.{needs}
 use Rattle.flow.specs.Solver.{handed}
 use Rattle.words.proofs.Fills.{Filling, begin, onward, finish}
 use Rattle.flow.proofs.handed.Statement.{statement}

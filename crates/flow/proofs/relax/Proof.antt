@@ -1,13 +1,13 @@
 -- `flow::relax` meets its contract: both ends of the edge are vertices, and the row that grows is the one that `relaxedRow` makes.
 -- Assumes nothing.
-use mathlib.Core.Path.{_≡_, sym, ap, ap₂, subst, _∙_}
+use mathlib.Core.Path.{_≡_, ap, ap₂, _∙_}
 use mathlib.Core.List.{List}
-use Prim.Native.Nat.{ℕ, _+_, _*_, _≤_, _<_}
+use Prim.Native.Nat.{ℕ, _+_, _*_, _≤_}
 use native.Mathlib.Omega.{arith}
 use borrow.Author.Needs.{needs}
 use lib.ListN.{length}
 use Rattle.words.specs.Words.{word}
-use Rattle.flow.specs.Solver.{near, far, handedRow, grown, noted, rowCount}
+use Rattle.flow.specs.Solver.{near, far, handedRow, grown, noted}
 use Rattle.flow.proofs.Rounds.{near-lt, far-lt, near-word, far-word, pick-le}
 use Rattle.flow.proofs.relax.Statement.{statement}
 use Rattle.flow.proofs.relax.Tie as tie

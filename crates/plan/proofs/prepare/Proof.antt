@@ -1,6 +1,5 @@
 -- `prepare` meets its contract: the edges get an order, the events go into tables, and these are checked.
 -- Assumes nothing.
-use borrow.Author.Needs.{needs}
 use Rattle.plan.proofs.prepare.Statement.{statement}
 use Rattle.plan.proofs.prepare.Tie as tie
 

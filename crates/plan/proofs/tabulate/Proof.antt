@@ -1,7 +1,6 @@
 -- `tabulate` meets its contract: each table is filled by its function, and the work slices keep their length.
 -- Assumes nothing.
 use mathlib.Core.Path.{_∙_}
-use borrow.Author.Needs.{needs}
 use Rattle.plan.proofs.tabulate.Statement.{statement}
 use Rattle.plan.proofs.tabulate.Tie as tie
 

@@ -5,7 +5,6 @@ use mathlib.Core.List.{List}
 use Prim.Native.Nat.{ℕ, _^_}
 use native.Mathlib.Omega.{arith}
 use borrow.Author.Needs.{needs}
-use lib.ListN.{set}
 use Rattle.sets.specs.Sets.{minus}
 use Rattle.state.specs.Cleaning.{cleared}
 use Rattle.state.proofs.States.{cleared-none, cleared-first, falls}

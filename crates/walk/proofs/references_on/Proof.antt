@@ -1,6 +1,6 @@
 -- `references_on` meets its contract: the invariant counts the references at the vertices passed.
 -- Assumes nothing.
-use mathlib.Core.Path.{_≡_, sym, ap, ap₂, _∙_}
+use mathlib.Core.Path.{_≡_, ap, _∙_}
 use mathlib.Core.List.{List}
 use Prim.Native.Nat.{ℕ, _+_, _-_, _≤_, _<_}
 use native.Mathlib.Omega.{arith}
@@ -27,7 +27,7 @@ count-requires : tie.Need-count-requires Inv-loop μ-loop
 count-requires c κs = tt
 
 loop-holds : tie.Need-loop-holds Inv-loop μ-loop
-loop-holds c = (omega arith, sym (on-none _ _))
+loop-holds c = (omega arith, on-none _ _)
 
 vertex-requires : tie.Need-vertex-requires Inv-loop μ-loop
 vertex-requires c κs = search needs
@@ -50,9 +50,8 @@ more c =
     let l = c .before .before .before in
     let s = l .before .before .before .before .before in
     let f = referencesAt (s .args .file .now) in
-    ap₂ _+_ (l .loop .inv .1)
+    on-more _ _ _ (l .loop .inv .1)
     (ap (λ (t : List ℕ). getD t (c .before .vertex .result) 0) (table-is s) ∙ table-at f _ _ (within (c .before)) ∙ ap f (c .before .vertex .ensures))
-    ∙ on-more _ _ _
 
 -- at most eight at each of at most 4,096 vertices
 few : (c : tie.Start Inv-loop μ-loop) (n : ℕ) → n ≤ steps (c .args .path .now) → referencesOn (c .args .file .now) (c .args .path .now) n ≤ 32768

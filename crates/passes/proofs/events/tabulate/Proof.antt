@@ -1,6 +1,6 @@
 -- `events::tabulate` meets its contract: two tables are filled.
 -- Assumes nothing.
-use mathlib.Core.Path.{_≡_, sym, ap, subst, _∙_}
+use mathlib.Core.Path.{sym, ap, subst, _∙_}
 use Prim.Native.Nat.{ℕ, _-_, _*_, _<_}
 use Rattle.labels.specs.Events.{versionOf, versionSet}
 use Rattle.passes.specs.Tables.{cellEvent}

@@ -4,7 +4,7 @@ use mathlib.Core.Path.{refl, ap, ap₂, _∙_}
 use mathlib.Core.Bool.{Bool, cond}
 use Prim.Native.Nat.{ℕ, _-_}
 use lib.Bits.{bitOr}
-use lib.ListN.{length, getD}
+use lib.ListN.{getD}
 use Rattle.labels.specs.Kept.{isNOrR}
 use Rattle.labels.specs.Letters.{useOfByte}
 use Rattle.words.proofs.Fills.{Filling, begin, onward, finish, still}

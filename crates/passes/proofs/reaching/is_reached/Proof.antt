@@ -6,8 +6,6 @@ use Prim.Native.Nat.{ℕ}
 use lib.Dec.{eqb, ltb}
 use Rattle.sets.specs.Sets.{has}
 use Rattle.sets.proofs.Laws.{bit-zero}
-use native.Mathlib.Omega.{arith}
-use borrow.Author.Needs.{needs}
 use Rattle.passes.proofs.reaching.is_reached.Statement.{statement}
 use Rattle.passes.proofs.reaching.is_reached.Tie as tie
 

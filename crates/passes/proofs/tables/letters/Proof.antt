@@ -2,10 +2,8 @@
 -- Assumes nothing.
 use mathlib.Core.Path.{sym, ap, _∙_}
 use borrow.Author.Needs.{needs}
-use lib.ListN.{length, getD}
+use lib.ListN.{length}
 use Rattle.words.proofs.Tables.{table-length}
-use Rattle.labels.specs.Letters.{letterByte}
-use Rattle.labels.specs.Uses.{letterOf}
 use Rattle.passes.proofs.Steps.{letter-passes, letters-are}
 use Rattle.passes.proofs.tables.letters.Statement.{statement}
 use Rattle.passes.proofs.tables.letters.Tie as tie

@@ -1,7 +1,6 @@
 -- `tables::reaching` meets its contract: both tables are filled and solved, and the entry has its own row in each.
 -- Assumes nothing.
 use mathlib.Core.Path.{sym, ap, _∙_}
-use Prim.Native.Nat.{_≤_}
 use native.Mathlib.Omega.{arith}
 use borrow.Author.Needs.{needs}
 use lib.ListN.{length}

@@ -1,8 +1,6 @@
 -- `uses::leaves` meets its contract.
 -- Assumes nothing.
 use Rattle.passes.proofs.Letters.{not-n}
-use native.Mathlib.Omega.{arith}
-use borrow.Author.Needs.{needs}
 use Rattle.passes.proofs.uses.leaves.Statement.{statement}
 use Rattle.passes.proofs.uses.leaves.Tie as tie
 

@@ -1,10 +1,6 @@
 -- `passes_by` meets its contract.
 -- Assumes nothing.
-use mathlib.Core.Bool.{cond}
-use lib.Dec.{eqb}
-use borrow.Author.Tests.{eq-eqb, ne-eqb}
-use native.Mathlib.Omega.{arith}
-use borrow.Author.Needs.{needs}
+use borrow.Author.Tests.{ne-eqb}
 use Rattle.passes.proofs.uses.passes_by.Statement.{statement}
 use Rattle.passes.proofs.uses.passes_by.Tie as tie
 

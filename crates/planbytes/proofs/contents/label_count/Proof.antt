@@ -3,7 +3,6 @@
 use mathlib.Core.Path.{_≡_, refl, sym, ap, _∙_}
 use Prim.Native.Nat.{_*_, _-_, _≤_}
 use native.Mathlib.Omega.{arith}
-use borrow.Author.Needs.{needs}
 use lib.ListN.{length, set, length-set}
 use Rattle.planbytes.specs.Plan.{labelsBefore, labelCount}
 use Rattle.planbytes.proofs.Sizes.{before-more, before-few, firsts-done}

@@ -1,6 +1,5 @@
 -- `contents::write` meets its contract. The invariant: the entries of the vertices before v are written. The measure is what is left.
 -- Assumes nothing.
-use mathlib.Core.Path.{_≡_}
 use Prim.Native.Nat.{_-_}
 use native.Mathlib.Omega.{arith}
 use borrow.Author.Needs.{needs}

@@ -5,10 +5,9 @@ use mathlib.Core.Logic.{⊎-elim}
 use Prim.Native.Nat.{ℕ, _+_, _*_, _-_, _≤_, _<_}
 use native.Mathlib.Nat.{eq-or-lt-of-le}
 use native.Mathlib.Omega.{arith}
-use borrow.Author.Needs.{needs}
 use borrow.Author.Tests.{eqb-true}
 use lib.ListN.{getD}
-use Rattle.planbytes.proofs.Cells.{or-none}
+use Rattle.sets.proofs.Laws.{or-none}
 use Rattle.planbytes.proofs.writer.is_unlabelled.Statement.{statement}
 use Rattle.planbytes.proofs.writer.is_unlabelled.Tie as tie
 

@@ -10,7 +10,7 @@ use Rattle.planbytes.specs.Plan.{labelCount, contents, labels, planHead,
 use Rattle.routine.specs.Layout.{vertices}
 use Rattle.words.specs.Tables.{wrote}
 use Rattle.words.proofs.Filling.{Front, starts, lends, more}
-use Rattle.planbytes.proofs.Sizes.{count-few, labels-length, labels-at, plan-length}
+use Rattle.planbytes.proofs.Sizes.{labels-few, labels-length, labels-at, plan-length}
 use Rattle.planbytes.proofs.writer.write.Statement.{statement}
 use Rattle.planbytes.proofs.writer.write.Tie as tie
 
@@ -27,7 +27,7 @@ unfolding planLength
 room s = omega (arith, plan-length (s .args .file .now), labels-length (s .args .file .now))
 
 few : (s : tie.Start) → s .args .count ≤ 2048
-few s = omega (arith, s .pre .1 .1 .0, count-few (s .args .file .now) (s .pre .0 .heads .laid))
+few s = omega (arith, s .pre .1 .1 .0, labels-few (s .args .file .now) (s .pre .0 .heads .laid))
 
 place : (s : tie.Start) → 8 + 4 * s .args .h .vertices ≡ length (first s ++ contents (s .args .file .now))
 place s = omega (arith, labels-at (s .args .file .now))

@@ -1,0 +1,13 @@
+-- Sums by counting.
+-- Assumes nothing.
+use mathlib.Core.Bool.{Bool, cond}
+use Prim.Native.Nat.{ℕ, zero, suc, _+_}
+
+-- the sum of the first n sizes
+unfoldable pub total : (ℕ → ℕ) → ℕ → ℕ
+total size zero = 0
+total size (suc i) = total size i + size i
+
+-- how many of the first n a test holds of
+abbrev pub countOf : (ℕ → Bool) → ℕ → ℕ
+countOf test n = total (λ i. cond (test i) 1 0) n
