@@ -26,7 +26,7 @@ use Rattle.state.specs.Fits.{Fits}
 use Rattle.demand.specs.Machine.{Machine, machineStep, machineAfter, machineRecords}
 use Rattle.path.specs.Paths.{steps, vertexAt, pathCheck}
 use Rattle.report.specs.Records.{byArray, byStep}
-use Rattle.state.specs.Moves.{moves, copies}
+use Rattle.state.specs.Moves.{moves, copiesStamp}
 use Rattle.state.specs.References.{referenced}
 use Rattle.state.specs.Vertex.{labelled, visited}
 use Rattle.demand.specs.Run.{stateAfter, runRecords, copiedBy, copiedAt, stampsCopied}
@@ -79,7 +79,7 @@ unfolding labelled referenced
 visited-copies r Nothing u keep step s = sym (add-zero (s .copies))
 visited-copies r (Reference x) u keep step s = sym (add-zero (s .copies))
 visited-copies r (Remap t) u keep step s =
-    at-cond (λ (s' : State). s' .copies ≡ s .copies + cond (copies u t s) 1 0) (moves u t s) (λ h. refl) (λ h. cc (add-zero (s .copies)))
+    at-cond (λ (s' : State). s' .copies ≡ s .copies + cond (copiesStamp u t s) 1 0) (moves u t s) (λ h. refl) (λ h. cc (add-zero (s .copies)))
 visited-copies r Unknown u keep step s = sym (add-zero (s .copies))
 
 -- ---- one array of an accepted file along an accepted path

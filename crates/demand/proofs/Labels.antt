@@ -15,7 +15,7 @@ use Rattle.routine.proofs.Laws.{and-parts}
 use Rattle.sets.specs.Sets.{has}
 use Rattle.state.specs.declared.State.{State}
 use Rattle.state.specs.Cleaning.{callers}
-use Rattle.state.specs.Moves.{moves, copies, moved, isD}
+use Rattle.state.specs.Moves.{moves, copiesStamp, moved, isD}
 use Rattle.state.specs.States.{hasCurrent}
 use Rattle.state.specs.Vertex.{labelled}
 use Rattle.demand.specs.Machine.{Machine, machineStep}
@@ -37,7 +37,7 @@ moved-cheap u t step s m c =
     at-cond (λ (s' : State). Cheap s' (machineStep (Remap t) step m)) (moves u t s)
     (λ h. record {
       few =
-          at-cond (λ (n : ℕ). s .copies + n ≤ m .count + cond (eqb t (m .held)) 0 1) (copies u t s)
+          at-cond (λ (n : ℕ). s .copies + n ≤ m .count + cond (eqb t (m .held)) 0 1) (copiesStamp u t s)
           (λ g.
           let other = eqb-false (s .current) t (not-true _ (and-parts (not (isN u)) _ h .1)) in
           at-cond (λ (n : ℕ). s .copies + 1 ≤ m .count + n) (eqb t (m .held)) (λ e. omega (arith, c .fewer (copies-current u t s g) (away e other))) (λ e. omega arith))

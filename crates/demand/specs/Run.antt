@@ -13,7 +13,7 @@ use Rattle.routine.specs.Layout.{arrays}
 use Rattle.routine.specs.declared.action.Action.{Action}
 use Rattle.routine.specs.declared.action.Action.the-variants.{Nothing, Reference, Remap, Unknown}
 use Rattle.state.specs.Exit.{left}
-use Rattle.state.specs.Moves.{copies}
+use Rattle.state.specs.Moves.{copiesStamp}
 use Rattle.state.specs.References.{referenced}
 use Rattle.state.specs.Start.{started}
 use Rattle.state.specs.States.{stampOf}
@@ -45,14 +45,14 @@ runRecords file path =
 
 -- whether a stamp is copied for array a at index i of the path
 abbrev pub copiedBy : Action → Use → State → Bool
-unfolding copies
+unfolding copiesStamp
 copiedBy Nothing u s = false
 copiedBy (Reference x) u s = false
-copiedBy (Remap t) u s = copies u t s
+copiedBy (Remap t) u s = copiesStamp u t s
 copiedBy Unknown u s = false
 
 unfoldable pub copiedAt : List ℕ → List ℕ → ℕ → ℕ → Bool
-unfolding stateAfter event useOf copies
+unfolding stateAfter event useOf copiesStamp
 copiedAt file path a i = copiedBy (event file a (vertexAt path i)) (useOf file a (vertexAt path i)) (stateAfter file path a i)
 
 -- the number of stamps copied at the first n vertices

@@ -11,12 +11,12 @@ use Rattle.refusal.specs.Checks.{_andThen_, holds, firstFailed}
 use Rattle.routine.specs.Layout.{arrays, recordAt, within}
 
 -- kind, number of versions, initial version, zero
-abbrev pub recordOf : List ℕ → ArrayRecord
-recordOf b = record { kind = getD b 0 0; versions = getD b 1 0; initial = getD b 2 0; zero = getD b 3 0 }
+abbrev pub arrayRecordOf : List ℕ → ArrayRecord
+arrayRecordOf b = record { kind = getD b 0 0; versions = getD b 1 0; initial = getD b 2 0; zero = getD b 3 0 }
 
 -- array a, from four bytes
 unfoldable pub arrayOf : List ℕ → ℕ → ArrayRecord
-arrayOf file a = recordOf (take 4 (drop (recordAt a) file))
+arrayOf file a = arrayRecordOf (take 4 (drop (recordAt a) file))
 
 -- kind 0 to 3, versions 1 to 16, initial version below that number, zero: the byte of the first that does not hold
 abbrev pub recordCheck : ArrayRecord → ℕ → Verdict

@@ -4,7 +4,7 @@ use refusal::Refusal;
 use refusal::Verdict;
 ghost use mathlib.Core.Path.{_≡_};
 ghost use Prim.Native.Nat.{_+_, _*_, _<_};
-ghost use Rattle.routine.specs.Arrays.{recordOf, arrayOf, recordCheck, arrayCheck, check14};
+ghost use Rattle.routine.specs.Arrays.{arrayRecordOf, arrayOf, recordCheck, arrayCheck, check14};
 ghost use Rattle.routine.specs.Layout.{arrays};
 ghost use Rattle.routine.specs.Reader.{Laid, Heads};
 
@@ -30,7 +30,7 @@ impl ArrayRecord {
     pub const MAX_VERSIONS: u8 = 16;
 
     pub fn from_bytes(b: [u8; ArrayRecord::SIZE]) -> ArrayRecord
-        ensures { λ r. ⌜ r ≡ recordOf b ⌝ }
+        ensures { λ r. ⌜ r ≡ arrayRecordOf b ⌝ }
     {
         ArrayRecord {
             kind: b[0],

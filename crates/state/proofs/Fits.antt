@@ -23,7 +23,7 @@ use Rattle.state.specs.Fits.{Stamps, Fits}
 use Rattle.state.specs.Stamps.{stampAfter}
 use Rattle.state.specs.Cleaning.{dying, callers, cleared, cleaned}
 use Rattle.state.specs.Exit.{left}
-use Rattle.state.specs.Moves.{moves, copies, targetStamp, moved}
+use Rattle.state.specs.Moves.{moves, copiesStamp, targetStamp, moved}
 use Rattle.state.specs.References.{referenced}
 use Rattle.state.specs.Start.{started}
 use Rattle.state.specs.States.{stampOf, emptied}
@@ -86,9 +86,9 @@ cleaned-fits own keep {s} f =
 
 module _ (u : Use) (t : ℕ) (below : t < 16) {s : State} {n : ℕ} (f : Fits s n) where
   target-small : targetStamp u t s ≤ 65535
-  unfolding copies
+  unfolding copiesStamp
   target-small =
-      at-cond (λ (x : ℕ). x ≤ 65535) (copies u t s)
+      at-cond (λ (x : ℕ). x ≤ 65535) (copiesStamp u t s)
       (λ _. f .stamps .small (s .current))
       (λ _. at-cond (λ (x : ℕ). x ≤ 65535) (has (s .live) t) (λ _. f .stamps .small t) (λ _. lit≤ tt))
 
@@ -100,7 +100,7 @@ module _ (u : Use) (t : ℕ) (below : t < 16) {s : State} {n : ℕ} (f : Fits s 
         current = inl below;
         live = or-lt 16 (s .live) (2 ^ t) (f .live) (pow-lt below);
         stamps = set-stamps (s .stamps) t (targetStamp u t s) (f .stamps) target-small;
-        copies = at-cond (λ (x : ℕ). s .copies + x ≤ suc n) (copies u t s) (λ _. omega arith) (λ _. omega arith);
+        copies = at-cond (λ (x : ℕ). s .copies + x ≤ suc n) (copiesStamp u t s) (λ _. omega arith) (λ _. omega arith);
       })
       (λ _. longer f)
 

@@ -17,7 +17,7 @@ use Rattle.sets.specs.Sets.{has, minus}
 use Rattle.sets.proofs.Laws.{has-or, has-minus, has-single, has-zero}
 use Rattle.state.specs.declared.State.{State}
 use Rattle.state.specs.Cleaning.{currentSet, dying, cleared, cleaned}
-use Rattle.state.specs.Moves.{moves, copies, moved, isD, targetStamp}
+use Rattle.state.specs.Moves.{moves, copiesStamp, moved, isD, targetStamp}
 use Rattle.state.specs.States.{hasCurrent, stampOf}
 use Rattle.words.proofs.Cases.{at-cond, by-test}
 
@@ -86,15 +86,15 @@ module _ (own keep : ℕ) (s : State) where
 joined-has : (m t k : ℕ) → has (bitOr m (2 ^ t)) k ≡ (has m k || eqb t k)
 joined-has m t k = simp (has-or, has-single)
 
-pub copies-current : (u : Use) (t : ℕ) (s : State) → copies u t s ≡ true → hasCurrent s ≡ true
-unfolding copies
+pub copies-current : (u : Use) (t : ℕ) (s : State) → copiesStamp u t s ≡ true → hasCurrent s ≡ true
+unfolding copiesStamp
 copies-current u t s h = and-parts (not (isD u)) _ (and-parts (not (has (s .live) t)) _ (and-parts (moves u t s) _ h .1) .1) .1
 
 module _ (u : Use) (t : ℕ) (s : State) where
   taken-stamp : {x : ℕ} → isD u ≡ false → moves u t s ≡ true → Agree s x → Sits s x → targetStamp u t s ≡ x
-  unfolding copies
+  unfolding copiesStamp
   taken-stamp {x} d m a c =
-      at-cond (λ (n : ℕ). n ≡ x) (copies u t s)
+      at-cond (λ (n : ℕ). n ≡ x) (copiesStamp u t s)
       (λ h. a (s .current) (c .lives (copies-current u t s h)))
       (λ h. at-cond (λ (n : ℕ). n ≡ x) (has (s .live) t) (a t) (λ g. sym (c .bare (cc))))
 

@@ -19,7 +19,7 @@ use Rattle.sets.specs.Sets.{has, minus}
 use Rattle.state.specs.declared.State.{State}
 use Rattle.state.specs.States.{Current, nothing, hasCurrent, stampOf}
 use Rattle.state.specs.Cleaning.{currentSet, dying, cleared, cleaned}
-use Rattle.state.specs.Moves.{moves, isD, copies, targetStamp, moved}
+use Rattle.state.specs.Moves.{moves, isD, copiesStamp, targetStamp, moved}
 use Rattle.words.proofs.Cases.{at-cond, by-test, one-more}
 
 -- a current copy is a version
@@ -28,17 +28,17 @@ current-below s (inl h) e = h
 current-below s (inr n) e = absurd (true≢false (sym e ∙ ap (λ (k : ℕ). not (eqb k nothing)) n))
 
 module _ (u : Use) (t : ℕ) (s : State) where
-  pub copied-below : Current s → copies u t s ≡ true → s .current < 16
-  unfolding copies
+  pub copied-below : Current s → copiesStamp u t s ≡ true → s .current < 16
+  unfolding copiesStamp
   copied-below current h =
       current-below s current (and-parts (not (isD u)) _ (and-parts (not (has (s .live) t)) _ (and-parts (moves u t s) _ h .1) .1) .1)
 
-  pub target-is : (copied live : Bool) → copied ≡ copies u t s → live ≡ has (s .live) t
+  pub target-is : (copied live : Bool) → copied ≡ copiesStamp u t s → live ≡ has (s .live) t
       → cond copied (stampOf s (s .current)) (cond live (stampOf s t) 0) ≡ targetStamp u t s
-  unfolding copies
+  unfolding copiesStamp
   target-is copied live e f = simp (e, f)
 
-  pub moved-is : (takes copied : Bool) (one count : ℕ) (stamps : List ℕ) → takes ≡ moves u t s → copied ≡ copies u t s → one ≡ 2 ^ t
+  pub moved-is : (takes copied : Bool) (one count : ℕ) (stamps : List ℕ) → takes ≡ moves u t s → copied ≡ copiesStamp u t s → one ≡ 2 ^ t
       → stamps ≡ set (s .stamps) t (targetStamp u t s) → count ≡ s .copies + cond copied 1 0
       → cond takes (record { current = t; live = bitOr (s .live) one; stamps = stamps; copies = count }) s ≡ moved u t s
   unfolding moved

@@ -24,24 +24,24 @@ isD R = false
 isD W = false
 
 -- a stamp is copied: the target is not live, the use is not D, and a copy is current
-unfoldable pub copies : Use → ℕ → State → Bool
+unfoldable pub copiesStamp : Use → ℕ → State → Bool
 unfolding has
-copies u t s = moves u t s && (not (has (s .live) t) && (not (isD u) && hasCurrent s))
+copiesStamp u t s = moves u t s && (not (has (s .live) t) && (not (isD u) && hasCurrent s))
 
 -- the target's stamp: copied; or its own if it is live; or 0
 abbrev pub targetStamp : Use → ℕ → State → ℕ
-unfolding copies
-targetStamp u t s = cond (copies u t s) (stampOf s (s .current)) (cond (has (s .live) t) (stampOf s t) 0)
+unfolding copiesStamp
+targetStamp u t s = cond (copiesStamp u t s) (stampOf s (s .current)) (cond (has (s .live) t) (stampOf s t) 0)
 
 -- the target becomes live and current
 unfoldable pub moved : Use → ℕ → State → State
-unfolding copies has
+unfolding copiesStamp has
 moved u t s =
     cond (moves u t s)
     (record {
       current = t;
       live = bitOr (s .live) (2 ^ t);
       stamps = set (s .stamps) t (targetStamp u t s);
-      copies = s .copies + cond (copies u t s) 1 0;
+      copies = s .copies + cond (copiesStamp u t s) 1 0;
     })
     s

@@ -12,7 +12,7 @@ ghost use Rattle.labels.specs.Letters.{useOfByte};
 ghost use Rattle.state.specs.Cleaning.{currentSet, callers, cleared, cleaned};
 ghost use Rattle.state.specs.Current.{currentStamp, settled, stampBy};
 ghost use Rattle.state.specs.Exit.{left};
-ghost use Rattle.state.specs.Moves.{moves, isD, copies, targetStamp, moved};
+ghost use Rattle.state.specs.Moves.{moves, isD, copiesStamp, targetStamp, moved};
 ghost use Rattle.state.specs.Start.{started};
 ghost use Rattle.state.specs.States.{hasCurrent, emptied, Current};
 ghost use Rattle.state.specs.Vertex.{relabelled, Visits};
@@ -111,7 +111,7 @@ impl State {
     // Whether it copies a stamp.
     fn copies_stamp(self, u: Use, t: u8) -> bool
         requires { ⌜ t < 16 ⌝ }
-        ensures { λ r. ⌜ r ≡ copies u t self ⌝ }
+        ensures { λ r. ⌜ r ≡ copiesStamp u t self ⌝ }
     {
         self.takes_up(u, t) & (!sets::member(self.live, t) & (!is_d(u) & self.has_current()))
     }

@@ -21,6 +21,19 @@ write-one old done b at here room =
     ∙ sym (append-assoc done (b ∷ []) (drop (suc (length done)) old))
     ∙ ap (λ (n : ℕ). (done ++ (b ∷ [])) ++ drop n old) (let e : suc (length done) ≡ length (done ++ (b ∷ [])) = omega (arith, length-append done (b ∷ [])) in e)
 
+-- ---- a slice whose first n entries are lent
+
+pub front-length : (n : ℕ) {size : ℕ} (xs : List ℕ) → length xs ≡ size → n ≤ size → length (take n xs) ≡ n
+front-length n xs e h = length-take-le n xs (omega arith)
+
+-- it keeps its length if the part does
+pub put-back : (old new : List ℕ) (n : ℕ) → length new ≡ length (take n old) → length (new ++ drop n old) ≡ length old
+put-back old new n e =
+    length-append new (drop n old)
+    ∙ (let all : length new + length (drop n old) ≡ length old = omega (arith, length-take n old, length-drop n old) in all)
+
+-- ---- a slice whose part behind what has been written is lent
+
 -- what a callee sees of `&mut xs[at..]`
 abbrev pub partFrom : List ℕ → ℕ → List ℕ
 partFrom xs at = take (length xs - at) (drop at xs)

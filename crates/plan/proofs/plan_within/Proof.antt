@@ -5,7 +5,7 @@ use Prim.Native.Nat.{ℕ, _*_, _≤_}
 use native.Mathlib.Omega.{arith}
 use lib.ListN.{length}
 use lib.Seq.{length-take-le}
-use Rattle.plan.proofs.Parts.{put-back}
+use Rattle.words.proofs.Written.{put-back}
 use Rattle.plan.proofs.plan_within.Statement.{statement}
 use Rattle.plan.proofs.plan_within.Tie as tie
 

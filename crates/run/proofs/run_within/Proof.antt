@@ -5,7 +5,7 @@ use Prim.Native.Nat.{ℕ, _*_, _≤_}
 use native.Mathlib.Omega.{arith}
 use lib.ListN.{length, take}
 use Rattle.routine.specs.Layout.{vertices}
-use Rattle.run.proofs.Parts.{part-length, same-whole}
+use Rattle.words.proofs.Written.{front-length, put-back}
 use borrow.Author.Needs.{needs}
 use Rattle.run.proofs.run_within.Statement.{statement}
 use Rattle.run.proofs.run_within.Tie as tie
@@ -25,31 +25,31 @@ size s = ap (λ (n : ℕ). 8 * n) (s .pre .0 .heads .vertices-are)
 -- ---- the parts
 
 order-part : (s : tie.Start) → length (take (s .args .h .edges) (s .args .order .now)) ≡ s .args .h .edges
-order-part s = part-length (s .args .h .edges) (s .args .order .now) (s .pre .1 .0) (few-edges s)
+order-part s = front-length (s .args .h .edges) (s .args .order .now) (s .pre .1 .0) (few-edges s)
 
 versions-part : (s : tie.Start) → length (take (8 * s .args .h .vertices) (s .args .versions .now)) ≡ 8 * s .args .h .vertices
-versions-part s = part-length (8 * s .args .h .vertices) (s .args .versions .now) (s .pre .1 .1 .0) (few-cells s)
+versions-part s = front-length (8 * s .args .h .vertices) (s .args .versions .now) (s .pre .1 .1 .0) (few-cells s)
 
 uses-part : (s : tie.Start) → length (take (8 * s .args .h .vertices) (s .args .uses .now)) ≡ 8 * s .args .h .vertices
-uses-part s = part-length (8 * s .args .h .vertices) (s .args .uses .now) (s .pre .1 .1 .1 .0) (few-cells s)
+uses-part s = front-length (8 * s .args .h .vertices) (s .args .uses .now) (s .pre .1 .1 .1 .0) (few-cells s)
 
 letters-part : (s : tie.Start) → length (take (8 * s .args .h .vertices) (s .args .letters .now)) ≡ 8 * s .args .h .vertices
-letters-part s = part-length (8 * s .args .h .vertices) (s .args .letters .now) (s .pre .1 .1 .1 .1 .0) (few-cells s)
+letters-part s = front-length (8 * s .args .h .vertices) (s .args .letters .now) (s .pre .1 .1 .1 .1 .0) (few-cells s)
 
 kept-part : (s : tie.Start) → length (take (8 * s .args .h .vertices) (s .args .kept .now)) ≡ 8 * s .args .h .vertices
-kept-part s = part-length (8 * s .args .h .vertices) (s .args .kept .now) (s .pre .1 .1 .1 .1 .1 .0) (few-cells s)
+kept-part s = front-length (8 * s .args .h .vertices) (s .args .kept .now) (s .pre .1 .1 .1 .1 .1 .0) (few-cells s)
 
 counts-part : (s : tie.Start) → length (take (s .args .h .vertices) (s .args .counts .now)) ≡ s .args .h .vertices
-counts-part s = part-length (s .args .h .vertices) (s .args .counts .now) (s .pre .1 .1 .1 .1 .1 .1 .0) (few-vertices s)
+counts-part s = front-length (s .args .h .vertices) (s .args .counts .now) (s .pre .1 .1 .1 .1 .1 .1 .0) (few-vertices s)
 
 reached-part : (s : tie.Start) → length (take (8 * s .args .h .vertices) (s .args .reached .now)) ≡ 8 * s .args .h .vertices
-reached-part s = part-length (8 * s .args .h .vertices) (s .args .reached .now) (s .pre .1 .1 .1 .1 .1 .1 .1 .0) (few-cells s)
+reached-part s = front-length (8 * s .args .h .vertices) (s .args .reached .now) (s .pre .1 .1 .1 .1 .1 .1 .1 .0) (few-cells s)
 
 gives-part : (s : tie.Start) → length (take (8 * s .args .h .vertices) (s .args .gives .now)) ≡ 8 * s .args .h .vertices
-gives-part s = part-length (8 * s .args .h .vertices) (s .args .gives .now) (s .pre .1 .1 .1 .1 .1 .1 .1 .1 .0) (few-cells s)
+gives-part s = front-length (8 * s .args .h .vertices) (s .args .gives .now) (s .pre .1 .1 .1 .1 .1 .1 .1 .1 .0) (few-cells s)
 
 passes-part : (s : tie.Start) → length (take (8 * s .args .h .vertices) (s .args .passes .now)) ≡ 8 * s .args .h .vertices
-passes-part s = part-length (8 * s .args .h .vertices) (s .args .passes .now) (s .pre .1 .1 .1 .1 .1 .1 .1 .1 .1) (few-cells s)
+passes-part s = front-length (8 * s .args .h .vertices) (s .args .passes .now) (s .pre .1 .1 .1 .1 .1 .1 .1 .1 .1) (few-cells s)
 
 mul-all : tie.Need-mul-all
 mul-all c = search needs
@@ -125,55 +125,55 @@ same-length-2 : tie.Need-same-length-2
 same-length-2 c =
     let r = c .before .before .before .before .before .before .before .before .before .before .before .before .before .before .before .before .before .before .before .before in
     let s = start r in
-    same-whole (s .args .h .edges) (s .args .order .now) (r .run-with .last .1 .1 .1 .1 .0) (s .pre .1 .0) (few-edges s) (r .run-with .kept .1 .1 .1 .1 .0)
+    put-back (s .args .order .now) (r .run-with .last .1 .1 .1 .1 .0) (s .args .h .edges) (r .run-with .kept .1 .1 .1 .1 .0)
 
 same-length-3 : tie.Need-same-length-3
 same-length-3 c =
     let r = c .before .before .before .before .before .before .before .before .before .before .before .before .before .before .before .before .before .before .before .before in
     let s = start r in
-    same-whole (8 * s .args .h .vertices) (s .args .versions .now) (r .run-with .last .1 .1 .1 .1 .1 .0) (s .pre .1 .1 .0) (few-cells s) (r .run-with .kept .1 .1 .1 .1 .1 .0)
+    put-back (s .args .versions .now) (r .run-with .last .1 .1 .1 .1 .1 .0) (8 * s .args .h .vertices) (r .run-with .kept .1 .1 .1 .1 .1 .0)
 
 same-length-4 : tie.Need-same-length-4
 same-length-4 c =
     let r = c .before .before .before .before .before .before .before .before .before .before .before .before .before .before .before .before .before .before .before .before in
     let s = start r in
-    same-whole (8 * s .args .h .vertices) (s .args .uses .now) (r .run-with .last .1 .1 .1 .1 .1 .1 .0) (s .pre .1 .1 .1 .0) (few-cells s) (r .run-with .kept .1 .1 .1 .1 .1 .1 .0)
+    put-back (s .args .uses .now) (r .run-with .last .1 .1 .1 .1 .1 .1 .0) (8 * s .args .h .vertices) (r .run-with .kept .1 .1 .1 .1 .1 .1 .0)
 
 same-length-5 : tie.Need-same-length-5
 same-length-5 c =
     let r = c .before .before .before .before .before .before .before .before .before .before .before .before .before .before .before .before .before .before .before .before in
     let s = start r in
-    same-whole (8 * s .args .h .vertices) (s .args .letters .now) (r .run-with .last .1 .1 .1 .1 .1 .1 .1 .0) (s .pre .1 .1 .1 .1 .0) (few-cells s) (r .run-with .kept .1 .1 .1 .1 .1 .1 .1 .0)
+    put-back (s .args .letters .now) (r .run-with .last .1 .1 .1 .1 .1 .1 .1 .0) (8 * s .args .h .vertices) (r .run-with .kept .1 .1 .1 .1 .1 .1 .1 .0)
 
 same-length-6 : tie.Need-same-length-6
 same-length-6 c =
     let r = c .before .before .before .before .before .before .before .before .before .before .before .before .before .before .before .before .before .before .before .before in
     let s = start r in
-    same-whole (8 * s .args .h .vertices) (s .args .kept .now) (r .run-with .last .1 .1 .1 .1 .1 .1 .1 .1 .0) (s .pre .1 .1 .1 .1 .1 .0) (few-cells s) (r .run-with .kept .1 .1 .1 .1 .1 .1 .1 .1 .0)
+    put-back (s .args .kept .now) (r .run-with .last .1 .1 .1 .1 .1 .1 .1 .1 .0) (8 * s .args .h .vertices) (r .run-with .kept .1 .1 .1 .1 .1 .1 .1 .1 .0)
 
 same-length-7 : tie.Need-same-length-7
 same-length-7 c =
     let r = c .before .before .before .before .before .before .before .before .before .before .before .before .before .before .before .before .before .before .before .before in
     let s = start r in
-    same-whole (s .args .h .vertices) (s .args .counts .now) (r .run-with .last .1 .1 .1 .1 .1 .1 .1 .1 .1 .0) (s .pre .1 .1 .1 .1 .1 .1 .0) (few-vertices s) (r .run-with .kept .1 .1 .1 .1 .1 .1 .1 .1 .1 .0)
+    put-back (s .args .counts .now) (r .run-with .last .1 .1 .1 .1 .1 .1 .1 .1 .1 .0) (s .args .h .vertices) (r .run-with .kept .1 .1 .1 .1 .1 .1 .1 .1 .1 .0)
 
 same-length-8 : tie.Need-same-length-8
 same-length-8 c =
     let r = c .before .before .before .before .before .before .before .before .before .before .before .before .before .before .before .before .before .before .before .before in
     let s = start r in
-    same-whole (8 * s .args .h .vertices) (s .args .reached .now) (r .run-with .last .1 .1 .1 .1 .1 .1 .1 .1 .1 .1 .0) (s .pre .1 .1 .1 .1 .1 .1 .1 .0) (few-cells s) (r .run-with .kept .1 .1 .1 .1 .1 .1 .1 .1 .1 .1 .0)
+    put-back (s .args .reached .now) (r .run-with .last .1 .1 .1 .1 .1 .1 .1 .1 .1 .1 .0) (8 * s .args .h .vertices) (r .run-with .kept .1 .1 .1 .1 .1 .1 .1 .1 .1 .1 .0)
 
 same-length-9 : tie.Need-same-length-9
 same-length-9 c =
     let r = c .before .before .before .before .before .before .before .before .before .before .before .before .before .before .before .before .before .before .before .before in
     let s = start r in
-    same-whole (8 * s .args .h .vertices) (s .args .gives .now) (r .run-with .last .1 .1 .1 .1 .1 .1 .1 .1 .1 .1 .1 .0) (s .pre .1 .1 .1 .1 .1 .1 .1 .1 .0) (few-cells s) (r .run-with .kept .1 .1 .1 .1 .1 .1 .1 .1 .1 .1 .1 .0)
+    put-back (s .args .gives .now) (r .run-with .last .1 .1 .1 .1 .1 .1 .1 .1 .1 .1 .1 .0) (8 * s .args .h .vertices) (r .run-with .kept .1 .1 .1 .1 .1 .1 .1 .1 .1 .1 .1 .0)
 
 same-length-10 : tie.Need-same-length-10
 same-length-10 c =
     let r = c .before .before .before .before .before .before .before .before .before .before .before .before .before .before .before .before .before .before .before .before in
     let s = start r in
-    same-whole (8 * s .args .h .vertices) (s .args .passes .now) (r .run-with .last .1 .1 .1 .1 .1 .1 .1 .1 .1 .1 .1 .1 .0) (s .pre .1 .1 .1 .1 .1 .1 .1 .1 .1) (few-cells s) (r .run-with .kept .1 .1 .1 .1 .1 .1 .1 .1 .1 .1 .1 .1 .0)
+    put-back (s .args .passes .now) (r .run-with .last .1 .1 .1 .1 .1 .1 .1 .1 .1 .1 .1 .1 .0) (8 * s .args .h .vertices) (r .run-with .kept .1 .1 .1 .1 .1 .1 .1 .1 .1 .1 .1 .1 .0)
 
 returns : tie.Need-returns
 returns c = c .before .before .before .before .before .before .before .before .before .before .before .before .before .before .before .before .before .before .before .before .run-with .ensures

@@ -1,7 +1,7 @@
 -- `State::copies_stamp` meets its contract.
 -- Assumes nothing.
 use borrow.Author.Needs.{needs}
-use Rattle.state.specs.Moves.{copies}
+use Rattle.state.specs.Moves.{copiesStamp}
 use Rattle.state.proofs.State.copies_stamp.Statement.{statement}
 use Rattle.state.proofs.State.copies_stamp.Tie as tie
 
@@ -18,7 +18,7 @@ has-current-requires : tie.Need-has-current-requires
 has-current-requires c κs = search needs
 
 returns : tie.Need-returns
-unfolding copies
+unfolding copiesStamp
 returns c = rw (c .has-current .ensures, c .before .is-d .ensures, c .before .before .member .ensures, c .before .before .before .takes-up .ensures)
 
 pub copies-stamp-spec : {M : Type 1} → statement M
