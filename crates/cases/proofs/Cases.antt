@@ -59,4 +59,4 @@ demanded-2 = demanded P path2 refl refl
 -- Q to its exit, path 0 1 3 4 5: the inout argument is home
 pub home-at-exit : IsHome Q (path4 ++ (5 ∷ 0 ∷ [])) 0
 unfolding readOf pathCheck arrayOf word
-home-at-exit = demanded Q (path4 ++ (5 ∷ 0 ∷ [])) refl refl .ends-home 0 (search needs) refl (search needs)
+home-at-exit = demanded Q (path4 ++ (5 ∷ 0 ∷ [])) refl refl .ends-home 0 (search needs) refl tt

@@ -88,15 +88,15 @@ pub data Case : Type 0 where
   runs : Runs → Case
 
 -- what the definitions answer. A buffer as long as the plan or the report is enough; a routine is refused whatever the buffer and the path
-abbrev pub Holds : Case → Type 0
-Holds (plans c) =
+abbrev pub CaseHolds : Case → Type 0
+CaseHolds (plans c) =
     (planOf (c .file) (length (c .plan)) ≡ Written (length (c .plan)))
     × (linesOf (c .file) ≡ c .lines)
     × (planBytes (c .file) ≡ c .plan)
-Holds (refuses c) =
+CaseHolds (refuses c) =
     ((size : ℕ) → planOutcome (c .file) size ≡ c .outcome)
     × ((path : List ℕ) (size : ℕ) → runOutcome (c .file) path size ≡ c .outcome)
-Holds (runs c) =
+CaseHolds (runs c) =
     (runOf (c .file) (c .path) (length (c .report)) ≡ Written (length (c .report)))
     × (stateAfter (c .file) (c .path) 0 (steps (c .path)) .copies ≡ c .copies)
     × (machineAfter (c .file) (c .path) 0 (steps (c .path)) .count ≡ c .against)
@@ -105,7 +105,7 @@ Holds (runs c) =
 
 abbrev pub AllHold : List Case → Type 0
 AllHold [] = Unit {0}
-AllHold (c ∷ cs) = Holds c × AllHold cs
+AllHold (c ∷ cs) = CaseHolds c × AllHold cs
 
 -- ---- routine files, in rows of bytes: mark, edition and contents; array; actions; edges
 

@@ -22,7 +22,8 @@ use Rattle.routine.proofs.Laws.{all-passed}
 use Rattle.sets.specs.Sets.{has, several}
 use Rattle.labels.specs.Ambiguity.{arrivingSets, isAmbiguous}
 use Rattle.labels.specs.Checks.{writesIn}
-use Rattle.labels.specs.Events.{kind, isIn, event, isWrite}
+use Rattle.labels.specs.Events.{event, isWrite}
+use Rattle.routine.specs.Arrays.{kind, isIn}
 use Rattle.labels.specs.Uses.{useGives}
 use Rattle.checks.proofs.Faults.{faultless}
 use Rattle.passes.specs.Tables.{Cells, UseGives}

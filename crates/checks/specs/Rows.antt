@@ -6,7 +6,7 @@ use mathlib.Core.List.{List}
 use Prim.Native.Nat.{ℕ, zero, suc, _*_, _<_}
 use lib.ListN.{length, getD}
 use Rattle.labels.specs.Checks.{programmerCheck}
-use Rattle.labels.specs.Events.{kind, isIn}
+use Rattle.routine.specs.Arrays.{kind, isIn}
 use Rattle.passes.specs.Tables.{Reached}
 use Rattle.refusal.specs.declared.Verdict.{Verdict}
 use Rattle.refusal.specs.declared.Verdict.the-variants.{Passed}

@@ -1,5 +1,7 @@
 // Refusals 20 and 21, first by vertex, then by array (document 01, "Who can cause a refusal").
 use labels::event;
+use passes::events;
+use passes::pass;
 use passes::tables;
 use refusal::Refusal;
 use refusal::Verdict;
@@ -13,15 +15,29 @@ ghost use lib.Dec.{eqb};
 ghost use lib.ListN.{length, getD};
 ghost use Rattle.labels.specs.Ambiguity.{arrivingSets, isAmbiguous};
 ghost use Rattle.labels.specs.Checks.{writesIn, check20, check21};
-ghost use Rattle.labels.specs.Routines.{ReadAs, Edges};
+ghost use Rattle.labels.specs.Routines.{ReadAs, EdgeOrder};
 ghost use Rattle.checks.specs.Rows.{anyBelow, InMasks, Checked};
 ghost use Rattle.passes.specs.Tables.{Cells, Versions, UseGives};
 ghost use Rattle.refusal.specs.Checks.{holds, firstFailed};
-ghost use Rattle.routine.specs.Layout.{arrays, vertices};
+ghost use Rattle.routine.specs.Layout.{arrays, vertices, edges};
 ghost use Rattle.refusal.specs.declared.Refusal.the-variants.{WritesInArgument, AmbiguousReference};
 ghost use Rattle.sets.specs.Sets.{has, several};
 
-// The masks by which a row is tested for 20.
+// Whether a cell that gives this to the sets of use is a write that this mask looks for.
+fn is_write(uses: u16, mask: u16) -> bool
+    ensures { λ r. ⌜ r ≡ not (eqb (bitAnd uses mask) 0) ⌝ }
+{
+    uses & mask != 0
+}
+
+// Whether a cell that gives this to the sets of use is a reference, and two versions arrive there.
+fn is_ambiguous(uses: u16, arriving: u16) -> bool
+    ensures { λ r. ⌜ r ≡ (has uses 0 && several arriving) ⌝ }
+{
+    sets::member(uses, 0) & sets::more_than_one(arriving)
+}
+
+// The masks by which 20 looks for writes: of an in argument bit 3, of any other array nothing.
 fn in_masks(file: &[u8], h: Header) -> [u16; flow::COLUMNS]
     requires { ⌜ ReadAs (now file) h ⌝ }
     ensures { λ r. ⌜ InMasks (now (file .entry)) r ⌝ }
@@ -30,7 +46,7 @@ fn in_masks(file: &[u8], h: Header) -> [u16; flow::COLUMNS]
     let m = h.arrays;
     let mut a = 0;
     while a < m {
-        masks[a] = event::set_if(array::record_of(file, a).kind == 1, 0b1000);
+        masks[a] = event::set_if(array::record_of(file, a).is_in(), 0b1000);
         a += 1;
     }
     masks
@@ -46,35 +62,31 @@ fn row_writes(uses: &[u16], masks: [u16; flow::COLUMNS], v: usize) -> bool
     let mut a: usize = 0;
     while a < flow::COLUMNS {
         let at = flow::COLUMNS * v + a;
-        any = any | (uses[at] & masks[a] != 0);
+        any = any | is_write(uses[at], masks[a]);
         a += 1;
     }
     any
 }
 
-// Whether vertex v defines or modifies array a, an in argument.
-fn writes_in(file: &[u8], h: Header, v: usize, a: usize, uses: &[u16]) -> bool
+// The first write of an in argument at vertex v.
+fn check_writes_at(
+    file: &[u8],
+    h: Header,
+    v: usize,
+    uses: &[u16],
+    masks: [u16; flow::COLUMNS],
+) -> Verdict
     requires { ⌜ ReadAs (now file) h ⌝ }
     requires { ⌜ UseGives (now file) (now uses) ⌝ }
     requires { ⌜ v < vertices (now file) ⌝ }
-    requires { ⌜ a < arrays (now file) ⌝ }
-    ensures { λ r. ⌜ r ≡ writesIn (now (file .entry)) a v ⌝ }
-{
-    let at = flow::COLUMNS * v + a;
-    let writes = sets::member(uses[at], 3);
-    writes & (array::record_of(file, a).kind == 1)
-}
-
-fn check_writes_at(file: &[u8], h: Header, v: usize, uses: &[u16]) -> Verdict
-    requires { ⌜ ReadAs (now file) h ⌝ }
-    requires { ⌜ UseGives (now file) (now uses) ⌝ }
-    requires { ⌜ v < vertices (now file) ⌝ }
+    requires { ⌜ InMasks (now file) masks ⌝ }
     ensures { λ r. ⌜ r ≡ firstFailed (λ a. holds (not (writesIn (now (file .entry)) a v)) (WritesInArgument v a)) 0 (arrays (now (file .entry))) ⌝ }
 {
     let m = h.arrays;
     let mut a = 0;
     while a < m {
-        let writes = writes_in(file, h, v, a, uses);
+        let at = flow::COLUMNS * v + a;
+        let writes = is_write(uses[at], masks[a]);
         if writes {
             return Verdict::Failed(Refusal::WritesInArgument {
                 vertex: v,
@@ -102,7 +114,7 @@ fn check_writes_row(
 {
     let any = row_writes(uses, masks, v);
     if any {
-        return check_writes_at(file, h, v, uses);
+        return check_writes_at(file, h, v, uses, masks);
     }
     Verdict::Passed
 }
@@ -136,25 +148,13 @@ fn row_ambiguous(uses: &[u16], arriving: &[u16], v: usize) -> bool
     let mut a: usize = 0;
     while a < flow::COLUMNS {
         let at = flow::COLUMNS * v + a;
-        any = any | (sets::member(uses[at], 0) & sets::more_than_one(arriving[at]));
+        any = any | is_ambiguous(uses[at], arriving[at]);
         a += 1;
     }
     any
 }
 
-// Whether vertex v refers to array a, and two versions arrive there.
-fn is_ambiguous(file: &[u8], h: Header, v: usize, a: usize, uses: &[u16], arriving: &[u16]) -> bool
-    requires { ⌜ ReadAs (now file) h ⌝ }
-    requires { ⌜ UseGives (now file) (now uses) ⌝ }
-    requires { ⌜ v < vertices (now file) ⌝ }
-    requires { ⌜ a < arrays (now file) ⌝ }
-    requires { ⌜ Cells (now file) (λ a v. getD (arrivingSets (now file) a) v 0) (now arriving) ⌝ }
-    ensures { λ r. ⌜ r ≡ isAmbiguous (now (file .entry)) a v ⌝ }
-{
-    let at = flow::COLUMNS * v + a;
-    sets::member(uses[at], 0) & sets::more_than_one(arriving[at])
-}
-
+// The first ambiguous reference at vertex v.
 fn check_ambiguous_at(file: &[u8], h: Header, v: usize, uses: &[u16], arriving: &[u16]) -> Verdict
     requires { ⌜ ReadAs (now file) h ⌝ }
     requires { ⌜ UseGives (now file) (now uses) ⌝ }
@@ -165,7 +165,8 @@ fn check_ambiguous_at(file: &[u8], h: Header, v: usize, uses: &[u16], arriving: 
     let m = h.arrays;
     let mut a = 0;
     while a < m {
-        let ambiguous = is_ambiguous(file, h, v, a, uses, arriving);
+        let at = flow::COLUMNS * v + a;
+        let ambiguous = is_ambiguous(uses[at], arriving[at]);
         if ambiguous {
             return Verdict::Failed(Refusal::AmbiguousReference {
                 vertex: v,
@@ -212,7 +213,7 @@ fn check_ambiguous(file: &[u8], h: Header, uses: &[u16], arriving: &[u16]) -> Ve
 }
 
 // Refusals 20 and 21. `reached` is left with what its pass says; `sets`, `gives` and `passes` are work slices.
-pub fn check(
+fn check(
     file: &[u8],
     h: Header,
     order: &[u16],
@@ -224,7 +225,7 @@ pub fn check(
     passes: &mut [u16],
 ) -> Verdict
     requires { ⌜ ReadAs (now file) h ⌝ }
-    requires { ⌜ Edges (now file) (now order) ⌝ }
+    requires { ⌜ EdgeOrder (now file) (now order) ⌝ }
     requires { ⌜ Versions (now file) (now versions) ⌝ }
     requires { ⌜ UseGives (now file) (now uses) ⌝ }
     requires { ⌜ length (now reached) ≡ 8 * vertices (now file) ⌝ }
@@ -240,4 +241,35 @@ pub fn check(
     tables::reached(file, h, order, reached, gives, passes);
     tables::arriving(file, h, order, versions, reached, sets, gives, passes);
     check_ambiguous(file, h, uses, sets)
+}
+
+// The order of the edges, the tables of events, then refusals 20 and 21. `reached` is left with the table of reached vertices;
+// `sets`, `gives` and `passes` are work slices.
+pub fn prepare(
+    file: &[u8],
+    h: Header,
+    order: &mut [u16],
+    versions: &mut [u16],
+    uses: &mut [u16],
+    reached: &mut [u16],
+    sets: &mut [u16],
+    gives: &mut [u16],
+    passes: &mut [u16],
+) -> Verdict
+    requires { ⌜ ReadAs (now file) h ⌝ }
+    requires { ⌜ length (now order) ≡ edges (now file) ⌝ }
+    requires { ⌜ length (now versions) ≡ 8 * vertices (now file) ⌝ }
+    requires { ⌜ length (now uses) ≡ 8 * vertices (now file) ⌝ }
+    requires { ⌜ length (now reached) ≡ 8 * vertices (now file) ⌝ }
+    requires { ⌜ length (now sets) ≡ 8 * vertices (now file) ⌝ }
+    requires { ⌜ length (now gives) ≡ 8 * vertices (now file) ⌝ }
+    requires { ⌜ length (now passes) ≡ 8 * vertices (now file) ⌝ }
+    ensures { λ _. ⌜ EdgeOrder (now (file .entry)) (now (order .exit)) ⌝ }
+    ensures { λ _. ⌜ Versions (now (file .entry)) (now (versions .exit)) ⌝ }
+    ensures { λ _. ⌜ UseGives (now (file .entry)) (now (uses .exit)) ⌝ }
+    ensures { λ r. ⌜ Checked (now (file .entry)) r (now (reached .exit)) ⌝ }
+{
+    pass::order(file, h, order);
+    events::tabulate(file, h, versions, uses);
+    check(file, h, order, versions, uses, reached, sets, gives, passes)
 }

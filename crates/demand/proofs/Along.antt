@@ -10,7 +10,7 @@ use lib.Dec.{T, eqb, lit≤}
 use lib.ListN.{getD, set, replicate, length-set}
 use lib.Seq.{getD-set-same}
 use Rattle.flow.specs.Paths.{Edge}
-use Rattle.labels.specs.Events.{isArgument, isInOrInout}
+use Rattle.routine.specs.Arrays.{isArgument, isInOrInout}
 use Rattle.labels.specs.Uses.{isN}
 use Rattle.labels.specs.declared.Use.{Use}
 use Rattle.labels.specs.declared.Use.the-variants.{W}

@@ -3,17 +3,21 @@
 use mathlib.Core.Path.{_≡_, refl, sym, ap, ap₂, _∙_}
 use mathlib.Core.Bool.{Bool, cond}
 use mathlib.Core.List.{List, [], _∷_, _++_}
+use mathlib.Core.Logic.{⊎-elim}
 use mathlib.Core.Option.{Option, none, some}
 use Prim.Native.Nat.{ℕ, zero, suc, _+_, _-_, _≤_, _<_}
 use native.Mathlib.Nat.{add-zero}
 use native.Mathlib.Omega.{arith}
-use lib.Dec.{T}
-use Rattle.labels.specs.Events.{exit, isInOrInout, kind, initial, event, isLabel, version, versionOf}
+use lib.Dec.{T, eqb}
+use Rattle.labels.specs.Events.{event, isLabel, version, versionOf}
+use Rattle.routine.specs.Arrays.{kind, initial, isInOrInout, isOutOrInout}
 use Rattle.labels.specs.Reaching.{orLast, lastVersion}
 use Rattle.labels.specs.declared.Use.{Use}
+use Rattle.flow.proofs.Tests.{or-iff}
 use Rattle.labels.proofs.Rules.Proper.{proper}
+use Rattle.labels.proofs.Rules.Tests.{eqb-iff}
 use Rattle.routine.specs.Actions.{isReference, isRemap}
-use Rattle.routine.specs.Layout.{arrays}
+use Rattle.routine.specs.Layout.{arrays, exit}
 use Rattle.routine.specs.Reader.{WellFormed}
 use Rattle.refusal.specs.declared.Verdict.the-variants.{Passed}
 use Rattle.routine.specs.declared.action.Action.{Action}
@@ -34,7 +38,7 @@ use Rattle.demand.proofs.Along.{Follows, left-copies, fits, begins, use
 use Rattle.words.proofs.Cases.{at-cond}
 use Rattle.demand.proofs.Invariant.{Sound}
 use Rattle.path.proofs.Paths.{Walk, walk}
-use Rattle.demand.proofs.Planned.{planOf, sound}
+use Rattle.demand.proofs.Planned.{computedPlan, sound}
 use Rattle.words.specs.Tables.{table}
 
 -- ---- records of two runs that agree at every step and array
@@ -85,7 +89,7 @@ visited-copies r Unknown u keep step s = sym (add-zero (s .copies))
 -- ---- one array of an accepted file along an accepted path
 
 module _ {file path : List ℕ} (walk : Walk file path) (a : ℕ) where
-  follows : Follows (planOf file a) (vertexAt path) (steps path) (stateAfter file path a) (machineAfter file path a)
+  follows : Follows (computedPlan file a) (vertexAt path) (steps path) (stateAfter file path a) (machineAfter file path a)
   unfolding stateAfter machineAfter
   follows =
       record {
@@ -103,7 +107,7 @@ module _ {file path : List ℕ} (walk : Walk file path) (a : ℕ) where
   counted zero = at-cond (λ (s : State). s .copies ≡ 0) (isInOrInout (kind file a)) (λ _. refl) (λ _. refl)
   counted (suc i) = rw (left-copies, visited-copies) (ap (λ (c : ℕ). c + cond (copiedAt file path a i) 1 0) (counted i))
 
-  module _ (sound : Sound (planOf file a)) where
+  module _ (sound : Sound (computedPlan file a)) where
     entered : event file a (vertexAt path 0) ≡ Remap (initial file a)
     entered = begins sound follows
 
@@ -128,13 +132,17 @@ module _ {file path : List ℕ} (walk : Walk file path) (a : ℕ) where
         let n : suc (steps path - 1) ≡ steps path = omega (arith, walk .some) in
         rw (← n) (home-at sound follows (steps path - 1) (omega arith) e k)
 
+-- out and inout are the last two kinds
+not-local-nor-in : (k : ℕ) → T (isOutOrInout k) → 2 ≤ k
+not-local-nor-in k h = ⊎-elim (λ e. omega arith) (λ e. omega arith) (or-iff (eqb k 2) (eqb k 3) (eqb-iff k 2) (eqb-iff k 3) .0 h)
+
 -- ---- the whole
 
 module _ (file path : List ℕ) (w : WellFormed file) (accepted : pathCheck file path ≡ Passed) where
   walks : Walk file path
   walks = walk w accepted
 
-  plans : (a : ℕ) → a < arrays file → Sound (planOf file a)
+  plans : (a : ℕ) → a < arrays file → Sound (computedPlan file a)
   plans a l = sound (proper file w a l)
 
   pub demand3 : Demand3 file path
@@ -143,7 +151,7 @@ module _ (file path : List ℕ) (w : WellFormed file) (accepted : pathCheck file
       record {
         reads-alike = byStep-same _ _ (arrays file) (steps path) (λ i a h l. alike-at (plans a l) (follows walks a) i a h);
         source-names = λ i a h l. names walks a (plans a l) i h;
-        ends-home = λ a l. home walks a (plans a l);
+        ends-home = λ a l e k. home walks a (plans a l) e (not-local-nor-in (kind file a) k);
         copies-counted = λ a l. counted walks a (steps path);
         copies-fewer = λ a l. few-at (plans a l) (follows walks a) (steps path) (omega arith);
       }

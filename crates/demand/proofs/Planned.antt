@@ -6,24 +6,25 @@ use mathlib.Core.List.{List}
 use Prim.Native.Nat.{ℕ, _≤_}
 use native.Mathlib.Omega.{arith}
 use borrow.Author.Tests.{eqb-true, eq-eqb, ne-eqb}
-use Rattle.labels.specs.Events.{edgeBytes, entry, exit, kind, initial, event, versionOf, version}
+use Rattle.labels.specs.Events.{edgeBytes, event, versionOf, version}
+use Rattle.routine.specs.Layout.{entry, exit}
 use Rattle.labels.specs.Kept.{isNOrR, keptOf}
-use Rattle.labels.specs.Proper.{Proper}
+use Rattle.labels.proofs.Rules.Proper.{Proper}
 use Rattle.labels.specs.Uses.{isN, useOf}
 use Rattle.labels.specs.declared.Use.{Use}
 use Rattle.labels.specs.declared.Use.the-variants.{N, D, R, W}
 use Rattle.labels.proofs.Rules.Events.{version-fits}
 use Rattle.labels.proofs.Rules.Kept.{kept-alone}
 use Rattle.labels.proofs.Rules.Uses.{exit-letter, n-segment, d-segment, r-segment}
-use Rattle.routine.specs.Arrays.{arrayOf}
+use Rattle.routine.specs.Arrays.{arrayOf, kind, initial}
 use Rattle.routine.specs.declared.action.Action.the-variants.{Remap}
 use Rattle.sets.specs.Sets.{has}
 use Rattle.sets.proofs.Laws.{has-single}
 use Rattle.demand.proofs.Invariant.{Plan, Sound}
 
 -- the plan of array a
-abbrev pub planOf : List ℕ → ℕ → Plan
-planOf file a =
+abbrev pub computedPlan : List ℕ → ℕ → Plan
+computedPlan file a =
     record { edges = edgeBytes file; event = event file a; letter = useOf file a; keep = keptOf file a; array = arrayOf file a; exit = exit file }
 
 not-N-or-R : (u : Use) → isN u ≡ false → (u ≡ R → ⊥) → isNOrR u ≡ false
@@ -46,7 +47,7 @@ module _ {file : List ℕ} {a : ℕ} (proper : Proper file a) where
   unfolding event
   exit-remaps k = rw (eq-eqb (exit file) (exit file) refl, ne-eqb (kind file a) 0 (λ e. omega arith), or-true)
 
-  pub sound : Sound (planOf file a)
+  pub sound : Sound (computedPlan file a)
   sound =
       record {
         unused = λ {v} e. n-segment file a proper v;

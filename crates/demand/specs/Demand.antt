@@ -6,17 +6,18 @@ use mathlib.Core.List.{List}
 use mathlib.Core.Option.{some}
 use Prim.Native.Nat.{ℕ, _-_, _≤_, _<_}
 use lib.Dec.{T}
-use Rattle.labels.specs.Events.{exit, kind, initial, event, isLabel, version}
+use Rattle.labels.specs.Events.{event, isLabel, version}
+use Rattle.routine.specs.Arrays.{kind, initial, isOutOrInout}
 use Rattle.labels.specs.Reaching.{lastVersion}
 use Rattle.routine.specs.Actions.{isReference}
-use Rattle.routine.specs.Layout.{arrays}
+use Rattle.routine.specs.Layout.{arrays, exit}
 use Rattle.demand.specs.Machine.{machineAfter, machineRecords}
 use Rattle.path.specs.Paths.{steps, vertexAt}
 use Rattle.state.specs.States.{stampOf}
 use Rattle.demand.specs.Run.{stateAfter, runRecords, stampsCopied}
 use Rattle.words.specs.Tables.{table}
 
--- out and inout arguments
+-- an argument is home: current in its initial version, with the machine's last stamp
 abbrev pub IsHome : List ℕ → List ℕ → ℕ → Type 0
 IsHome file path a =
     (stateAfter file path a (steps path) .current ≡ initial file a)
@@ -31,7 +32,7 @@ pub record Demand3 (file path : List ℕ) : Type 0 where
       → lastVersion (isLabel file a) (version file a) (table (vertexAt path) i) ≡ some (stateAfter file path a i .current)
   -- where the path ends at the exit, out and inout are current in their initial version, with the machine's last stamp
   pub ends-home :
-      (a : ℕ) → a < arrays file → vertexAt path (steps path - 1) ≡ exit file → 2 ≤ kind file a → IsHome file path a
+      (a : ℕ) → a < arrays file → vertexAt path (steps path - 1) ≡ exit file → T (isOutOrInout (kind file a)) → IsHome file path a
   -- the copies in the report are the stamps copied
   pub copies-counted : (a : ℕ) → a < arrays file → stateAfter file path a (steps path) .copies ≡ stampsCopied file path a (steps path)
   -- and at most what copying at every remapping counts

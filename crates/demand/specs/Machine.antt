@@ -5,8 +5,8 @@ use mathlib.Core.Bool.{cond}
 use mathlib.Core.List.{List}
 use Prim.Native.Nat.{ℕ, zero, suc, _+_}
 use lib.Dec.{eqb}
-use Rattle.labels.specs.Events.{isInOrInout, event}
-use Rattle.routine.specs.Arrays.{arrayOf}
+use Rattle.labels.specs.Events.{event}
+use Rattle.routine.specs.Arrays.{arrayOf, isInOrInout}
 use Rattle.routine.specs.Layout.{arrays}
 use Rattle.routine.specs.declared.action.Action.{Action}
 use Rattle.routine.specs.declared.action.Action.the-variants.{Nothing, Reference, Remap, Unknown}

@@ -4,12 +4,12 @@ use mathlib.Core.Bool.{Bool, false}
 use mathlib.Core.List.{List}
 use Prim.Native.Nat.{ℕ, zero, suc, _+_}
 use lib.Dec.{eqb}
-use Rattle.labels.specs.Events.{exit, event}
+use Rattle.labels.specs.Events.{event}
 use Rattle.labels.specs.Kept.{keptOf}
 use Rattle.labels.specs.Uses.{useOf}
 use Rattle.labels.specs.declared.Use.{Use}
 use Rattle.routine.specs.Arrays.{arrayOf}
-use Rattle.routine.specs.Layout.{arrays}
+use Rattle.routine.specs.Layout.{arrays, exit}
 use Rattle.routine.specs.declared.action.Action.{Action}
 use Rattle.routine.specs.declared.action.Action.the-variants.{Nothing, Reference, Remap, Unknown}
 use Rattle.state.specs.Exit.{left}

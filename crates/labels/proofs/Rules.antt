@@ -1,6 +1,7 @@
 pub mod Ambiguity
 pub mod Arrivals
 pub mod Checks
+pub mod Demand
 pub mod Events
 pub mod Kept
 pub mod Proper

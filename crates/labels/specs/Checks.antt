@@ -8,7 +8,8 @@ use Rattle.routine.specs.Layout.{arrays, vertices}
 use Rattle.refusal.specs.declared.Refusal.{Refusal}
 use Rattle.refusal.specs.declared.Refusal.the-variants.{WritesInArgument, AmbiguousReference}
 use Rattle.refusal.specs.declared.Verdict.{Verdict}
-use Rattle.labels.specs.Events.{kind, isIn, event, isWrite}
+use Rattle.labels.specs.Events.{event, isWrite}
+use Rattle.routine.specs.Arrays.{kind, isIn}
 use Rattle.labels.specs.Ambiguity.{isAmbiguous}
 
 -- the first vertex, and there the first array, at which a fault stands

@@ -9,8 +9,8 @@ use Rattle.routine.specs.declared.action.Access.the-variants.{Read, Define, Mod
 use Rattle.routine.specs.declared.action.Action.{Action}
 use Rattle.routine.specs.declared.action.Action.the-variants.{Nothing, Reference, Remap, Unknown}
 use Rattle.routine.specs.Actions.{action, isRemap}
-use Rattle.routine.specs.Arrays.{arrayOf}
-use Rattle.routine.specs.Layout.{vertices, edgesAt}
+use Rattle.routine.specs.Arrays.{arrayOf, kind, initial, isArgument}
+use Rattle.routine.specs.Layout.{entry, exit, edgesAt}
 
 -- the width of a version set, for all label rules
 abbrev pub width : ℕ
@@ -23,30 +23,6 @@ everyVersion = 2 ^ width - 1
 -- the bytes of the edges
 abbrev pub edgeBytes : List ℕ → List ℕ
 edgeBytes file = drop (edgesAt file) file
-
--- vertex 0 is the entry, the last is the exit
-abbrev pub entry : ℕ
-entry = 0
-
-abbrev pub exit : List ℕ → ℕ
-exit file = vertices file - 1
-
--- ---- kinds of arrays: 0 local, 1 in, 2 out, 3 inout; the last three are arguments
-
-abbrev pub kind : List ℕ → ℕ → ℕ
-kind file a = arrayOf file a .kind
-
-abbrev pub initial : List ℕ → ℕ → ℕ
-initial file a = arrayOf file a .initial
-
-abbrev pub isArgument : ℕ → Bool
-isArgument kind = not (eqb kind 0)
-
-abbrev pub isIn : ℕ → Bool
-isIn kind = eqb kind 1
-
-abbrev pub isInOrInout : ℕ → Bool
-isInOrInout kind = eqb kind 1 || eqb kind 3
 
 -- ---- events: entry labels every array as a remapping to its initial version; exit labels every argument so
 

@@ -1,9 +1,9 @@
 pub mod Ambiguity
 pub mod Checks
+pub mod Demand
 pub mod Events
 pub mod Kept
 pub mod Letters
-pub mod Proper
 pub mod Reaching
 pub mod Routines
 pub mod Uses

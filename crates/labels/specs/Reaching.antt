@@ -9,9 +9,10 @@ use lib.Dec.{eqb}
 use lib.ListN.{getD}
 use Rattle.flow.specs.Paths.{Joined}
 use Rattle.flow.specs.Solver.{solution}
-use Rattle.routine.specs.Layout.{vertices}
+use Rattle.routine.specs.Layout.{vertices, entry}
 use Rattle.sets.specs.Sets.{has}
-use Rattle.labels.specs.Events.{everyVersion, edgeBytes, entry, kind, initial, isInOrInout, version}
+use Rattle.labels.specs.Events.{everyVersion, edgeBytes, version}
+use Rattle.routine.specs.Arrays.{kind, initial, isInOrInout}
 use Rattle.labels.specs.Uses.{isKept}
 use Rattle.words.specs.Tables.{table}
 

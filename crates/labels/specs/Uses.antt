@@ -9,14 +9,15 @@ use lib.ListN.{getD}
 use Rattle.flow.specs.Paths.{Path}
 use Rattle.flow.specs.Solver.{solution}
 use Rattle.routine.specs.Actions.{isReference}
-use Rattle.routine.specs.Layout.{vertices}
+use Rattle.routine.specs.Layout.{vertices, exit}
 use Rattle.routine.specs.declared.action.Access.the-variants.{Read, Define, Modify}
 use Rattle.routine.specs.declared.action.Action.{Action}
 use Rattle.routine.specs.declared.action.Action.the-variants.{Nothing, Reference, Remap, Unknown}
 use Rattle.sets.specs.Sets.{has}
 use Rattle.labels.specs.declared.Use.{Use}
 use Rattle.labels.specs.declared.Use.the-variants.{N, D, R, W}
-use Rattle.labels.specs.Events.{edgeBytes, exit, kind, isIn, event, isLabel, version, isRead, isDefine, isWrite, needsValue}
+use Rattle.labels.specs.Events.{edgeBytes, event, isLabel, version, isRead, isDefine, isWrite, needsValue}
+use Rattle.routine.specs.Arrays.{kind, isIn}
 use Rattle.words.specs.Tables.{table}
 
 -- ---- segments

@@ -1,15 +1,16 @@
 // Events: what a vertex does with an array once entry and exit are labels (document 01, "Labels").
 use crate::Use;
 use routine::action;
+use routine::action::Access;
 use routine::action::Action;
 use routine::array::ArrayRecord;
 use routine::header::Header;
 ghost use mathlib.Core.Path.{_≡_};
 ghost use mathlib.Core.Bool.{cond, not, _&&_};
 ghost use Prim.Native.Nat.{_<_};
-ghost use Rattle.labels.specs.Events.{event, versionOf, versionSet, everyVersion, isInOrInout};
+ghost use Rattle.labels.specs.Events.{event, versionOf, versionSet, everyVersion};
 ghost use Rattle.labels.specs.Routines.{OfArray};
-ghost use Rattle.labels.specs.Uses.{isN};
+ghost use Rattle.labels.specs.Uses.{isN, useGives, passesBy};
 ghost use Rattle.routine.specs.Actions.{isRemap};
 ghost use Rattle.routine.specs.Layout.{vertices};
 
@@ -22,7 +23,7 @@ pub fn at(file: &[u8], h: Header, r: ArrayRecord, a: usize, v: usize) -> Action
     requires { ⌜ v < vertices (now file) ⌝ }
     ensures { λ x. ⌜ x ≡ event (now (file .entry)) a v ⌝ }
 {
-    let label = (v == 0) | ((v == h.vertices - 1) & (r.kind != 0));
+    let label = (v == 0) | ((v == h.vertices - 1) & r.is_argument());
     if label {
         return Action::Remap(r.initial);
     }
@@ -91,8 +92,31 @@ pub fn every_if(pass: bool) -> u16
     set_if(pass, EVERY)
 }
 
-pub fn is_in_or_inout(r: ArrayRecord) -> bool
-    ensures { λ b. ⌜ b ≡ isInOrInout (r .kind) ⌝ }
+// What an event gives to the sets of use.
+pub fn gives_of(x: Action) -> u16
+    ensures { λ r. ⌜ r ≡ useGives x ⌝ }
 {
-    (r.kind == 1) | (r.kind == 3)
+    match x {
+        Action::Nothing => 0b0000,
+        Action::Reference(access) => match access {
+            Access::Read => 0b0111,
+            Access::Define => 0b1001,
+            Access::Modify => 0b1011,
+        },
+        Action::Remap(_) => 0b0010,
+        Action::Unknown => 0b0000,
+    }
+}
+
+// What an event that gives this passes of the sets of use: a label nothing, a define all but bit 1.
+pub fn passes_by(gives: u16) -> u16
+    ensures { λ r. ⌜ r ≡ passesBy gives ⌝ }
+{
+    if gives == 0b0010 {
+        return 0b0000;
+    }
+    if gives == 0b1001 {
+        return 0b1101;
+    }
+    0b1111
 }

@@ -1,6 +1,7 @@
 // The label rules of document 01 by paths, and as computed: for each label its use, leaving version, reaching set and kept set; and
 // refusals 20 and 21. Here are events and letters; the rules are computed in `passes`.
 pub mod event;
+pub mod letter;
 
 ghost use mathlib.Core.Path.{_≡_};
 ghost use Rattle.labels.specs.Letters.{letterByte, useOfByte};

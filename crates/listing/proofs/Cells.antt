@@ -9,7 +9,7 @@ use lib.ListN.{length, getD, length-append}
 use Rattle.io.specs.Digits.{glyph}
 use Rattle.words.specs.Tables.{rows}
 use Rattle.words.proofs.Tables.{rows-most}
-use Rattle.listing.specs.Text.{decimalIn, decimal, version, CHARACTER, VERSION, MASK, column, separator, cell}
+use Rattle.listing.specs.Text.{decimalIn, decimal, versionText, CHARACTER, VERSION, MASK, columnText, separator, cell}
 use Rattle.listing.proofs.Digits.{mask-length}
 
 choice : (t : Bool) (xs ys : List ℕ) {n : ℕ} → length xs ≤ n → length ys ≤ n → length (cond t xs ys) ≤ n
@@ -26,12 +26,12 @@ number-most : (n : ℕ) → length (decimal n) ≤ 20
 unfolding decimal
 number-most n = decimal-most 20 n
 
-version-most : (n : ℕ) → length (version n) ≤ 20
-unfolding version
+version-most : (n : ℕ) → length (versionText n) ≤ 20
+unfolding versionText
 version-most n = choice (eqb n 255) _ _ (omega arith) (number-most n)
 
-pub column-most : (form n : ℕ) → length (column form n) ≤ 20
-unfolding column
+pub column-most : (form n : ℕ) → length (columnText form n) ≤ 20
+unfolding columnText
 column-most form n =
     choice (eqb form CHARACTER) _ _ (omega arith) (choice (eqb form VERSION) _ _ (version-most n) (choice (eqb form MASK) _ _ (omega (arith, mask-length n)) (number-most n)))
 
@@ -39,7 +39,7 @@ pub cell-most : (forms fields : List ℕ) (i : ℕ) → length (cell forms field
 cell-most forms fields i =
     omega (
       arith,
-      length-append (column (getD forms i 0) (getD fields i 0)) (separator i (length fields) ∷ []),
+      length-append (columnText (getD forms i 0) (getD fields i 0)) (separator i (length fields) ∷ []),
       column-most (getD forms i 0) (getD fields i 0),
     )
 

@@ -24,8 +24,8 @@ unfoldable pub mask : ℕ → List ℕ
 mask n = digits 16 4 (n % 65536)
 
 -- a version; 255 is none, and shown as `-`
-unfoldable pub version : ℕ → List ℕ
-version n = cond (eqb n 255) (45 ∷ []) (decimal n)
+unfoldable pub versionText : ℕ → List ℕ
+versionText n = cond (eqb n 255) (45 ∷ []) (decimal n)
 
 -- ---- columns
 
@@ -43,8 +43,8 @@ abbrev pub MASK : ℕ
 MASK = 3
 
 -- a field as its column's form asks; any other form is a number
-unfoldable pub column : ℕ → ℕ → List ℕ
-column form n = cond (eqb form CHARACTER) (n % 256 ∷ []) (cond (eqb form VERSION) (version n) (cond (eqb form MASK) (mask n) (decimal n)))
+unfoldable pub columnText : ℕ → ℕ → List ℕ
+columnText form n = cond (eqb form CHARACTER) (n % 256 ∷ []) (cond (eqb form VERSION) (versionText n) (cond (eqb form MASK) (mask n) (decimal n)))
 
 -- ---- lines: a space after each column, a line feed after the last
 
@@ -52,7 +52,7 @@ abbrev pub separator : ℕ → ℕ → ℕ
 separator i n = cond (eqb (i + 1) n) 10 32
 
 abbrev pub cell : List ℕ → List ℕ → ℕ → List ℕ
-cell forms fields i = column (getD forms i 0) (getD fields i 0) ++ (separator i (length fields) ∷ [])
+cell forms fields i = columnText (getD forms i 0) (getD fields i 0) ++ (separator i (length fields) ∷ [])
 
 abbrev pub line : List ℕ → List ℕ → List ℕ
 line forms fields = rows (cell forms fields) (length fields)

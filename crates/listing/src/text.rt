@@ -5,7 +5,7 @@ ghost use mathlib.Core.List.{List, [], _∷_, _++_};
 ghost use Prim.Native.Nat.{_*_, _%_, _≤_};
 ghost use lib.ListN.{length};
 ghost use Rattle.io.specs.Counts.{Counts};
-ghost use Rattle.listing.specs.Text.{decimal, mask, version, column, line};
+ghost use Rattle.listing.specs.Text.{decimal, mask, versionText, columnText, line};
 ghost use Rattle.words.specs.Tables.{wrote};
 
 // The forms of a column.
@@ -52,8 +52,8 @@ fn put_character(out: &mut [u8], byte: u8) -> usize
 // A version; 255 is none.
 fn put_version(out: &mut [u8], n: u64) -> usize
     requires { ⌜ 20 ≤ length (now out) ⌝ }
-    ensures { λ r. ⌜ r ≡ length (version n) ⌝ }
-    ensures { λ _. ⌜ now (out .exit) ≡ wrote (now (out .entry)) (version n) ⌝ }
+    ensures { λ r. ⌜ r ≡ length (versionText n) ⌝ }
+    ensures { λ _. ⌜ now (out .exit) ≡ wrote (now (out .entry)) (versionText n) ⌝ }
 {
     if n == 255 {
         return put_character(out, b'-');
@@ -64,8 +64,8 @@ fn put_version(out: &mut [u8], n: u64) -> usize
 // A column, and how many bytes it has.
 fn put_column(out: &mut [u8], form: u8, n: u64) -> usize
     requires { ⌜ 20 ≤ length (now out) ⌝ }
-    ensures { λ r. ⌜ r ≡ length (column form n) ⌝ }
-    ensures { λ _. ⌜ now (out .exit) ≡ wrote (now (out .entry)) (column form n) ⌝ }
+    ensures { λ r. ⌜ r ≡ length (columnText form n) ⌝ }
+    ensures { λ _. ⌜ now (out .exit) ≡ wrote (now (out .entry)) (columnText form n) ⌝ }
 {
     match form {
         CHARACTER => put_character(out, (n % 256) as u8),
@@ -88,8 +88,8 @@ fn separator_after(last: bool) -> u8
 // A column and its separator.
 fn put_cell(out: &mut [u8], form: u8, n: u64, last: bool) -> usize
     requires { ⌜ 21 ≤ length (now out) ⌝ }
-    ensures { λ r. ⌜ r ≡ length (column form n ++ (cond last 10 32 ∷ [])) ⌝ }
-    ensures { λ _. ⌜ now (out .exit) ≡ wrote (now (out .entry)) (column form n ++ (cond last 10 32 ∷ [])) ⌝ }
+    ensures { λ r. ⌜ r ≡ length (columnText form n ++ (cond last 10 32 ∷ [])) ⌝ }
+    ensures { λ _. ⌜ now (out .exit) ≡ wrote (now (out .entry)) (columnText form n ++ (cond last 10 32 ∷ [])) ⌝ }
 {
     let at = put_column(out, form, n);
     out[at] = separator_after(last);

@@ -7,7 +7,8 @@ use Prim.Native.Nat.{ℕ, _/_, _%_, _<_}
 use native.Mathlib.Omega.{arith}
 use borrow.Author.Tests.{ltb-true}
 use lib.Dec.{ltb}
-use Rattle.labels.specs.Events.{initial, event, version, versionOf}
+use Rattle.labels.specs.Events.{event, version, versionOf}
+use Rattle.routine.specs.Arrays.{initial}
 use Rattle.passes.specs.Tables.{cellEvent}
 use Rattle.routine.specs.Layout.{arrays}
 use Rattle.routine.specs.Reader.{WellFormed}

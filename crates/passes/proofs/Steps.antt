@@ -11,7 +11,7 @@ use lib.Dec.{eqb, ltb, eqb·suc-zero}
 use lib.ListN.{length, getD}
 use lib.Pow.{pow-pos}
 use Rattle.routine.specs.Actions.{isReference}
-use Rattle.routine.specs.Layout.{arrays, vertices}
+use Rattle.routine.specs.Layout.{arrays, vertices, entry, exit}
 use Rattle.routine.specs.Reader.{WellFormed}
 use Rattle.routine.specs.declared.action.Access.the-variants.{Read, Define, Modify}
 use Rattle.routine.specs.declared.action.Action.{Action}
@@ -19,7 +19,8 @@ use Rattle.routine.specs.declared.action.Action.the-variants.{Nothing, Referenc
 use Rattle.sets.specs.Sets.{has}
 use Rattle.words.specs.Tables.{table, withRow}
 use Rattle.labels.specs.Ambiguity.{arriveGives, arrivePasses, arrivingSets}
-use Rattle.labels.specs.Events.{everyVersion, entry, exit, kind, initial, isInOrInout, event, isLabel, versionOf, version, isWrite}
+use Rattle.labels.specs.Events.{everyVersion, event, isLabel, versionOf, version, isWrite}
+use Rattle.routine.specs.Arrays.{kind, initial, isInOrInout}
 use Rattle.labels.specs.Kept.{isNOrR, passesKept, leavingSet, keptSets, keptOf}
 use Rattle.labels.specs.Letters.{letterByte, useOfByte}
 use Rattle.labels.specs.Reaching.{reachedSets, isReached, reachGives, reachPasses, reachSets, reachingOf}
@@ -28,7 +29,7 @@ use Rattle.labels.specs.Uses.{useGives, usePasses, passesBy, useSets, letterOf,
 use Rattle.labels.specs.declared.Use.{Use}
 use Rattle.labels.proofs.Rules.Versions.{all-but}
 use Rattle.passes.proofs.Cells.{in-eight, cells-table, cells-row, cells-solved}
-use Rattle.passes.proofs.Letters.{letter-use}
+use Rattle.labels.proofs.Letters.{letter-use}
 
 -- ---- use
 

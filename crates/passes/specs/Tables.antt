@@ -12,6 +12,7 @@ use Rattle.routine.specs.declared.action.Action.{Action}
 use Rattle.routine.specs.declared.action.Action.the-variants.{Nothing}
 use Rattle.sets.specs.Sets.{has}
 use Rattle.labels.specs.Events.{edgeBytes, event, versionSet}
+use Rattle.labels.specs.Kept.{keptOf}
 use Rattle.labels.specs.Letters.{letterByte}
 use Rattle.labels.specs.Reaching.{reachedSets}
 use Rattle.labels.specs.Uses.{useGives, useOf}
@@ -47,6 +48,11 @@ Reached file s = Cells file (λ a v. getD (reachedSets file) v 0) s
 -- the letters
 abbrev pub Letters : List ℕ → List ℕ → Type 0
 Letters file s = Cells file (λ a v. letterByte (useOf file a v)) s
+
+-- letters and kept sets: what a run reads of the plan
+pub record LettersAndKept (file letters kept : List ℕ) : Type 0 where
+  pub letters-are : Letters file letters
+  pub kept-are : Cells file (keptOf file) kept
 
 -- ---- a pass: each column is solved by itself
 pub record Pass (file : List ℕ) (along : Bool) (gives passes sets : List ℕ) : Type 0 where

@@ -1,5 +1,4 @@
 // The events of a routine as tables of sets: what a label's version is, and what an event gives to the sets of use.
-use crate::uses;
 use labels::event;
 use routine::action::Action;
 use routine::array;
@@ -37,7 +36,7 @@ pub fn tabulate(file: &[u8], h: Header, versions: &mut [u16], uses: &mut [u16])
     while i < n {
         let x = cell(file, h, i);
         versions[i] = event::version_set(x);
-        uses[i] = uses::gives_of(x);
+        uses[i] = event::gives_of(x);
         i += 1;
     }
 }

@@ -1,6 +1,6 @@
 // Kept sets (document 01, "Labels").
-use crate::uses;
 use labels::event;
+use labels::letter;
 ghost use mathlib.Core.Path.{_≡_};
 ghost use mathlib.Core.Bool.{cond, not, _||_};
 ghost use lib.Bits.{bitOr};
@@ -11,13 +11,6 @@ ghost use Rattle.labels.specs.Kept.{isNOrR};
 ghost use Rattle.labels.specs.Letters.{useOfByte};
 ghost use Rattle.labels.specs.Uses.{isN};
 ghost use Rattle.words.specs.Tables.{table};
-
-// N or R: the kept set goes on to the next label.
-fn goes_on(letter: u8) -> bool
-    ensures { λ r. ⌜ r ≡ isNOrR (useOfByte letter) ⌝ }
-{
-    (letter == b'N') | (letter == b'R')
-}
 
 // The tables of the pass: a kept label gives its version; no label, or one that is N or R, passes every version.
 pub fn fill(versions: &[u16], letters: &[u8], gives: &mut [u16], passes: &mut [u16])
@@ -35,8 +28,8 @@ pub fn fill(versions: &[u16], letters: &[u8], gives: &mut [u16], passes: &mut [u
     while i < n {
         let version = versions[i];
         let letter = letters[i];
-        gives[i] = event::set_if(uses::leaves(letter), version);
-        passes[i] = event::every_if((version == 0) | goes_on(letter));
+        gives[i] = event::set_if(letter::leaves(letter), version);
+        passes[i] = event::every_if((version == 0) | letter::goes_on(letter));
         i += 1;
     }
 }
@@ -52,7 +45,7 @@ pub fn join(letters: &[u8], leaving: &[u16], sets: &mut [u16])
     let n = sets.len();
     let mut i = 0;
     while i < n {
-        sets[i] = leaving[i] | event::set_if(goes_on(letters[i]), sets[i]);
+        sets[i] = leaving[i] | event::set_if(letter::goes_on(letters[i]), sets[i]);
         i += 1;
     }
 }

@@ -3,7 +3,7 @@ use routine::header::Header;
 ghost use mathlib.Core.Path.{_≡_};
 ghost use Prim.Native.Nat.{_*_};
 ghost use lib.ListN.{length};
-ghost use Rattle.labels.specs.Routines.{ReadAs, Edges};
+ghost use Rattle.labels.specs.Routines.{ReadAs, EdgeOrder};
 ghost use Rattle.passes.specs.Tables.{Pass};
 ghost use Rattle.routine.specs.Layout.{vertices, edges};
 
@@ -11,7 +11,7 @@ ghost use Rattle.routine.specs.Layout.{vertices, edges};
 pub fn order(file: &[u8], h: Header, order: &mut [u16])
     requires { ⌜ ReadAs (now file) h ⌝ }
     requires { ⌜ length (now order) ≡ edges (now file) ⌝ }
-    ensures { λ _. ⌜ Edges (now (file .entry)) (now (order .exit)) ⌝ }
+    ensures { λ _. ⌜ EdgeOrder (now (file .entry)) (now (order .exit)) ⌝ }
 {
     let at = h.edges_at();
     order::fill(&file[at..], order);
@@ -28,7 +28,7 @@ pub fn solve(
     sets: &mut [u16],
 )
     requires { ⌜ ReadAs (now file) h ⌝ }
-    requires { ⌜ Edges (now file) (now order) ⌝ }
+    requires { ⌜ EdgeOrder (now file) (now order) ⌝ }
     requires { ⌜ length (now gives) ≡ 8 * vertices (now file) ⌝ }
     requires { ⌜ length (now passes) ≡ 8 * vertices (now file) ⌝ }
     requires { ⌜ length (now sets) ≡ 8 * vertices (now file) ⌝ }

@@ -1,6 +1,6 @@
 // Reaching sets (document 01, "Labels"), and which vertices a path from the entry reaches.
-use crate::uses;
 use labels::event;
+use labels::letter;
 use routine::array;
 use routine::header::Header;
 ghost use mathlib.Core.Path.{_≡_};
@@ -8,13 +8,14 @@ ghost use mathlib.Core.Bool.{cond, not, _||_};
 ghost use Prim.Native.Nat.{_*_, _≤_, _<_, _^_};
 ghost use lib.Dec.{eqb, ltb};
 ghost use lib.ListN.{length, getD};
-ghost use Rattle.labels.specs.Events.{entry, everyVersion, kind, initial, isInOrInout};
+ghost use Rattle.labels.specs.Events.{everyVersion};
+ghost use Rattle.routine.specs.Arrays.{kind, initial, isInOrInout};
 ghost use Rattle.labels.specs.Letters.{useOfByte};
 ghost use Rattle.labels.specs.Reaching.{reachingOf};
 ghost use Rattle.labels.specs.Routines.{ReadAs};
 ghost use Rattle.passes.specs.Tables.{reachedCell};
 ghost use Rattle.labels.specs.Uses.{isN};
-ghost use Rattle.routine.specs.Layout.{arrays};
+ghost use Rattle.routine.specs.Layout.{arrays, entry};
 ghost use Rattle.words.specs.Tables.{table, withRow};
 
 // The tables of the pass that finds the vertices which a path from the entry reaches.
@@ -61,7 +62,7 @@ pub fn fill(
     let n = versions.len();
     let mut i = 0;
     while i < n {
-        let kept = event::set_if(uses::leaves(letters[i]), versions[i]);
+        let kept = event::set_if(letter::leaves(letters[i]), versions[i]);
         gives[i] = event::set_if(is_reached(i, reached[i]), kept);
         passes[i] = event::every_if(kept == 0);
         i += 1;
@@ -82,7 +83,7 @@ pub fn enter_gives(file: &[u8], h: Header, letters: &[u8], gives: &mut [u16])
     let mut a = 0;
     while a < m {
         let r = array::record_of(file, a);
-        let given = uses::leaves(letters[a]) | event::is_in_or_inout(r);
+        let given = letter::leaves(letters[a]) | r.is_in_or_inout();
         gives[a] = event::set_if(given, sets::single(r.initial));
         a += 1;
     }
@@ -95,7 +96,7 @@ fn at_entry(file: &[u8], h: Header, a: usize) -> u16
     ensures { λ r. ⌜ r ≡ reachingOf (now (file .entry)) a entry ⌝ }
 {
     let r = array::record_of(file, a);
-    event::set_if(event::is_in_or_inout(r), sets::single(r.initial))
+    event::set_if(r.is_in_or_inout(), sets::single(r.initial))
 }
 
 // The entry's row of the reaching sets.

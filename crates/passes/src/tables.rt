@@ -11,7 +11,7 @@ ghost use lib.ListN.{length, getD};
 ghost use Rattle.labels.specs.Ambiguity.{arrivingSets};
 ghost use Rattle.labels.specs.Kept.{keptOf};
 ghost use Rattle.labels.specs.Reaching.{reachingOf};
-ghost use Rattle.labels.specs.Routines.{ReadAs, Edges};
+ghost use Rattle.labels.specs.Routines.{ReadAs, EdgeOrder};
 ghost use Rattle.passes.specs.Tables.{Cells, Versions, UseGives, Reached, Letters};
 ghost use Rattle.routine.specs.Layout.{vertices};
 
@@ -25,7 +25,7 @@ pub fn reached(
     passes: &mut [u16],
 )
     requires { ⌜ ReadAs (now file) h ⌝ }
-    requires { ⌜ Edges (now file) (now order) ⌝ }
+    requires { ⌜ EdgeOrder (now file) (now order) ⌝ }
     requires { ⌜ length (now sets) ≡ 8 * vertices (now file) ⌝ }
     requires { ⌜ length (now gives) ≡ 8 * vertices (now file) ⌝ }
     requires { ⌜ length (now passes) ≡ 8 * vertices (now file) ⌝ }
@@ -47,7 +47,7 @@ pub fn arriving(
     passes: &mut [u16],
 )
     requires { ⌜ ReadAs (now file) h ⌝ }
-    requires { ⌜ Edges (now file) (now order) ⌝ }
+    requires { ⌜ EdgeOrder (now file) (now order) ⌝ }
     requires { ⌜ Versions (now file) (now versions) ⌝ }
     requires { ⌜ Reached (now file) (now reached) ⌝ }
     requires { ⌜ length (now sets) ≡ 8 * vertices (now file) ⌝ }
@@ -70,7 +70,7 @@ pub fn letters(
     passes: &mut [u16],
 )
     requires { ⌜ ReadAs (now file) h ⌝ }
-    requires { ⌜ Edges (now file) (now order) ⌝ }
+    requires { ⌜ EdgeOrder (now file) (now order) ⌝ }
     requires { ⌜ UseGives (now file) (now uses) ⌝ }
     requires { ⌜ length (now letters) ≡ 8 * vertices (now file) ⌝ }
     requires { ⌜ length (now sets) ≡ 8 * vertices (now file) ⌝ }
@@ -96,7 +96,7 @@ pub fn reaching(
     passes: &mut [u16],
 )
     requires { ⌜ ReadAs (now file) h ⌝ }
-    requires { ⌜ Edges (now file) (now order) ⌝ }
+    requires { ⌜ EdgeOrder (now file) (now order) ⌝ }
     requires { ⌜ Versions (now file) (now versions) ⌝ }
     requires { ⌜ Reached (now file) (now reached) ⌝ }
     requires { ⌜ Letters (now file) (now letters) ⌝ }
@@ -123,7 +123,7 @@ pub fn kept(
     passes: &mut [u16],
 )
     requires { ⌜ ReadAs (now file) h ⌝ }
-    requires { ⌜ Edges (now file) (now order) ⌝ }
+    requires { ⌜ EdgeOrder (now file) (now order) ⌝ }
     requires { ⌜ Versions (now file) (now versions) ⌝ }
     requires { ⌜ Letters (now file) (now letters) ⌝ }
     requires { ⌜ length (now sets) ≡ 8 * vertices (now file) ⌝ }

@@ -18,26 +18,26 @@ use Rattle.routine.specs.declared.edge.Edge.{Edge}
 use Rattle.routine.proofs.WellFormed.{edge-limits}
 use Rattle.sets.specs.Sets.{has}
 use Rattle.sets.proofs.Laws.{has-or, has-single, has-zero}
-use Rattle.path.specs.EdgeTable.{wordAt, marked, edgeTable, isMarked, arrivalBy}
+use Rattle.path.specs.EdgeTable.{wordAt, withEdge, edgeTable, hasEdge, arrivalBy}
 use Rattle.words.proofs.Cases.{by-test}
 use Rattle.path.specs.Paths.{vertexAt, edgeAmong, isEdge, arrivalCheck}
 
-pub marked-length : (table : List ℕ) (e : Edge) → length (marked table e) ≡ length table
-unfolding marked
-marked-length table e = length-set table _ _
+pub with-edge-length : (table : List ℕ) (e : Edge) → length (withEdge table e) ≡ length table
+unfolding withEdge
+with-edge-length table e = length-set table _ _
 
-pub table-length : (file : List ℕ) (n : ℕ) → length (edgeTable file n) ≡ 4096
+pub edge-table-length : (file : List ℕ) (n : ℕ) → length (edgeTable file n) ≡ 4096
 unfolding edgeTable
-table-length file zero = length-replicate {A = ℕ} 4096 0
-table-length file (suc n) = marked-length (edgeTable file n) (edgeOf file n) ∙ table-length file n
+edge-table-length file zero = length-replicate {A = ℕ} 4096 0
+edge-table-length file (suc n) = with-edge-length (edgeTable file n) (edgeOf file n) ∙ edge-table-length file n
 
-pub table-none : (file : List ℕ) → replicate 4096 0 ≡ edgeTable file 0
+pub edge-table-none : (file : List ℕ) → replicate 4096 0 ≡ edgeTable file 0
 unfolding edgeTable
-table-none file = refl
+edge-table-none file = refl
 
-pub table-more : (file : List ℕ) (n : ℕ) → marked (edgeTable file n) (edgeOf file n) ≡ edgeTable file (n + 1)
+pub edge-table-more : (file : List ℕ) (n : ℕ) → withEdge (edgeTable file n) (edgeOf file n) ≡ edgeTable file (n + 1)
 unfolding edgeTable
-table-more file n = ap (edgeTable file) (sym (add-one n))
+edge-table-more file n = ap (edgeTable file) (sym (add-one n))
 
 -- ---- one edge more
 
@@ -69,8 +69,8 @@ module _ (e : Edge) (v w : ℕ) (from-small : e .from < 256) (to-small : e .to <
       (λ f. rw f)
 
   one-more-edge : (table : List ℕ) → length table ≡ 4096
-      → has (getD (marked table e) (wordAt v w) 0) (w % 16) ≡ (has (getD table (wordAt v w) 0) (w % 16) || is)
-  unfolding marked
+      → has (getD (withEdge table e) (wordAt v w) 0) (w % 16) ≡ (has (getD table (wordAt v w) 0) (w % 16) || is)
+  unfolding withEdge
   one-more-edge table long =
       let at = wordAt (e .from) (e .to) in
       let new = bitOr (getD table at 0) (2 ^ (e .to % 16)) in
@@ -100,7 +100,7 @@ module _ {file : List ℕ} (well : WellFormed file) where
   inside v w hv hw zero h = ap (λ (x : ℕ). has x (w % 16)) (getD-replicate 4096 (wordAt v w) 0 0 (omega arith)) ∙ has-zero (w % 16)
   inside v w hv hw (suc n) h =
       let small = edge-small n (omega arith) in
-      one-more-edge (edgeOf file n) v w (small .0) (small .1) hv hw (edgeTable file n) (table-length file n)
+      one-more-edge (edgeOf file n) v w (small .0) (small .1) hv hw (edgeTable file n) (edge-table-length file n)
       ∙ ap (λ (b : Bool). b || (eqb (edgeOf file n .from) v && eqb (edgeOf file n .to) w)) (inside v w hv hw n (omega arith))
 
   outside-from : (v w : ℕ) → 256 ≤ v → (n : ℕ) → n ≤ edges file → edgeAmong file v w n ≡ false
@@ -115,9 +115,9 @@ module _ {file : List ℕ} (well : WellFormed file) where
   outside-to v w hw (suc n) h =
       rw (outside-to v w hw n (omega arith), ne-eqb (edgeOf file n .to) w (λ e. omega (arith, edge-small n (omega arith))), and-false)
 
-  marks-are : (v w : ℕ) → isMarked (edgeTable file (edges file)) v w ≡ isEdge file v w
+  edges-are : (v w : ℕ) → hasEdge (edgeTable file (edges file)) v w ≡ isEdge file v w
   unfolding isEdge
-  marks-are v w =
+  edges-are v w =
       by-test (ltb v 256)
       (λ e. by-test (ltb w 256)
       (λ f. rw (e, f) (inside v w (ltb-true v 256 e) (ltb-true w 256 f) (edges file) (omega arith)))
@@ -126,4 +126,4 @@ module _ {file : List ℕ} (well : WellFormed file) where
 
   pub arrivals-are : (path : List ℕ) (i : ℕ) → arrivalBy (edgeTable file (edges file)) path i ≡ arrivalCheck file path i
   unfolding arrivalBy arrivalCheck
-  arrivals-are path i = rw (marks-are (vertexAt path (i - 1)) (vertexAt path i))
+  arrivals-are path i = rw (edges-are (vertexAt path (i - 1)) (vertexAt path i))

@@ -8,10 +8,10 @@ use native.Mathlib.Omega.{arith}
 use borrow.Author.Tests.{eqb-true}
 use lib.Dec.{eqb}
 use Rattle.flow.specs.Paths.{Edge}
-use Rattle.labels.specs.Events.{edgeBytes, entry}
+use Rattle.labels.specs.Events.{edgeBytes}
 use Rattle.labels.proofs.Rules.Proper.{edge-count, edge-from, edge-to}
 use Rattle.routine.specs.Edges.{edgeOf}
-use Rattle.routine.specs.Layout.{vertices, edges, within}
+use Rattle.routine.specs.Layout.{vertices, edges, within, entry}
 use Rattle.routine.specs.Reader.{WellFormed}
 use Rattle.refusal.specs.declared.Verdict.the-variants.{Passed}
 use Rattle.routine.proofs.Laws.{holds-true, allowed, and-parts, within-limits, scan-passed}

@@ -18,19 +18,19 @@ use Rattle.path.specs.Paths.{vertexAt}
 abbrev pub wordAt : ℕ → ℕ → ℕ
 wordAt v w = 16 * v + w / 16
 
-unfoldable pub marked : List ℕ → Edge → List ℕ
-marked table e = set table (wordAt (e .from) (e .to)) (bitOr (getD table (wordAt (e .from) (e .to)) 0) (2 ^ (e .to % 16)))
+unfoldable pub withEdge : List ℕ → Edge → List ℕ
+withEdge table e = set table (wordAt (e .from) (e .to)) (bitOr (getD table (wordAt (e .from) (e .to)) 0) (2 ^ (e .to % 16)))
 
 -- the first n edges
 unfoldable pub edgeTable : List ℕ → ℕ → List ℕ
-unfolding marked
+unfolding withEdge
 edgeTable file zero = replicate 4096 0
-edgeTable file (suc n) = marked (edgeTable file n) (edgeOf file n)
+edgeTable file (suc n) = withEdge (edgeTable file n) (edgeOf file n)
 
 -- whether the table has an edge from v to w
-abbrev pub isMarked : List ℕ → ℕ → ℕ → Bool
-isMarked table v w = ltb v 256 && (ltb w 256 && has (getD table (wordAt v w) 0) (w % 16))
+abbrev pub hasEdge : List ℕ → ℕ → ℕ → Bool
+hasEdge table v w = ltb v 256 && (ltb w 256 && has (getD table (wordAt v w) 0) (w % 16))
 
 -- 32 at one index, by the table
 unfoldable pub arrivalBy : List ℕ → List ℕ → ℕ → Verdict
-arrivalBy table path i = holds (isMarked table (vertexAt path (i - 1)) (vertexAt path i)) (NoSuchEdge i)
+arrivalBy table path i = holds (hasEdge table (vertexAt path (i - 1)) (vertexAt path i)) (NoSuchEdge i)

@@ -5,10 +5,9 @@ use mathlib.Core.List.{List}
 use Prim.Native.Nat.{ℕ, zero, suc, _-_, _*_, _/_}
 use lib.Dec.{eqb}
 use lib.ListN.{length}
-use Rattle.labels.specs.Events.{entry}
 use Rattle.refusal.specs.Checks.{_andThen_, holds, firstFailed}
 use Rattle.routine.specs.Edges.{edgeOf}
-use Rattle.routine.specs.Layout.{edges, within}
+use Rattle.routine.specs.Layout.{edges, within, entry}
 use Rattle.refusal.specs.declared.Refusal.the-variants.{PathLengthOutsideLimits, WrongStart, NoSuchEdge}
 use Rattle.refusal.specs.declared.Verdict.{Verdict}
 use Rattle.words.specs.Words.{word}

@@ -10,7 +10,7 @@ ghost use lib.ListN.{length, replicate};
 ghost use Rattle.labels.specs.Routines.{ReadAs};
 ghost use Rattle.routine.specs.Layout.{edges};
 ghost use Rattle.routine.specs.Reader.{WellFormed};
-ghost use Rattle.path.specs.EdgeTable.{marked, edgeTable, isMarked, arrivalBy};
+ghost use Rattle.path.specs.EdgeTable.{withEdge, edgeTable, hasEdge, arrivalBy};
 ghost use Rattle.path.specs.Paths.{steps, vertexAt, check30, check31, check32, pathCheck};
 
 // The longest path.
@@ -34,18 +34,18 @@ pub fn vertex(path: &[u8], i: usize) -> usize
 // Words of the table of edges.
 const WORDS: usize = 4096;
 
-// Marks an edge in the table.
-fn mark(table: &mut [u16], e: Edge)
+// Puts an edge into the table.
+fn put_edge(table: &mut [u16], e: Edge)
     requires { ⌜ length (now table) ≡ 4096 ⌝ }
     requires { ⌜ (e .from < 256) × (e .to < 256) ⌝ }
-    ensures { λ _. ⌜ now (table .exit) ≡ marked (now (table .entry)) e ⌝ }
+    ensures { λ _. ⌜ now (table .exit) ≡ withEdge (now (table .entry)) e ⌝ }
 {
     let at = 16 * e.from + e.to / 16;
     table[at] = table[at] | sets::single((e.to % 16) as u8);
 }
 
-// Marks every edge in an empty table.
-fn mark_all(file: &[u8], h: Header, table: &mut [u16])
+// Puts every edge into an empty table.
+fn put_edges(file: &[u8], h: Header, table: &mut [u16])
     requires { ⌜ ReadAs (now file) h ⌝ }
     requires { ⌜ now table ≡ replicate 4096 0 ⌝ }
     ensures { λ _. ⌜ now (table .exit) ≡ edgeTable (now (file .entry)) (edges (now (file .entry))) ⌝ }
@@ -53,15 +53,15 @@ fn mark_all(file: &[u8], h: Header, table: &mut [u16])
     let n = h.edges;
     let mut i = 0;
     while i < n {
-        mark(table, edge::at(file, h, i));
+        put_edge(table, edge::at(file, h, i));
         i += 1;
     }
 }
 
 // Whether the table has an edge from v to w.
-fn is_marked(table: &[u16], v: usize, w: usize) -> bool
+fn has_edge(table: &[u16], v: usize, w: usize) -> bool
     requires { ⌜ length (now table) ≡ 4096 ⌝ }
-    ensures { λ r. ⌜ r ≡ isMarked (now (table .entry)) v w ⌝ }
+    ensures { λ r. ⌜ r ≡ hasEdge (now (table .entry)) v w ⌝ }
 {
     if v >= 256 {
         return false;
@@ -106,7 +106,7 @@ fn check_arrival(table: &[u16], path: &[u8], i: usize) -> Verdict
     ensures { λ r. ⌜ r ≡ arrivalBy (now (table .entry)) (now (path .entry)) (i + 1) ⌝ }
 {
     let next = i + 1;
-    let joined = is_marked(table, vertex(path, i), vertex(path, next));
+    let joined = has_edge(table, vertex(path, i), vertex(path, next));
     if !joined {
         return Verdict::Failed(Refusal::NoSuchEdge { index: next });
     }
@@ -139,7 +139,7 @@ fn check_arrivals(file: &[u8], h: Header, path: &[u8]) -> Verdict
     ensures { λ r. ⌜ r ≡ check32 (now (file .entry)) (now (path .entry)) ⌝ }
 {
     let mut table = [0u16; WORDS];
-    mark_all(file, h, &mut table);
+    put_edges(file, h, &mut table);
     check_arrivals_by(file, &table, path)
 }
 

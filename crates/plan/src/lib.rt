@@ -1,6 +1,4 @@
 // The call that plans a routine (document 01).
-use passes::events;
-use passes::pass;
 use passes::tables;
 use planbytes::contents;
 use planbytes::writer;
@@ -13,43 +11,11 @@ use routine::reader::Answer;
 ghost use mathlib.Core.Path.{_≡_};
 ghost use Prim.Native.Nat.{_*_, _≤_};
 ghost use lib.ListN.{length};
-ghost use Rattle.checks.specs.Rows.{Checked};
-ghost use Rattle.labels.specs.Routines.{ReadAs, Edges};
+ghost use Rattle.labels.specs.Routines.{ReadAs, EdgeOrder};
 ghost use Rattle.passes.specs.Tables.{Versions, UseGives, Reached};
 ghost use Rattle.plan.specs.Calls.{PlannedRead, Planned};
 ghost use Rattle.planbytes.specs.Tables.{Tabled};
 ghost use Rattle.routine.specs.Layout.{vertices, edges};
-
-// The order of the edges, the tables of events, then refusals 20 and 21. `reached` is left with the table of reached vertices;
-// `sets`, `gives` and `passes` are work slices.
-fn prepare(
-    file: &[u8],
-    h: Header,
-    order: &mut [u16],
-    versions: &mut [u16],
-    uses: &mut [u16],
-    reached: &mut [u16],
-    sets: &mut [u16],
-    gives: &mut [u16],
-    passes: &mut [u16],
-) -> Verdict
-    requires { ⌜ ReadAs (now file) h ⌝ }
-    requires { ⌜ length (now order) ≡ edges (now file) ⌝ }
-    requires { ⌜ length (now versions) ≡ 8 * vertices (now file) ⌝ }
-    requires { ⌜ length (now uses) ≡ 8 * vertices (now file) ⌝ }
-    requires { ⌜ length (now reached) ≡ 8 * vertices (now file) ⌝ }
-    requires { ⌜ length (now sets) ≡ 8 * vertices (now file) ⌝ }
-    requires { ⌜ length (now gives) ≡ 8 * vertices (now file) ⌝ }
-    requires { ⌜ length (now passes) ≡ 8 * vertices (now file) ⌝ }
-    ensures { λ _. ⌜ Edges (now (file .entry)) (now (order .exit)) ⌝ }
-    ensures { λ _. ⌜ Versions (now (file .entry)) (now (versions .exit)) ⌝ }
-    ensures { λ _. ⌜ UseGives (now (file .entry)) (now (uses .exit)) ⌝ }
-    ensures { λ r. ⌜ Checked (now (file .entry)) r (now (reached .exit)) ⌝ }
-{
-    pass::order(file, h, order);
-    events::tabulate(file, h, versions, uses);
-    checks::check(file, h, order, versions, uses, reached, sets, gives, passes)
-}
 
 // The tables of letters, reaching sets and kept sets. `kept` is handed the table of reached vertices; `uses`, once the letters are
 // known, and `passes` are work slices.
@@ -65,7 +31,7 @@ fn tabulate(
     passes: &mut [u16],
 )
     requires { ⌜ ReadAs (now file) h ⌝ }
-    requires { ⌜ Edges (now file) (now order) ⌝ }
+    requires { ⌜ EdgeOrder (now file) (now order) ⌝ }
     requires { ⌜ Versions (now file) (now versions) ⌝ }
     requires { ⌜ UseGives (now file) (now uses) ⌝ }
     requires { ⌜ length (now letters) ≡ 8 * vertices (now file) ⌝ }
@@ -114,7 +80,7 @@ fn plan_with(
     requires { ⌜ length (now passes) ≡ 8 * vertices (now file) ⌝ }
     ensures { λ r. ⌜ PlannedRead (now (file .entry)) (now (out .entry)) r (now (out .exit)) ⌝ }
 {
-    let checked = prepare(
+    let checked = checks::prepare(
         file,
         h,
         order,

@@ -21,7 +21,7 @@ use Rattle.sets.specs.Sets.{has}
 use Rattle.sets.proofs.Laws.{has-single}
 use Rattle.words.specs.Tables.{wrote}
 use Rattle.passes.proofs.Cells.{few-cells, in-table}
-use Rattle.passes.proofs.Letters.{letter-use}
+use Rattle.labels.proofs.Letters.{letter-use}
 
 -- ---- an entry's bytes
 
@@ -112,9 +112,9 @@ module _ {h : Header} {file : List ℕ} (is : ReadAs file h) {a v : ℕ} (in-a :
     within = record {
       few = few-cells is in-a in-v;
       in-versions = in-table is in-a in-v versions (t .versions-are .size);
-      in-letters = in-table is in-a in-v letters (t .letters-are .size);
+      in-letters = in-table is in-a in-v letters (t .letters-and-kept .letters-are .size);
       in-reaching = in-table is in-a in-v reaching (t .reaching-are .size);
-      in-kept = in-table is in-a in-v kept (t .kept-are .size);
+      in-kept = in-table is in-a in-v kept (t .letters-and-kept .kept-are .size);
     }
 
     -- the label made of the entries is the one that the plan has
@@ -123,5 +123,5 @@ module _ {h : Header} {file : List ℕ} (is : ReadAs file h) {a v : ℕ} (in-a :
         → new ≡ wrote old (labelBytes file v a)
     unfolding labelBytes
     made old l f g =
-        let letter = t .letters-are .cells a v in-a in-v in
-        g ∙ rw (leaving-is file a v l (t .versions-are .cells a v in-a in-v) letter f, letter, t .reaching-are .cells a v in-a in-v, t .kept-are .cells a v in-a in-v)
+        let letter = t .letters-and-kept .letters-are .cells a v in-a in-v in
+        g ∙ rw (leaving-is file a v l (t .versions-are .cells a v in-a in-v) letter f, letter, t .reaching-are .cells a v in-a in-v, t .letters-and-kept .kept-are .cells a v in-a in-v)

@@ -5,20 +5,19 @@ use mathlib.Core.Bool.{true, false}
 use mathlib.Core.List.{List}
 use Prim.Native.Nat.{ℕ, _*_, _≤_}
 use lib.ListN.{length, getD}
-use Rattle.labels.specs.Kept.{keptOf}
 use Rattle.labels.specs.Letters.{useOfByte}
 use Rattle.labels.specs.Reaching.{reachingOf}
-use Rattle.passes.specs.Tables.{Cells, Versions, Letters}
+use Rattle.passes.specs.Tables.{Cells, Versions, LettersAndKept}
 use Rattle.labels.specs.Uses.{isN}
 use Rattle.planbytes.specs.Plan.{labelsBefore}
 use Rattle.routine.specs.Layout.{vertices}
 use Rattle.sets.specs.Sets.{has}
 
+-- versions, letters, reaching sets and kept sets: what the plan is written from
 pub record Tabled (file versions letters reaching kept : List ℕ) : Type 0 where
   pub versions-are : Versions file versions
-  pub letters-are : Letters file letters
   pub reaching-are : Cells file (reachingOf file) reaching
-  pub kept-are : Cells file (keptOf file) kept
+  pub letters-and-kept : LettersAndKept file letters kept
 
 -- the index of each vertex's first label, and behind the last vertex how many there are
 pub record Firsts (file firsts : List ℕ) : Type 0 where

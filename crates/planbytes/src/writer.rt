@@ -2,6 +2,7 @@
 use crate::contents;
 use crate::label;
 use crate::label::Label;
+use labels::letter;
 use routine::header::Header;
 ghost use mathlib.Core.Path.{_≡_};
 ghost use mathlib.Core.Bool.{true};
@@ -35,7 +36,8 @@ fn leaving(version: u16, letter: u8) -> u8
     requires { ⌜ 0 < version ⌝ }
     ensures { λ r. ⌜ Leaving version letter r ⌝ }
 {
-    if letter == b'N' {
+    let leaves = letter::leaves(letter);
+    if !leaves {
         return 255;
     }
     sets::one_of(version)

@@ -4,14 +4,18 @@ use mathlib.Core.Path.{_≡_}
 use mathlib.Core.List.{List}
 use Prim.Native.Nat.{ℕ}
 use lib.ListN.{length}
+use Rattle.labels.specs.Demand.{Demand2}
 use Rattle.plan.specs.Calls.{planOf, planOutcome, planInto}
 use Rattle.refusal.specs.declared.Outcome.{Outcome}
+use Rattle.refusal.specs.declared.Verdict.the-variants.{Passed}
+use Rattle.routine.specs.Reader.{readCheck}
 use Rattle.run.specs.Calls.{runOf, runOutcome, runInto, DemandMet}
 
 -- what hpf_plan answers and leaves
 pub record PlannedC (file before : List ℕ) (outcome : Outcome) (after : List ℕ) : Type 0 where
   pub answer : outcome ≡ planOutcome file (length before)
   pub buffer : after ≡ planInto (planOf file (length before)) file before
+  pub demand : readCheck file ≡ Passed → Demand2 file
 
 -- what hpf_run answers and leaves
 pub record RanC (file path before : List ℕ) (outcome : Outcome) (after : List ℕ) : Type 0 where

@@ -12,7 +12,7 @@ use Rattle.refusal.specs.declared.Refusal.the-variants.{WrongActionByte}
 use Rattle.refusal.specs.declared.Verdict.{Verdict}
 use Rattle.routine.specs.Arrays.{arrayOf}
 use Rattle.refusal.specs.Checks.{_andThen_, holds, firstFailed}
-use Rattle.routine.specs.Layout.{arrays, vertices, actionAt}
+use Rattle.routine.specs.Layout.{arrays, vertices, entry, exit, actionAt}
 
 -- 00 nothing, 10 read, 20 define, 30 modify, 40+k remap to version k, k below 16; every other byte is unknown
 unfoldable pub actionOf : ℕ → Action
@@ -60,9 +60,9 @@ remapsBelow (Reference r) n = true
 remapsBelow (Remap k) n = ltb k n
 remapsBelow Unknown n = true
 
--- vertex 0 is the entry, the last is the exit
+-- the rows of entry and exit are all 00
 abbrev pub isEntryOrExit : List ℕ → ℕ → Bool
-isEntryOrExit file v = eqb v 0 || eqb v (vertices file - 1)
+isEntryOrExit file v = eqb v entry || eqb v (exit file)
 
 -- a vertex has references or remappings, never both
 abbrev pub mixes : Action → Action → Bool

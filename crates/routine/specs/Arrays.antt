@@ -1,5 +1,6 @@
 -- Document 01, "Routine file": arrays, four bytes each.
 -- Assumes nothing.
+use mathlib.Core.Bool.{Bool, not, _||_}
 use mathlib.Core.List.{List}
 use Prim.Native.Nat.{ℕ, _+_}
 use lib.Dec.{eqb, leb, ltb}
@@ -17,6 +18,28 @@ arrayRecordOf b = record { kind = getD b 0 0; versions = getD b 1 0; initial = g
 -- array a, from four bytes
 unfoldable pub arrayOf : List ℕ → ℕ → ArrayRecord
 arrayOf file a = arrayRecordOf (take 4 (drop (recordAt a) file))
+
+abbrev pub kind : List ℕ → ℕ → ℕ
+kind file a = arrayOf file a .kind
+
+abbrev pub initial : List ℕ → ℕ → ℕ
+initial file a = arrayOf file a .initial
+
+-- ---- kinds: 0 local, 1 in, 2 out, 3 inout; the last three are arguments
+
+abbrev pub isArgument : ℕ → Bool
+isArgument kind = not (eqb kind 0)
+
+abbrev pub isIn : ℕ → Bool
+isIn kind = eqb kind 1
+
+abbrev pub isInOrInout : ℕ → Bool
+isInOrInout kind = eqb kind 1 || eqb kind 3
+
+abbrev pub isOutOrInout : ℕ → Bool
+isOutOrInout kind = eqb kind 2 || eqb kind 3
+
+-- ---- check 14
 
 -- kind 0 to 3, versions 1 to 16, initial version below that number, zero: the byte of the first that does not hold
 abbrev pub recordCheck : ArrayRecord → ℕ → Verdict

@@ -2,7 +2,7 @@
 -- Assumes nothing.
 use mathlib.Core.Bool.{Bool, _&&_}
 use mathlib.Core.List.{List}
-use Prim.Native.Nat.{ℕ, _+_, _*_}
+use Prim.Native.Nat.{ℕ, _+_, _-_, _*_}
 use lib.Dec.{eqb, leb}
 use lib.ListN.{length, getD}
 use Rattle.words.specs.Words.{word}
@@ -24,6 +24,13 @@ edges file = word file 16
 
 abbrev pub headerOf : List ℕ → Header
 headerOf file = record { arrays = arrays file; vertices = vertices file; edges = edges file }
+
+-- vertex 0 is the entry, the last is the exit
+abbrev pub entry : ℕ
+entry = 0
+
+abbrev pub exit : List ℕ → ℕ
+exit file = vertices file - 1
 
 -- ---- bodies from byte 18 in that order without gaps: four bytes an array, a byte for each vertex and array, four bytes an edge
 

@@ -17,14 +17,20 @@ use Rattle.refusal.specs.Checks.{_andThen_}
 use Rattle.routine.specs.Edges.{edgeCheck, check16}
 use Rattle.routine.specs.Layout.{arrays, vertices, edges, endAt, headerOf, check10, check11, check12, check13}
 
--- checks run 10 to 16
+-- 10 to 13
 unfoldable pub formCheck : List ℕ → Verdict
 unfolding check10 check11 check12 check13
 formCheck file = check10 file andThen check11 file andThen check12 file andThen check13 file
 
+-- 14 to 16
 unfoldable pub bodyCheck : List ℕ → Verdict
 unfolding check14 check15 check16
 bodyCheck file = check14 file andThen check15 file andThen check16 file
+
+-- checks run 10 to 16
+unfoldable pub readCheck : List ℕ → Verdict
+unfolding formCheck bodyCheck
+readCheck file = formCheck file andThen bodyCheck file
 
 abbrev pub answered : Verdict → Header → Answer
 answered Passed h = Routine h
@@ -32,8 +38,8 @@ answered (Failed r) h = Refused r
 
 -- the header, or the first refusal
 unfoldable pub readOf : List ℕ → Answer
-unfolding formCheck bodyCheck
-readOf file = answered (formCheck file andThen bodyCheck file) (headerOf file)
+unfolding readCheck
+readOf file = answered (readCheck file) (headerOf file)
 
 -- a refusal of the reader's, handed on; a routine read is none, and answers 0 only so that each answer has a value
 abbrev pub deniedOf : Answer → Reply

@@ -4,7 +4,7 @@ use refusal::Refusal;
 use refusal::Verdict;
 ghost use mathlib.Core.Path.{_≡_};
 ghost use Prim.Native.Nat.{_+_, _*_, _<_};
-ghost use Rattle.routine.specs.Arrays.{arrayRecordOf, arrayOf, recordCheck, arrayCheck, check14};
+ghost use Rattle.routine.specs.Arrays.{arrayRecordOf, arrayOf, isArgument, isIn, isInOrInout, recordCheck, arrayCheck, check14};
 ghost use Rattle.routine.specs.Layout.{arrays};
 ghost use Rattle.routine.specs.Reader.{Laid, Heads};
 
@@ -22,8 +22,13 @@ impl ArrayRecord {
     pub const MIN: usize = 1;
 
     pub const MAX: usize = 8;
-    // The largest kind: 0 local, 1 in, 2 out, 3 inout.
-    pub const LAST_KIND: u8 = 3;
+
+    // The kinds; the last three are arguments.
+    pub const LOCAL: u8 = 0;
+
+    pub const IN: u8 = 1;
+
+    pub const INOUT: u8 = 3;
 
     pub const MIN_VERSIONS: u8 = 1;
 
@@ -40,12 +45,30 @@ impl ArrayRecord {
         }
     }
 
+    pub fn is_argument(self) -> bool
+        ensures { λ r. ⌜ r ≡ isArgument (self .kind) ⌝ }
+    {
+        self.kind != ArrayRecord::LOCAL
+    }
+
+    pub fn is_in(self) -> bool
+        ensures { λ r. ⌜ r ≡ isIn (self .kind) ⌝ }
+    {
+        self.kind == ArrayRecord::IN
+    }
+
+    pub fn is_in_or_inout(self) -> bool
+        ensures { λ r. ⌜ r ≡ isInOrInout (self .kind) ⌝ }
+    {
+        (self.kind == ArrayRecord::IN) | (self.kind == ArrayRecord::INOUT)
+    }
+
     // The first byte outside its limits, for a record that starts at `at`.
     fn check(self, at: usize) -> Verdict
         requires { ⌜ at < 100 ⌝ }
         ensures { λ r. ⌜ r ≡ recordCheck self at ⌝ }
     {
-        if self.kind > ArrayRecord::LAST_KIND {
+        if self.kind > ArrayRecord::INOUT {
             return Verdict::Failed(Refusal::WrongArrayByte { byte: at });
         }
         if self.versions < ArrayRecord::MIN_VERSIONS {

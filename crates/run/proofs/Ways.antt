@@ -1,6 +1,6 @@
--- The ways out of the call `run`: what the checks say, as the definition's answer.
+-- The ways out of the call `run` once the routine is read: what the checks say, as the definition's answer.
 -- Assumes nothing.
-use mathlib.Core.Path.{_≡_, refl, sym, ap, _∙_}
+use mathlib.Core.Path.{_≡_, refl, sym, _∙_}
 use mathlib.Core.List.{List}
 use Prim.Native.Nat.{ℕ, _≤_, _<_}
 use native.Mathlib.Omega.{arith}
@@ -10,37 +10,22 @@ use lib.ListN.{length}
 use Rattle.demand.proofs.Demand.{demand3}
 use Rattle.labels.specs.Checks.{programmerCheck}
 use Rattle.refusal.specs.Checks.{_andThen_, holds}
-use Rattle.routine.specs.Layout.{headerOf}
-use Rattle.routine.specs.Reader.{WellFormed, formCheck, bodyCheck, answered, readOf}
+use Rattle.routine.specs.Reader.{WellFormed, deniedOf}
 use Rattle.refusal.specs.Replies.{written}
-use Rattle.routine.specs.Reader.{deniedOf}
-use Rattle.routine.specs.declared.header.Header.{Header}
 use Rattle.routine.specs.declared.reader.Answer.{Answer}
-use Rattle.routine.specs.declared.reader.Answer.the-variants.{Routine, Refused}
+use Rattle.routine.specs.declared.reader.Answer.the-variants.{Refused}
 use Rattle.refusal.specs.declared.Refusal.{Refusal}
 use Rattle.refusal.specs.declared.Refusal.the-variants.{ShortReportBuffer}
 use Rattle.refusal.specs.declared.Reply.{Reply}
 use Rattle.refusal.specs.declared.Reply.the-variants.{Written, Denied}
 use Rattle.refusal.specs.declared.Verdict.{Verdict}
 use Rattle.refusal.specs.declared.Verdict.the-variants.{Passed, Failed}
-use Rattle.routine.proofs.Laws.{then-assoc, passed-left, passed-right, holds-true}
-use Rattle.run.specs.Calls.{runCheck, runReply, runOf, DemandMet, RanRead}
+use Rattle.routine.proofs.Laws.{passed-left, passed-right, holds-true}
+use Rattle.run.specs.Calls.{runnerCheck, DemandMet, RanRead}
 use Rattle.path.specs.Paths.{pathCheck}
 use Rattle.walk.specs.Report.{reportBytes, reportLength}
 use Rattle.walk.proofs.Bytes.{report-length}
 use Rattle.words.specs.Tables.{wrote}
-
--- checks run 10 to 16, 20, 21, for a run 30 to 32, then 2: the reply in one line
-pub run-in-order : (file path : List ℕ) (size : ℕ)
-    → runOf file path size ≡ written (formCheck file andThen bodyCheck file andThen runCheck file path size) (reportLength file path)
-unfolding runOf readOf
-run-in-order file path size =
-    by-verdict (formCheck file andThen bodyCheck file)
-    ∙ ap (λ (v : Verdict). written v (reportLength file path)) (then-assoc (formCheck file) (bodyCheck file) (runCheck file path size))
-  where
-    by-verdict : (v : Verdict) → runReply (answered v (headerOf file)) file path size ≡ written (v andThen runCheck file path size) (reportLength file path)
-    by-verdict Passed = refl
-    by-verdict (Failed r) = refl
 
 written-passed : (v : Verdict) (m : ℕ) {n : ℕ} → written v m ≡ Written n → v ≡ Passed
 written-passed Passed m e = refl
@@ -48,34 +33,24 @@ written-passed (Failed r) m e = cc
 
 module _ (file path : List ℕ) (size : ℕ) {v : Verdict} (is : v ≡ programmerCheck file) where
   -- 20 or 21
-  pub denied-way : {r : Refusal} → v ≡ Failed r → Denied r ≡ written (runCheck file path size) (reportLength file path)
-  unfolding runCheck
+  pub denied-way : {r : Refusal} → v ≡ Failed r → Denied r ≡ written (runnerCheck file path size) (reportLength file path)
+  unfolding runnerCheck
   denied-way e = rw (← is, e)
 
   module _ (p : v ≡ Passed) {w : Verdict} (follows : w ≡ pathCheck file path) where
     -- 30 to 32
-    pub path-way : {r : Refusal} → w ≡ Failed r → Denied r ≡ written (runCheck file path size) (reportLength file path)
-    unfolding runCheck
+    pub path-way : {r : Refusal} → w ≡ Failed r → Denied r ≡ written (runnerCheck file path size) (reportLength file path)
+    unfolding runnerCheck
     path-way e = rw (← is, p, ← follows, e)
 
     -- 2
-    pub short-way : w ≡ Passed → size < reportLength file path → Denied (ShortReportBuffer (reportLength file path)) ≡ written (runCheck file path size) (reportLength file path)
-    unfolding runCheck
+    pub short-way : w ≡ Passed → size < reportLength file path → Denied (ShortReportBuffer (reportLength file path)) ≡ written (runnerCheck file path size) (reportLength file path)
+    unfolding runnerCheck
     short-way e h = rw (← is, p, ← follows, e, lt-leb (reportLength file path) size h)
 
-    pub written-way : w ≡ Passed → reportLength file path ≤ size → Written (reportLength file path) ≡ written (runCheck file path size) (reportLength file path)
-    unfolding runCheck
+    pub written-way : w ≡ Passed → reportLength file path ≤ size → Written (reportLength file path) ≡ written (runnerCheck file path size) (reportLength file path)
+    unfolding runnerCheck
     written-way e h = rw (← is, p, ← follows, e, le-leb (reportLength file path) size h)
-
--- 10 to 16, or a routine that was read
-module _ (file path : List ℕ) (size : ℕ) {a : Answer} (is : a ≡ readOf file) where
-  pub refused-way : {r : Refusal} → a ≡ Refused r → deniedOf a ≡ runOf file path size
-  unfolding runOf
-  refused-way e = rw (← is, e)
-
-  pub read-way : {h : Header} → a ≡ Routine h → written (runCheck file path size) (reportLength file path) ≡ runOf file path size
-  unfolding runOf
-  read-way e = rw (← is, e)
 
 -- a refused run makes no claim
 pub no-demand : {reply : Reply} {a : Answer} {r : Refusal} (file path : List ℕ) → reply ≡ deniedOf a → a ≡ Refused r → DemandMet reply file path
@@ -83,15 +58,15 @@ no-demand file path e f = rw (e, f) tt
 
 -- ---- a run of a routine that was read, from its reply
 
-module _ (file path before : List ℕ) {reply : Reply} (is : reply ≡ written (runCheck file path (length before)) (reportLength file path)) where
+module _ (file path before : List ℕ) {reply : Reply} (is : reply ≡ written (runnerCheck file path (length before)) (reportLength file path)) where
   pub denied-ran : {r : Refusal} → reply ≡ Denied r → RanRead file path before reply before
   denied-ran e = record { answer = is; buffer = rw e; demand = rw e tt }
 
   -- all checks have passed
   module _ {n : ℕ} (e : reply ≡ Written n) where
     after-20 : (pathCheck file path andThen holds (leb (reportLength file path) (length before)) (ShortReportBuffer (reportLength file path))) ≡ Passed
-    unfolding runCheck
-    after-20 = passed-right (programmerCheck file) _ (written-passed (runCheck file path (length before)) (reportLength file path) (sym is ∙ e))
+    unfolding runnerCheck
+    after-20 = passed-right (programmerCheck file) _ (written-passed (runnerCheck file path (length before)) (reportLength file path) (sym is ∙ e))
 
     pub passed : pathCheck file path ≡ Passed
     passed = passed-left (pathCheck file path) _ after-20

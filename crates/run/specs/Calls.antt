@@ -7,10 +7,8 @@ use lib.Dec.{leb}
 use lib.ListN.{length}
 use Rattle.labels.specs.Checks.{programmerCheck}
 use Rattle.refusal.specs.Checks.{_andThen_, holds}
-use Rattle.routine.specs.Reader.{readOf}
+use Rattle.routine.specs.Reader.{readCheck}
 use Rattle.refusal.specs.Replies.{written, filledBy, replyOutcome}
-use Rattle.routine.specs.declared.reader.Answer.{Answer}
-use Rattle.routine.specs.declared.reader.Answer.the-variants.{Routine, Refused}
 use Rattle.refusal.specs.declared.Outcome.{Outcome}
 use Rattle.refusal.specs.declared.Refusal.the-variants.{ShortReportBuffer}
 use Rattle.refusal.specs.declared.Reply.{Reply}
@@ -20,23 +18,23 @@ use Rattle.demand.specs.Demand.{Demand3}
 use Rattle.path.specs.Paths.{pathCheck}
 use Rattle.walk.specs.Report.{reportBytes, reportLength}
 
--- checks run 10 to 16, 20, 21, for a run 30 to 32, then 2: a buffer of `size` bytes is too short
-unfoldable pub runCheck : List ℕ → List ℕ → ℕ → Verdict
+-- of a routine that was read: 20, 21, 30 to 32, then 2 where a buffer of `size` bytes is too short
+unfoldable pub runnerCheck : List ℕ → List ℕ → ℕ → Verdict
 unfolding programmerCheck pathCheck reportLength
-runCheck file path size =
+runnerCheck file path size =
     programmerCheck file
     andThen pathCheck file path
     andThen holds (leb (reportLength file path) size) (ShortReportBuffer (reportLength file path))
 
-abbrev pub runReply : Answer → List ℕ → List ℕ → ℕ → Reply
-unfolding runCheck reportLength
-runReply (Refused r) file path size = Denied r
-runReply (Routine h) file path size = written (runCheck file path size) (reportLength file path)
+-- checks run 10 to 16, 20, 21, for a run 30 to 32, then 2
+unfoldable pub runCheck : List ℕ → List ℕ → ℕ → Verdict
+unfolding readCheck runnerCheck
+runCheck file path size = readCheck file andThen runnerCheck file path size
 
 -- the reply to any file and path, with a buffer of `size` bytes
 unfoldable pub runOf : List ℕ → List ℕ → ℕ → Reply
-unfolding readOf runCheck reportLength
-runOf file path size = runReply (readOf file) file path size
+unfolding runCheck reportLength
+runOf file path size = written (runCheck file path size) (reportLength file path)
 
 -- demand 3, where the run is made
 abbrev pub DemandMet : Reply → List ℕ → List ℕ → Type 0
@@ -49,7 +47,7 @@ runInto reply file path before = filledBy reply (reportBytes file path) before
 
 -- of a routine that was read
 pub record RanRead (file path before : List ℕ) (reply : Reply) (after : List ℕ) : Type 0 where
-  pub answer : reply ≡ written (runCheck file path (length before)) (reportLength file path)
+  pub answer : reply ≡ written (runnerCheck file path (length before)) (reportLength file path)
   pub buffer : after ≡ runInto reply file path before
   pub demand : DemandMet reply file path
 

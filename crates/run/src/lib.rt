@@ -1,6 +1,4 @@
 // The call `run` of document 01: a path through a routine, checked and run, and its report.
-use passes::events;
-use passes::pass;
 use passes::tables;
 use refusal::Refusal;
 use refusal::Reply;
@@ -12,43 +10,12 @@ ghost use mathlib.Core.Path.{_≡_};
 ghost use Prim.Native.Nat.{_*_};
 ghost use lib.ListN.{length};
 ghost use Rattle.labels.specs.Checks.{programmerCheck};
-ghost use Rattle.labels.specs.Routines.{ReadAs, Edges};
-ghost use Rattle.passes.specs.Tables.{Versions, UseGives};
+ghost use Rattle.labels.specs.Routines.{ReadAs, EdgeOrder};
+ghost use Rattle.passes.specs.Tables.{Versions, UseGives, LettersAndKept};
 ghost use Rattle.routine.specs.Layout.{vertices, edges};
 ghost use Rattle.refusal.specs.Replies.{written};
-ghost use Rattle.run.specs.Calls.{runCheck, RanRead, Ran};
+ghost use Rattle.run.specs.Calls.{runnerCheck, RanRead, Ran};
 ghost use Rattle.walk.specs.Report.{reportLength};
-ghost use Rattle.walk.specs.Walks.{Tabled};
-
-// Refusals 20 and 21. `order`, `versions` and `uses` are left for `tabulate`; the other tables are work slices.
-fn check(
-    file: &[u8],
-    h: Header,
-    order: &mut [u16],
-    versions: &mut [u16],
-    uses: &mut [u16],
-    reached: &mut [u16],
-    sets: &mut [u16],
-    gives: &mut [u16],
-    passes: &mut [u16],
-) -> Verdict
-    requires { ⌜ ReadAs (now file) h ⌝ }
-    requires { ⌜ length (now order) ≡ edges (now file) ⌝ }
-    requires { ⌜ length (now versions) ≡ 8 * vertices (now file) ⌝ }
-    requires { ⌜ length (now uses) ≡ 8 * vertices (now file) ⌝ }
-    requires { ⌜ length (now reached) ≡ 8 * vertices (now file) ⌝ }
-    requires { ⌜ length (now sets) ≡ 8 * vertices (now file) ⌝ }
-    requires { ⌜ length (now gives) ≡ 8 * vertices (now file) ⌝ }
-    requires { ⌜ length (now passes) ≡ 8 * vertices (now file) ⌝ }
-    ensures { λ r. ⌜ r ≡ programmerCheck (now (file .entry)) ⌝ }
-    ensures { λ _. ⌜ Edges (now (file .entry)) (now (order .exit)) ⌝ }
-    ensures { λ _. ⌜ Versions (now (file .entry)) (now (versions .exit)) ⌝ }
-    ensures { λ _. ⌜ UseGives (now (file .entry)) (now (uses .exit)) ⌝ }
-{
-    pass::order(file, h, order);
-    events::tabulate(file, h, versions, uses);
-    checks::check(file, h, order, versions, uses, reached, sets, gives, passes)
-}
 
 // The reply, with a buffer of `size` bytes: 20 and 21 as they were answered, then 30 to 32, then 2. `counts` is a work slice.
 fn reply(
@@ -62,7 +29,7 @@ fn reply(
     requires { ⌜ ReadAs (now file) h ⌝ }
     requires { ⌜ checked ≡ programmerCheck (now file) ⌝ }
     requires { ⌜ length (now counts) ≡ vertices (now file) ⌝ }
-    ensures { λ r. ⌜ r ≡ written (runCheck (now (file .entry)) (now (path .entry)) size) (reportLength (now (file .entry)) (now (path .entry))) ⌝ }
+    ensures { λ r. ⌜ r ≡ written (runnerCheck (now (file .entry)) (now (path .entry)) size) (reportLength (now (file .entry)) (now (path .entry))) ⌝ }
 {
     if let Verdict::Failed(r) = checked {
         return Reply::Denied(r);
@@ -91,14 +58,14 @@ fn tabulate(
     passes: &mut [u16],
 )
     requires { ⌜ ReadAs (now file) h ⌝ }
-    requires { ⌜ Edges (now file) (now order) ⌝ }
+    requires { ⌜ EdgeOrder (now file) (now order) ⌝ }
     requires { ⌜ Versions (now file) (now versions) ⌝ }
     requires { ⌜ UseGives (now file) (now uses) ⌝ }
     requires { ⌜ length (now letters) ≡ 8 * vertices (now file) ⌝ }
     requires { ⌜ length (now kept) ≡ 8 * vertices (now file) ⌝ }
     requires { ⌜ length (now gives) ≡ 8 * vertices (now file) ⌝ }
     requires { ⌜ length (now passes) ≡ 8 * vertices (now file) ⌝ }
-    ensures { λ _. ⌜ Tabled (now (file .entry)) (now (letters .exit)) (now (kept .exit)) ⌝ }
+    ensures { λ _. ⌜ LettersAndKept (now (file .entry)) (now (letters .exit)) (now (kept .exit)) ⌝ }
 {
     tables::letters(file, h, order, uses, letters, kept, passes);
     tables::kept(file, h, order, versions, letters, kept, gives, passes);
@@ -133,7 +100,7 @@ fn run_with(
     requires { ⌜ length (now passes) ≡ 8 * vertices (now file) ⌝ }
     ensures { λ r. ⌜ RanRead (now (file .entry)) (now (path .entry)) (now (out .entry)) r (now (out .exit)) ⌝ }
 {
-    let checked = check(file, h, order, versions, uses, reached, kept, gives, passes);
+    let checked = checks::prepare(file, h, order, versions, uses, reached, kept, gives, passes);
     let reply = reply(file, h, path, out.len(), checked, counts);
     if let Reply::Denied(_) = reply {
         return reply;

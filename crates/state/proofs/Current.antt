@@ -10,7 +10,7 @@ use borrow.Author.Tests.{ne-eqb}
 use lib.Dec.{T}
 use lib.ListN.{length, getD, set, length-set}
 use lib.Seq.{set-set, set-getD, getD-set-same}
-use Rattle.labels.specs.Events.{isArgument}
+use Rattle.routine.specs.Arrays.{isArgument}
 use Rattle.labels.specs.declared.Use.{Use}
 use Rattle.routine.specs.Actions.{isReference, isRemap}
 use Rattle.routine.specs.declared.action.Access.{Access}

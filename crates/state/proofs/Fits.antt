@@ -10,7 +10,7 @@ use lib.Bits.{or-lt}
 use lib.Dec.{lit<, lit≤}
 use lib.ListN.{getD, set, replicate, length-set}
 use lib.Pow.{pow-lt}
-use Rattle.labels.specs.Events.{isArgument, isInOrInout}
+use Rattle.routine.specs.Arrays.{isArgument, isInOrInout}
 use Rattle.labels.specs.declared.Use.{Use}
 use Rattle.routine.specs.declared.action.Access.{Access}
 use Rattle.routine.specs.declared.action.Access.the-variants.{Read, Define, Modify}

@@ -5,7 +5,7 @@ use mathlib.Core.List.{List}
 use Prim.Native.Nat.{ℕ, zero, suc, _^_}
 use lib.Bits.{bitOr}
 use lib.ListN.{set}
-use Rattle.labels.specs.Events.{isArgument}
+use Rattle.routine.specs.Arrays.{isArgument}
 use Rattle.routine.specs.declared.array.ArrayRecord.{ArrayRecord}
 use Rattle.sets.specs.Sets.{has, minus}
 use Rattle.state.specs.declared.State.{State}

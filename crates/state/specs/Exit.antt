@@ -1,7 +1,7 @@
 -- Document 01, "Run": at the exit.
 -- Assumes nothing.
 use mathlib.Core.Bool.{Bool, not, _&&_, cond}
-use Rattle.labels.specs.Events.{isArgument}
+use Rattle.routine.specs.Arrays.{isArgument}
 use Rattle.routine.specs.declared.array.ArrayRecord.{ArrayRecord}
 use Rattle.state.specs.declared.State.{State}
 use Rattle.state.specs.States.{emptied}

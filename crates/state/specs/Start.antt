@@ -3,7 +3,7 @@
 use mathlib.Core.Bool.{cond}
 use Prim.Native.Nat.{_^_}
 use lib.ListN.{set, replicate}
-use Rattle.labels.specs.Events.{isInOrInout}
+use Rattle.routine.specs.Arrays.{isInOrInout}
 use Rattle.routine.specs.declared.array.ArrayRecord.{ArrayRecord}
 use Rattle.state.specs.declared.State.{State}
 use Rattle.state.specs.States.{emptied}

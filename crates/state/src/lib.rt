@@ -46,7 +46,7 @@ pub fn start(r: ArrayRecord) -> State
     requires { ⌜ r .initial < 16 ⌝ }
     ensures { λ s. ⌜ s ≡ started r ⌝ }
 {
-    let own = event::is_in_or_inout(r);
+    let own = r.is_in_or_inout();
     if !own {
         return empty(0);
     }
@@ -64,10 +64,11 @@ pub fn callers_of(r: ArrayRecord) -> u16
     requires { ⌜ r .initial < 16 ⌝ }
     ensures { λ s. ⌜ s ≡ callers r ⌝ }
 {
-    if r.kind == 0 {
-        return 0;
+    let owned = r.is_argument();
+    if owned {
+        return sets::single(r.initial);
     }
-    sets::single(r.initial)
+    0
 }
 
 // D: the value is overwritten, so it is not copied.
@@ -336,7 +337,8 @@ pub fn leave(s: State, r: ArrayRecord, at_exit: bool) -> State
     if !at_exit {
         return s;
     }
-    if r.kind != 0 {
+    let argument = r.is_argument();
+    if argument {
         return s;
     }
     empty(s.copies)

@@ -9,15 +9,15 @@ use native.Mathlib.Numerals.{add-one}
 use native.Mathlib.Omega.{arith}
 use lib.Dec.{T, eqb}
 use lib.ListN.{length, getD, take, drop, length-append}
-use Rattle.labels.specs.Events.{exit, event, versionOf}
+use Rattle.labels.specs.Events.{event, versionOf}
 use Rattle.labels.specs.Kept.{keptOf}
 use Rattle.labels.specs.Letters.{letterByte, useOfByte}
 use Rattle.labels.specs.Uses.{useOf}
 use Rattle.passes.proofs.Bounds.{event-below}
-use Rattle.passes.proofs.Letters.{letter-use}
+use Rattle.labels.proofs.Letters.{letter-use}
 use Rattle.routine.specs.Actions.{isReference}
 use Rattle.routine.specs.Arrays.{arrayOf}
-use Rattle.routine.specs.Layout.{arrays}
+use Rattle.routine.specs.Layout.{arrays, exit}
 use Rattle.routine.specs.Reader.{WellFormed}
 use Rattle.routine.specs.declared.action.Action.{Action}
 use Rattle.routine.specs.declared.action.Action.the-variants.{Nothing, Reference, Remap, Unknown}

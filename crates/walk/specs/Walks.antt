@@ -6,9 +6,9 @@ use mathlib.Core.List.{List}
 use Prim.Native.Nat.{ℕ, _≤_, _<_}
 use lib.Dec.{eqb}
 use lib.ListN.{length, getD}
-use Rattle.labels.specs.Events.{exit, event}
+use Rattle.labels.specs.Events.{event}
+use Rattle.routine.specs.Layout.{exit}
 use Rattle.labels.specs.Kept.{keptOf}
-use Rattle.passes.specs.Tables.{Cells, Letters}
 use Rattle.labels.specs.Uses.{useOf}
 use Rattle.routine.specs.Actions.{isRemap}
 use Rattle.routine.specs.Arrays.{arrayOf}
@@ -19,11 +19,6 @@ use Rattle.state.specs.declared.State.{State}
 use Rattle.report.specs.Records.{recordsAt}
 use Rattle.report.specs.Bytes.{stateOf, recordsBytes}
 use Rattle.words.specs.Tables.{rows, wrote}
-
--- tables of letters and kept sets
-pub record Tabled (file letters kept : List ℕ) : Type 0 where
-  pub letters-are : Letters file letters
-  pub kept-are : Cells file (keptOf file) kept
 
 -- an array's state, held as a state, its current version, and the stamp of its current copy
 pub record Stands (want s : State) (version stamp : ℕ) : Type 0 where

@@ -11,6 +11,7 @@ ghost use Prim.Native.Nat.{ℕ, _≤_, _<_};
 ghost use lib.ListN.{length, getD};
 ghost use Rattle.labels.specs.Events.{event};
 ghost use Rattle.labels.specs.Routines.{ReadAs};
+ghost use Rattle.passes.specs.Tables.{LettersAndKept};
 ghost use Rattle.routine.specs.Arrays.{arrayOf};
 ghost use Rattle.routine.specs.Layout.{arrays, vertices};
 ghost use Rattle.routine.specs.Reader.{WellFormed};
@@ -24,7 +25,7 @@ ghost use Rattle.report.specs.Bytes.{stateOf, recordsBytes};
 ghost use Rattle.report.specs.References.{referencesAt};
 ghost use Rattle.walk.specs.Report.{reportBytes, referencesOn, reportLength};
 ghost use Rattle.demand.specs.Run.{stateAfter, runRecords};
-ghost use Rattle.walk.specs.Walks.{Tabled, Held, rowBytes, Referred, relabelledAt};
+ghost use Rattle.walk.specs.Walks.{Held, rowBytes, Referred, relabelledAt};
 ghost use Rattle.words.specs.Tables.{table, wrote};
 
 // How many references the path meets.
@@ -131,7 +132,7 @@ fn relabel(
 ) -> State
     requires { ⌜ ReadAs (now file) h ⌝ }
     requires { ⌜ (a < arrays (now file)) × (v < vertices (now file)) ⌝ }
-    requires { ⌜ Tabled (now file) (now letters) (now kept) ⌝ }
+    requires { ⌜ LettersAndKept (now file) (now letters) (now kept) ⌝ }
     requires { ⌜ Visits (event (now file) a v) (settled stamp s) ⌝ }
     ensures { λ r. ⌜ r ≡ relabelledAt (now (file .entry)) a v (settled stamp s) ⌝ }
     ensures { λ r. ⌜ Current r ⌝ }
@@ -175,7 +176,7 @@ fn follow(
 ) -> [State; ArrayRecord::MAX]
     requires { ⌜ ReadAs (now file) h ⌝ }
     requires { ⌜ pathCheck (now file) (now path) ≡ Passed ⌝ }
-    requires { ⌜ Tabled (now file) (now letters) (now kept) ⌝ }
+    requires { ⌜ LettersAndKept (now file) (now letters) (now kept) ⌝ }
     requires { ⌜ length (recordsBytes (runRecords (now file) (now path))) ≤ length (now out) ⌝ }
     ensures { λ r. ⌜ ((a : ℕ) → a < arrays (now (file .entry)) → stateOf r a ≡ stateAfter (now (file .entry)) (now (path .entry)) a (steps (now (path .entry)))) ⌝ }
     ensures { λ _. ⌜ now (out .exit) ≡ wrote (now (out .entry)) (recordsBytes (runRecords (now (file .entry)) (now (path .entry)))) ⌝ }
@@ -211,7 +212,7 @@ fn follow(
 pub fn write(file: &[u8], h: Header, path: &[u8], letters: &[u8], kept: &[u16], out: &mut [u8])
     requires { ⌜ ReadAs (now file) h ⌝ }
     requires { ⌜ pathCheck (now file) (now path) ≡ Passed ⌝ }
-    requires { ⌜ Tabled (now file) (now letters) (now kept) ⌝ }
+    requires { ⌜ LettersAndKept (now file) (now letters) (now kept) ⌝ }
     requires { ⌜ length (reportBytes (now file) (now path)) ≤ length (now out) ⌝ }
     ensures { λ _. ⌜ now (out .exit) ≡ wrote (now (out .entry)) (reportBytes (now (file .entry)) (now (path .entry))) ⌝ }
 {

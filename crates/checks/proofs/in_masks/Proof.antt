@@ -1,12 +1,12 @@
 -- `in_masks` meets its contract: a row is filled in place.
 -- Assumes nothing.
 use mathlib.Core.Path.{_≡_, refl, ap, _∙_}
-use mathlib.Core.Bool.{cond}
+use mathlib.Core.Bool.{Bool, cond}
 use Prim.Native.Nat.{ℕ, _-_, _≤_, _<_}
 use native.Mathlib.Omega.{arith}
 use borrow.Author.Needs.{needs}
 use lib.ListN.{length, getD, length-set}
-use Rattle.labels.specs.Events.{kind, isIn}
+use Rattle.routine.specs.Arrays.{kind, isIn}
 use Rattle.routine.specs.Layout.{arrays}
 use Rattle.routine.specs.declared.array.ArrayRecord.{ArrayRecord}
 use Rattle.checks.proofs.Rows.{entries-next}
@@ -25,6 +25,9 @@ loop-holds c = (omega arith, refl, λ b h. absurd (omega arith))
 
 record-of-requires : tie.Need-record-of-requires Inv-loop μ-loop
 record-of-requires c κs = let s = c .before .before .before in (s .pre .well .laid, omega (arith, s .pre .heads .arrays-are))
+
+is-in-requires : tie.Need-is-in-requires Inv-loop μ-loop
+is-in-requires c κs = search needs
 
 set-if-requires : tie.Need-set-if-requires Inv-loop μ-loop
 set-if-requires c κs = search needs
@@ -53,7 +56,7 @@ loop-again c =
       omega arith,
       length-set (l .loop .masks) _ _ ∙ l .loop .inv .1,
       entries-next (λ b. cond (isIn (kind (s .args .file .now) b)) 0b1000 0) (l .loop .masks) (l .loop .a) (omega (arith, l .loop .inv .1, in-row l)) (l .loop .inv .2)
-          (c .set-if .ensures ∙ ap (λ (r : ArrayRecord). cond (isIn (r .kind)) 0b1000 0) (c .before .before .record-of .ensures)),
+          (c .set-if .ensures ∙ ap (λ (b : Bool). cond b 0b1000 0) (c .before .is-in .ensures ∙ ap (λ (r : ArrayRecord). isIn (r .kind)) (c .before .before .record-of .ensures))),
     )
 
 returns : tie.Need-returns Inv-loop μ-loop
@@ -69,6 +72,7 @@ in-masks-spec =
     μ-loop
     loop-holds
     record-of-requires
+    is-in-requires
     set-if-requires
     mul-masks
     array-write-masks

@@ -1,6 +1,6 @@
 -- `row_ambiguous` meets its contract: a scan of the columns.
 -- Assumes nothing.
-use mathlib.Core.Path.{_≡_, sym, ap, ap₂, _∙_}
+use mathlib.Core.Path.{_≡_, sym, ap, _∙_}
 use mathlib.Core.Bool.{_&&_}
 use Prim.Native.Nat.{_+_, _-_, _*_, _≤_}
 use native.Mathlib.Nat.{le-antisymm}
@@ -28,23 +28,20 @@ mul-at c = omega arith
 add-at : tie.Need-add-at Inv-loop μ-loop
 add-at c = omega arith
 
-mul-member : tie.Need-mul-member Inv-loop μ-loop
-mul-member c = omega arith
+mul-is-ambiguous : tie.Need-mul-is-ambiguous Inv-loop μ-loop
+mul-is-ambiguous c = omega arith
 
-shared-slice-read-member : tie.Need-shared-slice-read-member Inv-loop μ-loop
-shared-slice-read-member c = omega arith
+shared-slice-read-is-ambiguous : tie.Need-shared-slice-read-is-ambiguous Inv-loop μ-loop
+shared-slice-read-is-ambiguous c = omega arith
 
-member-requires : tie.Need-member-requires Inv-loop μ-loop
-member-requires c κs = search needs
+mul-is-ambiguous-2 : tie.Need-mul-is-ambiguous-2 Inv-loop μ-loop
+mul-is-ambiguous-2 c = omega arith
 
-mul-more-than-one : tie.Need-mul-more-than-one Inv-loop μ-loop
-mul-more-than-one c = omega arith
+shared-slice-read-is-ambiguous-2 : tie.Need-shared-slice-read-is-ambiguous-2 Inv-loop μ-loop
+shared-slice-read-is-ambiguous-2 c = omega arith
 
-shared-slice-read-more-than-one : tie.Need-shared-slice-read-more-than-one Inv-loop μ-loop
-shared-slice-read-more-than-one c = omega arith
-
-more-than-one-requires : tie.Need-more-than-one-requires Inv-loop μ-loop
-more-than-one-requires c κs = search needs
+is-ambiguous-requires : tie.Need-is-ambiguous-requires Inv-loop μ-loop
+is-ambiguous-requires c κs = search needs
 
 add-a : tie.Need-add-a Inv-loop μ-loop
 add-a c = omega arith
@@ -54,8 +51,8 @@ loop-less c = omega arith
 
 loop-again : tie.Need-loop-again Inv-loop μ-loop
 loop-again c =
-    let l = c .before .before .before .before .before .loop in
-    (omega arith, any-next _ (l .a) (l .inv .1) (ap₂ _&&_ (c .before .before .member .ensures) (c .more-than-one .ensures)))
+    let l = c .before .before .before .before .loop in
+    (omega arith, any-next _ (l .a) (l .inv .1) (c .is-ambiguous .ensures))
 
 returns : tie.Need-returns Inv-loop μ-loop
 returns c = c .before .loop .inv .1 ∙ ap (anyBelow _) (le-antisymm (c .before .loop .inv .0) (c .loop-test .left))
@@ -69,12 +66,11 @@ row-ambiguous-spec =
     loop-holds
     mul-at
     add-at
-    mul-member
-    shared-slice-read-member
-    member-requires
-    mul-more-than-one
-    shared-slice-read-more-than-one
-    more-than-one-requires
+    mul-is-ambiguous
+    shared-slice-read-is-ambiguous
+    mul-is-ambiguous-2
+    shared-slice-read-is-ambiguous-2
+    is-ambiguous-requires
     add-a
     loop-less
     loop-again

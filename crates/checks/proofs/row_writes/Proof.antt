@@ -1,10 +1,11 @@
 -- `row_writes` meets its contract: a scan of the columns.
 -- Assumes nothing.
-use mathlib.Core.Path.{_≡_, refl, sym, ap, _∙_}
+use mathlib.Core.Path.{_≡_, sym, ap, _∙_}
 use mathlib.Core.Bool.{not}
 use Prim.Native.Nat.{_+_, _-_, _*_, _≤_}
 use native.Mathlib.Nat.{le-antisymm}
 use native.Mathlib.Omega.{arith}
+use borrow.Author.Needs.{needs}
 use lib.Bits.{bitAnd}
 use lib.Dec.{eqb}
 use lib.ListN.{getD}
@@ -28,17 +29,20 @@ mul-at c = omega arith
 add-at : tie.Need-add-at Inv-loop μ-loop
 add-at c = omega arith
 
-mul-any : tie.Need-mul-any Inv-loop μ-loop
-mul-any c = omega arith
+mul-is-write : tie.Need-mul-is-write Inv-loop μ-loop
+mul-is-write c = omega arith
 
-shared-slice-read-any : tie.Need-shared-slice-read-any Inv-loop μ-loop
-shared-slice-read-any c = omega arith
+shared-slice-read-is-write : tie.Need-shared-slice-read-is-write Inv-loop μ-loop
+shared-slice-read-is-write c = omega arith
 
-mul-any-2 : tie.Need-mul-any-2 Inv-loop μ-loop
-mul-any-2 c = omega arith
+mul-is-write-2 : tie.Need-mul-is-write-2 Inv-loop μ-loop
+mul-is-write-2 c = omega arith
 
-array-read-any : tie.Need-array-read-any Inv-loop μ-loop
-array-read-any c = omega arith
+array-read-is-write : tie.Need-array-read-is-write Inv-loop μ-loop
+array-read-is-write c = omega arith
+
+is-write-requires : tie.Need-is-write-requires Inv-loop μ-loop
+is-write-requires c κs = search needs
 
 add-a : tie.Need-add-a Inv-loop μ-loop
 add-a c = omega arith
@@ -48,8 +52,8 @@ loop-less c = omega arith
 
 loop-again : tie.Need-loop-again Inv-loop μ-loop
 loop-again c =
-    let l = c .before .before .loop in
-    (omega arith, any-next _ (l .a) (l .inv .1) refl)
+    let l = c .before .before .before .loop in
+    (omega arith, any-next _ (l .a) (l .inv .1) (c .is-write .ensures))
 
 returns : tie.Need-returns Inv-loop μ-loop
 returns c = c .before .loop .inv .1 ∙ ap (anyBelow _) (le-antisymm (c .before .loop .inv .0) (c .loop-test .left))
@@ -63,10 +67,11 @@ row-writes-spec =
     loop-holds
     mul-at
     add-at
-    mul-any
-    shared-slice-read-any
-    mul-any-2
-    array-read-any
+    mul-is-write
+    shared-slice-read-is-write
+    mul-is-write-2
+    array-read-is-write
+    is-write-requires
     add-a
     loop-less
     loop-again

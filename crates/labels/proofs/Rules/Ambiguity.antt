@@ -13,7 +13,7 @@ use Rattle.sets.specs.Sets.{has, several}
 use Rattle.sets.proofs.Laws.{several-two, two-several}
 use Rattle.labels.specs.Ambiguity.{Brings, Ambiguous, arriveGives, arrivePasses, arrivingSets, isAmbiguous}
 use Rattle.labels.specs.Events.{width, event, isLabel, version}
-use Rattle.labels.specs.Proper.{Proper}
+use Rattle.labels.proofs.Rules.Proper.{Proper}
 use Rattle.labels.specs.Reaching.{isReached}
 use Rattle.labels.proofs.Rules.Arrivals.{last-exact}
 use Rattle.labels.proofs.Rules.Tests.{is-true}

@@ -11,9 +11,9 @@ use Rattle.flow.specs.Paths.{Edge, Path, last, next, Joined, AllPass}
 use Rattle.flow.specs.Solver.{Ends}
 use Rattle.flow.proofs.Tests.{either, or-iff}
 use Rattle.flow.proofs.Paths.{list-iff, extend}
-use Rattle.routine.specs.Layout.{vertices}
+use Rattle.routine.specs.Layout.{vertices, entry}
 use Rattle.sets.specs.Sets.{has}
-use Rattle.labels.specs.Events.{edgeBytes, entry}
+use Rattle.labels.specs.Events.{edgeBytes}
 use Rattle.labels.specs.Reaching.{ArrivesBy, orLast, lastVersion, reachedSets, isReached}
 use Rattle.labels.proofs.Rules.Tables.{Finds, solved}
 use Rattle.labels.proofs.Rules.Tests.{is-true, is-false, eqb-iff}

@@ -17,7 +17,7 @@ use Rattle.refusal.specs.declared.Verdict.the-variants.{Passed, Failed}
 use Rattle.routine.proofs.Laws.{each-passed, all-passed, scan-failed, failed-scan}
 use Rattle.labels.specs.Ambiguity.{Ambiguous, isAmbiguous}
 use Rattle.labels.specs.Checks.{firstFault, FirstFault, writesIn, check20, check21}
-use Rattle.labels.specs.Proper.{Proper}
+use Rattle.labels.proofs.Rules.Proper.{Proper}
 use Rattle.labels.proofs.Rules.Ambiguity.{ambiguous-exact}
 
 -- ---- one item

@@ -9,8 +9,10 @@ use Rattle.routine.specs.declared.action.Access.the-variants.{Read, Define, Mod
 use Rattle.routine.specs.declared.action.Action.{Action}
 use Rattle.routine.specs.declared.action.Action.the-variants.{Nothing, Reference, Remap, Unknown}
 use Rattle.routine.specs.Actions.{actionOf, action, actionByte}
-use Rattle.labels.specs.Events.{width, entry, exit, kind, isArgument, event, versionOf, version}
-use Rattle.labels.specs.Proper.{Proper}
+use Rattle.labels.specs.Events.{width, event, versionOf, version}
+use Rattle.routine.specs.Arrays.{kind, isArgument}
+use Rattle.routine.specs.Layout.{entry, exit}
+use Rattle.labels.proofs.Rules.Proper.{Proper}
 
 -- a choice fits if both its outcomes do
 abbrev Fits : Action → Type 0

@@ -15,7 +15,7 @@ use Rattle.labels.specs.declared.Use.{Use}
 use Rattle.labels.specs.declared.Use.the-variants.{N, D, R, W}
 use Rattle.labels.specs.Events.{width, version, isLabel}
 use Rattle.labels.specs.Kept.{isNOrR, passesKept, KeepsFor, InKept, leavingSet, keptSets, keptOf}
-use Rattle.labels.specs.Proper.{Proper}
+use Rattle.labels.proofs.Rules.Proper.{Proper}
 use Rattle.labels.specs.Uses.{useOf, isN, isKept, Leaves}
 use Rattle.labels.proofs.Rules.Tests.{member-cond, member-single}
 use Rattle.labels.proofs.Rules.Versions.{single-fits, versions-exact, versions-fit}

@@ -1,4 +1,4 @@
--- A routine that was read has what the label rules need.
+-- What the label rules need of a routine, and that a routine that was read has it.
 -- Assumes nothing.
 use mathlib.Core.Path.{_≡_, sym, ap, _∙_}
 use mathlib.Core.List.{List}
@@ -8,14 +8,21 @@ use native.Mathlib.Omega.{arith}
 use lib.ListN.{drop, length-drop}
 use lib.Seq.{getD-drop}
 use Rattle.words.specs.Words.{word}
-use Rattle.flow.specs.Paths.{edgeCount, edgeFrom, edgeTo}
+use Rattle.flow.specs.Paths.{edgeCount, edgeFrom, edgeTo, Edge}
 use Rattle.flow.specs.Solver.{Ends}
+use Rattle.routine.specs.Arrays.{initial}
 use Rattle.routine.specs.Edges.{edgeOf}
-use Rattle.routine.specs.Layout.{arrays, vertices, edges, edgesAt}
+use Rattle.routine.specs.Layout.{arrays, vertices, entry, exit, edges, edgesAt}
 use Rattle.routine.specs.Reader.{Laid, WellFormed}
 use Rattle.routine.proofs.WellFormed.{Within, array-limits, edge-limits}
-use Rattle.labels.specs.Events.{edgeBytes}
-use Rattle.labels.specs.Proper.{Proper}
+use Rattle.labels.specs.Events.{width, edgeBytes}
+
+-- edges end below the vertex count, none enters the entry, none leaves the exit; the initial version is below the width of a set
+pub record Proper (file : List ℕ) (a : ℕ) : Type 0 where
+  pub ends : Ends (edgeBytes file) (vertices file)
+  pub none-enters : (v : ℕ) → Edge (edgeBytes file) v entry → ⊥
+  pub none-leaves : (v : ℕ) → Edge (edgeBytes file) (exit file) v → ⊥
+  pub initial-fits : initial file a < width
 
 word-drop : (n : ℕ) (s : List ℕ) (at : ℕ) → word (drop n s) at ≡ word s (n + at)
 unfolding word

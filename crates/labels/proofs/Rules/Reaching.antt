@@ -12,11 +12,12 @@ use lib.Pow.{pow-pos}
 use Rattle.flow.specs.Paths.{Edge, Joined}
 use Rattle.flow.proofs.Tests.{either, or-iff, and-iff}
 use Rattle.flow.proofs.Paths.{list-iff}
-use Rattle.routine.specs.Layout.{vertices}
+use Rattle.routine.specs.Layout.{vertices, entry}
 use Rattle.sets.specs.Sets.{has}
 use Rattle.sets.proofs.Laws.{has-zero, same}
-use Rattle.labels.specs.Events.{width, edgeBytes, entry, kind, initial, isInOrInout, event, version}
-use Rattle.labels.specs.Proper.{Proper}
+use Rattle.labels.specs.Events.{width, edgeBytes, event, version}
+use Rattle.routine.specs.Arrays.{kind, initial, isInOrInout}
+use Rattle.labels.proofs.Rules.Proper.{Proper}
 use Rattle.labels.specs.Reaching.{ArrivesBy, lastVersion, orInitial, Reaches, isReached, reachGives, reachPasses, reachSets, reachingOf}
 use Rattle.labels.specs.Uses.{isKept}
 use Rattle.labels.proofs.Rules.Arrivals.{reached-exact, last-none, Last, last-of, last-exact}

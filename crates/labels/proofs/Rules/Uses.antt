@@ -10,13 +10,14 @@ use lib.ListN.{getD}
 use Rattle.flow.specs.Paths.{Edge, Path, last, next}
 use Rattle.flow.proofs.Paths.{weaken, split-first}
 use Rattle.routine.specs.Actions.{isReference, isRemap}
-use Rattle.routine.specs.Layout.{vertices}
+use Rattle.routine.specs.Layout.{vertices, exit}
 use Rattle.routine.specs.declared.action.Action.{Action}
 use Rattle.sets.specs.Sets.{has}
 use Rattle.labels.specs.declared.Use.{Use}
 use Rattle.labels.specs.declared.Use.the-variants.{N, D, R, W}
-use Rattle.labels.specs.Events.{edgeBytes, exit, kind, event, isRead, isDefine, isWrite, needsValue}
-use Rattle.labels.specs.Proper.{Proper}
+use Rattle.labels.specs.Events.{edgeBytes, event, isRead, isDefine, isWrite, needsValue}
+use Rattle.routine.specs.Arrays.{kind}
+use Rattle.labels.proofs.Rules.Proper.{Proper}
 use Rattle.labels.specs.Uses.{Segment, UndefinedSegment, Meets, MeetsUndefined, Unused, Rule, exitUse, IsUse, useGives, usePasses, useSets, letterOf, useOf}
 use Rattle.labels.proofs.Rules.Events.{by-event}
 use Rattle.labels.proofs.Rules.Tables.{Finds, solved}

@@ -14,7 +14,7 @@ use Rattle.routine.specs.Layout.{vertices}
 use Rattle.sets.specs.Sets.{has}
 use Rattle.sets.proofs.Laws.{has-zero}
 use Rattle.labels.specs.Events.{width, everyVersion, edgeBytes, version}
-use Rattle.labels.specs.Proper.{Proper}
+use Rattle.labels.proofs.Rules.Proper.{Proper}
 use Rattle.labels.proofs.Rules.Events.{version-fits}
 use Rattle.labels.proofs.Rules.Tables.{table-all, Finds, solved}
 use Rattle.labels.proofs.Rules.Tests.{member-cond, member-single, has-full}

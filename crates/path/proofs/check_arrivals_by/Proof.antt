@@ -11,7 +11,7 @@ use Rattle.refusal.specs.declared.Verdict.{Verdict}
 use Rattle.routine.proofs.Laws.{Undecided, start, stop, next, done}
 use Rattle.path.specs.EdgeTable.{arrivalBy}
 use Rattle.path.specs.Paths.{steps, arrivalCheck, check32}
-use Rattle.path.proofs.EdgeTable.{table-length, arrivals-are}
+use Rattle.path.proofs.EdgeTable.{edge-table-length, arrivals-are}
 use Rattle.path.proofs.check_arrivals_by.Statement.{statement}
 use Rattle.path.proofs.check_arrivals_by.Tie as tie
 
@@ -43,7 +43,7 @@ loop-holds c = start _ _
 check-arrival-requires : tie.Need-check-arrival-requires Inv-loop μ-loop
 check-arrival-requires c κs =
     let s = c .before .before .before .before .before .before in
-    (ap length (s .pre .1 .0) ∙ table-length _ _, omega arith)
+    (ap length (s .pre .1 .0) ∙ edge-table-length _ _, omega arith)
 
 -- what one arrival says
 told : (c : tie.After-check-arrival Inv-loop μ-loop) → c .check-arrival .result ≡ arrivalCheck (c .before .before .before .before .before .before .before .args .file .now) (c .before .before .before .before .before .before .before .args .path .now) (c .before .before .loop .i + 1)

@@ -2,10 +2,11 @@
 -- Assumes nothing.
 use mathlib.Core.Path.{sym, ap, _∙_}
 use lib.ListN.{length}
-use Rattle.planbytes.specs.Plan.{planBytes}
-use Rattle.plan.proofs.Ways.{refused-way, read-way}
 use Rattle.refusal.specs.Replies.{replyOutcome}
-use Rattle.routine.proofs.Accepted.{accepted, unwritten}
+use Rattle.plan.specs.Calls.{planOf, planCheck, plannerCheck}
+use Rattle.planbytes.specs.Plan.{planBytes, planLength}
+use Rattle.labels.proofs.Rules.Demand.{demand2}
+use Rattle.routine.proofs.Accepted.{accepted, passed-read, refused-way, read-way, unwritten}
 use borrow.Author.Needs.{needs}
 use Rattle.plan.proofs.plan.Statement.{statement}
 use Rattle.plan.proofs.plan.Tie as tie
@@ -23,15 +24,17 @@ denied-requires : tie.Need-denied-requires
 denied-requires c κs = search needs
 
 returns : tie.Need-returns
+unfolding planOf planCheck
 returns c =
     let s = c .before .before .before .before .before .before in
-    let a = c .before .before .before .read in
+    let file = s .args .file .now in
     let e = c .before .enum-told .given .1 in
-    let same = c .denied .ensures ∙ refused-way (s .args .file .now) (length (s .args .out .now)) (a .ensures) e in
+    let same = c .denied .ensures ∙ refused-way file (c .before .before .before .read .ensures) (plannerCheck file (length (s .args .out .now))) (planLength file) e in
     record {
       answer = same;
       outcome = ap replyOutcome same;
-      buffer = unwritten (planBytes (s .args .file .now)) (s .args .out .now) (c .denied .ensures) e;
+      buffer = unwritten (planBytes file) (s .args .out .now) (c .denied .ensures) e;
+      demand = λ r. demand2 file (passed-read file r);
     }
 
 plan-read-requires : tie.Need-plan-read-requires
@@ -44,14 +47,17 @@ same-length : tie.Need-same-length
 same-length c = search needs
 
 returns-2 : tie.Need-returns-2
+unfolding planOf planCheck
 returns-2 c =
     let s = c .before .before .before .before .before .before .before .before .before .before in
+    let file = s .args .file .now in
     let p = c .before .before .plan-read .ensures in
-    let same = p .answer ∙ read-way (s .args .file .now) (length (s .args .out .now)) (c .before .before .before .before .before .before .before .read .ensures) (c .before .before .before .before .before .answer .given .1) in
+    let same = p .answer ∙ read-way file (c .before .before .before .before .before .before .before .read .ensures) (plannerCheck file (length (s .args .out .now))) (planLength file) (c .before .before .before .before .before .answer .given .1) in
     record {
       answer = same;
       outcome = ap replyOutcome same;
       buffer = p .buffer;
+      demand = λ r. demand2 file (passed-read file r);
     }
 
 pub plan-spec : {M : Type 1} → statement M

@@ -40,9 +40,8 @@ same-length-5 c = c .before .before .before .before .before .before .kept .kept 
 returns : tie.Need-returns
 returns c = record {
   versions-are = c .before .before .before .before .before .before .before .before .before .before .before .before .before .before .before .before .before .before .before .before .before .before .before .before .before .before .before .before .before .before .before .before .before .before .before .before .before .before .before .before .before .before .pre .1 .1 .0;
-  letters-are = c .before .before .before .before .before .before .before .before .before .before .before .before .before .before .before .before .before .before .before .before .before .before .before .before .before .before .before .before .before .letters .ensures;
   reaching-are = c .before .before .before .before .before .before .before .before .before .before .before .before .before .before .before .before .before .reaching2 .ensures;
-  kept-are = c .before .before .before .before .before .before .kept .ensures;
+  letters-and-kept = record { letters-are = c .before .before .before .before .before .before .before .before .before .before .before .before .before .before .before .before .before .before .before .before .before .before .before .before .before .before .before .before .before .letters .ensures; kept-are = c .before .before .before .before .before .before .kept .ensures };
 }
 
 pub tabulate-spec : {M : Type 1} → statement M

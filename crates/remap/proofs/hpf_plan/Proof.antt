@@ -23,6 +23,7 @@ returns c =
     record {
       answer = c .reply-outcome .ensures ∙ p .outcome;
       buffer = p .buffer ∙ ap (λ (r : Reply). planInto r (a .file .now) (a .out .now)) (p .answer);
+      demand = p .demand;
     }
 
 pub hpf-plan-spec : {M : Type 1} → statement M

@@ -3,9 +3,10 @@
 use mathlib.Core.Path.{sym, ap, _∙_}
 use lib.ListN.{length}
 use Rattle.refusal.specs.Replies.{replyOutcome}
-use Rattle.routine.proofs.Accepted.{accepted, unwritten}
-use Rattle.walk.specs.Report.{reportBytes}
-use Rattle.run.proofs.Ways.{refused-way, read-way, no-demand}
+use Rattle.routine.proofs.Accepted.{accepted, refused-way, read-way, unwritten}
+use Rattle.walk.specs.Report.{reportBytes, reportLength}
+use Rattle.run.specs.Calls.{runOf, runCheck, runnerCheck}
+use Rattle.run.proofs.Ways.{no-demand}
 use borrow.Author.Needs.{needs}
 use Rattle.run.proofs.run.Statement.{statement}
 use Rattle.run.proofs.run.Tie as tie
@@ -23,10 +24,11 @@ denied-requires : tie.Need-denied-requires
 denied-requires c κs = search needs
 
 returns : tie.Need-returns
+unfolding runOf runCheck
 returns c =
     let a = c .before .before .before .before .before .before .before .args in
     let e = c .before .enum-told .given .1 in
-    let same = c .denied .ensures ∙ refused-way (a .file .now) (a .path .now) (length (a .out .now)) (c .before .before .before .read .ensures) e in
+    let same = c .denied .ensures ∙ refused-way (a .file .now) (c .before .before .before .read .ensures) (runnerCheck (a .file .now) (a .path .now) (length (a .out .now))) (reportLength (a .file .now) (a .path .now)) e in
     record {
       answer = same;
       outcome = ap replyOutcome same;
@@ -43,10 +45,11 @@ same-length : tie.Need-same-length
 same-length c = search needs
 
 returns-2 : tie.Need-returns-2
+unfolding runOf runCheck
 returns-2 c =
     let a = c .before .before .before .before .before .before .before .before .before .before .before .args in
     let r = c .before .before .run-read .ensures in
-    let same = r .answer ∙ read-way (a .file .now) (a .path .now) (length (a .out .now)) (c .before .before .before .before .before .before .before .read .ensures) (c .before .before .before .before .before .answer .given .1) in
+    let same = r .answer ∙ read-way (a .file .now) (c .before .before .before .before .before .before .before .read .ensures) (runnerCheck (a .file .now) (a .path .now) (length (a .out .now))) (reportLength (a .file .now) (a .path .now)) (c .before .before .before .before .before .answer .given .1) in
     record {
       answer = same;
       outcome = ap replyOutcome same;

@@ -8,7 +8,7 @@ use native.Mathlib.Omega.{arith}
 use borrow.Author.Needs.{needs}
 use lib.ListN.{length, set, length-append}
 use Rattle.words.proofs.Written.{wrote-length, write-one}
-use Rattle.listing.specs.Text.{column}
+use Rattle.listing.specs.Text.{columnText}
 use Rattle.listing.proofs.Cells.{column-most}
 use Rattle.listing.proofs.text.put_cell.Statement.{statement}
 use Rattle.listing.proofs.text.put_cell.Tie as tie
@@ -20,7 +20,7 @@ fits : (c : tie.After-put-column) → length (c .put-column .last .0) ≡ length
 fits c =
     let s = c .before .before .before in
     ap length (c .put-column .ensures .1)
-    ∙ wrote-length (s .args .out .now) (column (s .args .form) (s .args .n)) (omega (arith, column-most (s .args .form) (s .args .n), s .pre))
+    ∙ wrote-length (s .args .out .now) (columnText (s .args .form) (s .args .n)) (omega (arith, column-most (s .args .form) (s .args .n), s .pre))
 
 separator-after-requires : tie.Need-separator-after-requires
 separator-after-requires c κs = search needs
@@ -42,7 +42,7 @@ returns : tie.Need-returns
 returns c =
     let s = c .before .before .before .before .before .before in
     let p = c .before .before .before .put-column .ensures in
-    let text = column (s .args .form) (s .args .n) in
+    let text = columnText (s .args .form) (s .args .n) in
     let last : ℕ = cond (s .args .last) 10 32 in (
       omega (arith, p .0, length-append text (last ∷ [])),
       ap₂ (λ (l : List ℕ) (b : ℕ). set l (c .before .before .before .put-column .result) b) (p .1) (c .separator-after .ensures)

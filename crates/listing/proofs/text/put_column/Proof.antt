@@ -7,25 +7,25 @@ use borrow.Author.Tests.{ne-eqb}
 use borrow.Author.Needs.{needs}
 use lib.ListN.{length}
 use Rattle.words.specs.Tables.{wrote}
-use Rattle.listing.specs.Text.{CHARACTER, VERSION, MASK, decimal, mask, version, column}
+use Rattle.listing.specs.Text.{CHARACTER, VERSION, MASK, decimal, mask, versionText, columnText}
 use Rattle.listing.proofs.text.put_column.Statement.{statement}
 use Rattle.listing.proofs.text.put_column.Tie as tie
 
 module _ {form : ℕ} (n : ℕ) where
-  column-character : form ≡ CHARACTER → n % 256 ∷ [] ≡ column form n
-  unfolding column
-  column-character e = ap (λ (f : ℕ). column f n) (sym e)
+  column-character : form ≡ CHARACTER → n % 256 ∷ [] ≡ columnText form n
+  unfolding columnText
+  column-character e = ap (λ (f : ℕ). columnText f n) (sym e)
 
-  column-version : form ≡ VERSION → version n ≡ column form n
-  unfolding column
-  column-version e = ap (λ (f : ℕ). column f n) (sym e)
+  column-version : form ≡ VERSION → versionText n ≡ columnText form n
+  unfolding columnText
+  column-version e = ap (λ (f : ℕ). columnText f n) (sym e)
 
-  column-mask : form ≡ MASK → mask n ≡ column form n
-  unfolding column
-  column-mask e = ap (λ (f : ℕ). column f n) (sym e)
+  column-mask : form ≡ MASK → mask n ≡ columnText form n
+  unfolding columnText
+  column-mask e = ap (λ (f : ℕ). columnText f n) (sym e)
 
-  column-number : (form ≡ CHARACTER → ⊥) → (form ≡ VERSION → ⊥) → (form ≡ MASK → ⊥) → decimal n ≡ column form n
-  unfolding column
+  column-number : (form ≡ CHARACTER → ⊥) → (form ≡ VERSION → ⊥) → (form ≡ MASK → ⊥) → decimal n ≡ columnText form n
+  unfolding columnText
   column-number c v m = rw (ne-eqb form CHARACTER c, ne-eqb form VERSION v, ne-eqb form MASK m)
 
 cast-put-character : tie.Need-cast-put-character

@@ -9,16 +9,16 @@ use borrow.Author.Needs.{needs}
 use lib.Dec.{eqb}
 use lib.ListN.{length}
 use Rattle.words.specs.Tables.{wrote}
-use Rattle.listing.specs.Text.{decimal, version}
+use Rattle.listing.specs.Text.{decimal, versionText}
 use Rattle.listing.proofs.text.put_version.Statement.{statement}
 use Rattle.listing.proofs.text.put_version.Tie as tie
 
-version-none : (n : ℕ) → eqb n 255 ≡ true → 45 ∷ [] ≡ version n
-unfolding version
+version-none : (n : ℕ) → eqb n 255 ≡ true → 45 ∷ [] ≡ versionText n
+unfolding versionText
 version-none n e = ap (λ t. cond t (45 ∷ []) (decimal n)) (sym e)
 
-version-some : (n : ℕ) → eqb n 255 ≡ false → decimal n ≡ version n
-unfolding version
+version-some : (n : ℕ) → eqb n 255 ≡ false → decimal n ≡ versionText n
+unfolding versionText
 version-some n e = ap (λ t. cond t (45 ∷ []) (decimal n)) (sym e)
 
 put-character-requires : tie.Need-put-character-requires

@@ -5,9 +5,9 @@ use mathlib.Core.Bool.{Bool, cond}
 use mathlib.Core.List.{List}
 use Prim.Native.Nat.{ℕ, _^_}
 use borrow.Author.Needs.{needs}
-use Rattle.labels.specs.Events.{entry, isInOrInout}
+use Rattle.routine.specs.Layout.{entry}
 use Rattle.labels.specs.Reaching.{reachingOf}
-use Rattle.routine.specs.Arrays.{arrayOf}
+use Rattle.routine.specs.Arrays.{arrayOf, isInOrInout}
 use Rattle.routine.specs.declared.array.ArrayRecord.{ArrayRecord}
 use Rattle.passes.proofs.Bounds.{initial-below}
 use Rattle.passes.proofs.reaching.at_entry.Statement.{statement}

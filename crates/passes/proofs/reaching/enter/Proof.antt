@@ -4,9 +4,8 @@ use mathlib.Core.Path.{_≡_, refl, ap, _∙_}
 use Prim.Native.Nat.{_-_, _≤_}
 use native.Mathlib.Omega.{arith}
 use lib.ListN.{length, length-set}
-use Rattle.labels.specs.Events.{entry}
 use Rattle.labels.specs.Reaching.{reachingOf}
-use Rattle.routine.specs.Layout.{arrays}
+use Rattle.routine.specs.Layout.{arrays, entry}
 use Rattle.words.specs.Tables.{withRow}
 use Rattle.words.proofs.Rows.{row-next}
 use Rattle.passes.proofs.reaching.enter.Statement.{statement}

@@ -5,10 +5,10 @@ use Prim.Native.Nat.{_-_, _≤_}
 use native.Mathlib.Omega.{arith}
 use borrow.Author.Needs.{needs}
 use lib.ListN.{length, length-set}
-use Rattle.labels.specs.Events.{exit, kind}
+use Rattle.routine.specs.Arrays.{kind}
 use Rattle.labels.specs.Letters.{letterByte}
 use Rattle.labels.specs.Uses.{exitUse}
-use Rattle.routine.specs.Layout.{arrays}
+use Rattle.routine.specs.Layout.{arrays, exit}
 use Rattle.routine.specs.declared.array.ArrayRecord.{ArrayRecord}
 use Rattle.words.specs.Tables.{withRow}
 use Rattle.words.proofs.Rows.{row-next}
@@ -35,8 +35,8 @@ loop-holds c = (omega arith, refl, refl)
 record-of-requires : tie.Need-record-of-requires Inv-loop μ-loop
 record-of-requires c κs = let s = c .before .before .before .before .before in (s .pre .0 .well .laid, omega (arith, s .pre .0 .heads .arrays-are))
 
-exit-use-requires : tie.Need-exit-use-requires Inv-loop μ-loop
-exit-use-requires c κs = search needs
+at-exit-requires : tie.Need-at-exit-requires Inv-loop μ-loop
+at-exit-requires c κs = search needs
 
 letter-requires : tie.Need-letter-requires Inv-loop μ-loop
 letter-requires c κs = search needs
@@ -63,7 +63,7 @@ loop-again c =
       length-set (l .loop .letters) _ _ ∙ l .loop .inv .1,
       row-next (s .args .letters .now) (exit file) (λ b. letterByte (exitUse (kind file b))) (l .loop .a) (l .loop .inv .2)
           (omega (arith, is .vertices-are))
-          (c .letter .ensures ∙ ap letterByte (c .before .exit-use .ensures ∙ ap (λ (r : ArrayRecord). exitUse (r .kind)) (c .before .before .record-of .ensures))),
+          (c .letter .ensures ∙ ap letterByte (c .before .at-exit .ensures ∙ ap (λ (r : ArrayRecord). exitUse (r .kind)) (c .before .before .record-of .ensures))),
     )
 
 same-length : tie.Need-same-length Inv-loop μ-loop
@@ -87,7 +87,7 @@ leave-spec =
     mul-row
     loop-holds
     record-of-requires
-    exit-use-requires
+    at-exit-requires
     letter-requires
     add-letters
     slice-write-letters

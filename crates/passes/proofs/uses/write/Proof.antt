@@ -20,14 +20,14 @@ abbrev μ-loop : tie.MeasureT-loop
 loop-holds : tie.Need-loop-holds Inv-loop μ-loop
 loop-holds c = begin _ (c .before .before .pre)
 
-mul-letter-of : tie.Need-mul-letter-of Inv-loop μ-loop
-mul-letter-of c = omega arith
+mul-of-set : tie.Need-mul-of-set Inv-loop μ-loop
+mul-of-set c = omega arith
 
-shared-slice-read-letter-of : tie.Need-shared-slice-read-letter-of Inv-loop μ-loop
-shared-slice-read-letter-of c = omega arith
+shared-slice-read-of-set : tie.Need-shared-slice-read-of-set Inv-loop μ-loop
+shared-slice-read-of-set c = omega arith
 
-letter-of-requires : tie.Need-letter-of-requires Inv-loop μ-loop
-letter-of-requires c κs = search needs
+of-set-requires : tie.Need-of-set-requires Inv-loop μ-loop
+of-set-requires c κs = search needs
 
 letter-requires : tie.Need-letter-requires Inv-loop μ-loop
 letter-requires c κs = search needs
@@ -42,7 +42,7 @@ loop-less : tie.Need-loop-less Inv-loop μ-loop
 loop-less c = omega arith
 
 loop-again : tie.Need-loop-again Inv-loop μ-loop
-loop-again c = onward (c .before .before .before .before .loop .inv) (c .before .before .before .loop-test .taken) (c .letter .ensures ∙ ap letterByte (c .before .letter-of .ensures))
+loop-again c = onward (c .before .before .before .before .loop .inv) (c .before .before .before .loop-test .taken) (c .letter .ensures ∙ ap letterByte (c .before .of-set .ensures))
 
 same-length : tie.Need-same-length Inv-loop μ-loop
 same-length c = omega arith
@@ -57,9 +57,9 @@ write-spec =
     Inv-loop
     μ-loop
     loop-holds
-    mul-letter-of
-    shared-slice-read-letter-of
-    letter-of-requires
+    mul-of-set
+    shared-slice-read-of-set
+    of-set-requires
     letter-requires
     slice-write-letters
     add-i

@@ -1,4 +1,4 @@
--- `mark_all` meets its contract: the invariant has the edges passed. The measure is what is left of them.
+-- `put_edges` meets its contract: the invariant has the edges passed. The measure is what is left of them.
 -- Assumes nothing.
 use mathlib.Core.Path.{_≡_, sym, ap, ap₂, subst, _∙_}
 use Prim.Native.Nat.{_-_, _≤_, _<_}
@@ -7,10 +7,10 @@ use borrow.Author.Needs.{needs}
 use lib.ListN.{length}
 use Rattle.routine.specs.Layout.{edges}
 use Rattle.routine.specs.declared.edge.Edge.{Edge}
-use Rattle.path.specs.EdgeTable.{marked, edgeTable}
-use Rattle.path.proofs.EdgeTable.{table-length, table-none, table-more, edge-small}
-use Rattle.path.proofs.mark_all.Statement.{statement}
-use Rattle.path.proofs.mark_all.Tie as tie
+use Rattle.path.specs.EdgeTable.{withEdge, edgeTable}
+use Rattle.path.proofs.EdgeTable.{edge-table-length, edge-table-none, edge-table-more, edge-small}
+use Rattle.path.proofs.put_edges.Statement.{statement}
+use Rattle.path.proofs.put_edges.Tie as tie
 
 abbrev Inv-loop : tie.InvT-loop
 Inv-loop file h table₀ n i₀ table i = (i ≤ edges file) × (table ≡ edgeTable file i)
@@ -19,18 +19,18 @@ abbrev μ-loop : tie.MeasureT-loop
 μ-loop file h table₀ n i₀ table i = n - i
 
 long : (c : tie.At-loop Inv-loop μ-loop) → length (c .loop .table) ≡ 4096
-long c = ap length (c .loop .inv .1) ∙ table-length (c .before .before .before .args .file .now) (c .loop .i)
+long c = ap length (c .loop .inv .1) ∙ edge-table-length (c .before .before .before .args .file .now) (c .loop .i)
 
 loop-holds : tie.Need-loop-holds Inv-loop μ-loop
 loop-holds c =
     let s = c .before .before in
-    (omega arith, s .pre .1 ∙ table-none (s .args .file .now))
+    (omega arith, s .pre .1 ∙ edge-table-none (s .args .file .now))
 
 at-requires : tie.Need-at-requires Inv-loop μ-loop
 at-requires c κs = search needs
 
-mark-requires : tie.Need-mark-requires Inv-loop μ-loop
-mark-requires c κs =
+put-edge-requires : tie.Need-put-edge-requires Inv-loop μ-loop
+put-edge-requires c κs =
     let l = c .before .before .before in
     let s = l .before .before .before in
     let small = edge-small (s .pre .0 .well) (l .loop .i) (omega arith) in
@@ -47,17 +47,17 @@ loop-again c =
     let m = c .before .before in
     let l = m .before .before .before .before in
     let file = l .before .before .before .args .file .now in
-    (omega arith, m .mark .ensures ∙ ap₂ marked (l .loop .inv .1) (m .before .at .ensures) ∙ table-more file (l .loop .i))
+    (omega arith, m .put-edge .ensures ∙ ap₂ withEdge (l .loop .inv .1) (m .before .at .ensures) ∙ edge-table-more file (l .loop .i))
 
 same-length : tie.Need-same-length Inv-loop μ-loop
 same-length c =
     let s = c .before .before .before .before in
-    long (c .before) ∙ sym (table-length (s .args .file .now) 0) ∙ ap length (sym (s .pre .1 ∙ table-none (s .args .file .now)))
+    long (c .before) ∙ sym (edge-table-length (s .args .file .now) 0) ∙ ap length (sym (s .pre .1 ∙ edge-table-none (s .args .file .now)))
 
 returns : tie.Need-returns Inv-loop μ-loop
 returns c =
     let l = c .before in
     l .loop .inv .1 ∙ ap (edgeTable (l .before .before .before .args .file .now)) (omega arith)
 
-pub mark-all-spec : {M : Type 1} → statement M
-mark-all-spec = tie.close (tie.spec Inv-loop μ-loop loop-holds at-requires mark-requires add-i loop-less loop-again same-length returns)
+pub put-edges-spec : {M : Type 1} → statement M
+put-edges-spec = tie.close (tie.spec Inv-loop μ-loop loop-holds at-requires put-edge-requires add-i loop-less loop-again same-length returns)

@@ -1,7 +1,7 @@
--- `check` meets its contract: the order and the tables of events are made, and 20 and 21 are answered by them.
+-- `prepare` meets its contract: the order and the tables of events are made, and 20 and 21 are answered by them.
 -- Assumes nothing.
-use Rattle.run.proofs.check.Statement.{statement}
-use Rattle.run.proofs.check.Tie as tie
+use Rattle.checks.proofs.prepare.Statement.{statement}
+use Rattle.checks.proofs.prepare.Tie as tie
 
 -- from each call to the one before
 abbrev start : tie.After-order → tie.Start
@@ -55,10 +55,10 @@ returns : tie.Need-returns
 returns c =
     let k = c .before .before .before .before .before .before .before .before in
     let t = tabled k in
-    (k .check .ensures .answers, (ordered t .order .ensures, t .tabulate .ensures))
+    (ordered t .order .ensures, (t .tabulate .ensures .0, (t .tabulate .ensures .1, k .check .ensures)))
 
-pub check-spec : {M : Type 1} → statement M
-check-spec =
+pub prepare-spec : {M : Type 1} → statement M
+prepare-spec =
     tie.close
     (tie.spec
     order-requires

@@ -1,13 +1,13 @@
--- `mark` meets its contract: one word is written.
+-- `put_edge` meets its contract: one word is written.
 -- Assumes nothing.
 use mathlib.Core.Path.{ap}
 use Prim.Native.Nat.{ℕ}
 use borrow.Author.Needs.{needs}
 use lib.Bits.{bitOr}
 use lib.ListN.{getD, set}
-use Rattle.path.specs.EdgeTable.{wordAt, marked}
-use Rattle.path.proofs.mark.Statement.{statement}
-use Rattle.path.proofs.mark.Tie as tie
+use Rattle.path.specs.EdgeTable.{wordAt, withEdge}
+use Rattle.path.proofs.put_edge.Statement.{statement}
+use Rattle.path.proofs.put_edge.Tie as tie
 
 mul-at : tie.Need-mul-at
 mul-at c = search needs
@@ -37,14 +37,14 @@ same-length : tie.Need-same-length
 same-length c = search needs
 
 returns : tie.Need-returns
-unfolding marked
+unfolding withEdge
 returns c =
     let a = c .before .before .before .before .before .before .args in
     let at = wordAt (a .e .from) (a .e .to) in
     ap (λ (x : ℕ). set (a .table .now) at (bitOr (getD (a .table .now) at 0) x)) (c .single .ensures)
 
-pub mark-spec : {M : Type 1} → statement M
-mark-spec =
+pub put-edge-spec : {M : Type 1} → statement M
+put-edge-spec =
     tie.close
     (tie.spec
     mul-at

@@ -1,8 +1,8 @@
--- `letter_of` meets its contract, by cases of the tests.
+-- `letter::of_set` meets its contract, by cases of the tests.
 -- Assumes nothing.
 use borrow.Author.Needs.{needs}
-use Rattle.passes.proofs.uses.letter_of.Statement.{statement}
-use Rattle.passes.proofs.uses.letter_of.Tie as tie
+use Rattle.labels.proofs.letter.of_set.Statement.{statement}
+use Rattle.labels.proofs.letter.of_set.Tie as tie
 
 member-requires : tie.Need-member-requires
 member-requires c κs = search needs
@@ -34,5 +34,5 @@ returns-4 c =
     let a = b .before .before in
     rw (← a .before .member .ensures, a .if1 .left, ← b .before .member2 .ensures, b .if2 .left, ← c .before .before .member3 .ensures, ← c .before .member4 .ensures, c .if3 .left)
 
-pub letter-of-spec : {M : Type 1} → statement M
-letter-of-spec = tie.close (tie.spec member-requires returns member-requires-2 returns-2 member-requires-3 member-requires-4 returns-3 returns-4)
+pub of-set-spec : {M : Type 1} → statement M
+of-set-spec = tie.close (tie.spec member-requires returns member-requires-2 returns-2 member-requires-3 member-requires-4 returns-3 returns-4)

@@ -1,9 +1,9 @@
--- `is_marked` meets its contract, by cases of the tests.
+-- `has_edge` meets its contract, by cases of the tests.
 -- Assumes nothing.
 use borrow.Author.Needs.{needs}
 use borrow.Author.Tests.{lt-ltb, le-ltb}
-use Rattle.path.proofs.is_marked.Statement.{statement}
-use Rattle.path.proofs.is_marked.Tie as tie
+use Rattle.path.proofs.has_edge.Statement.{statement}
+use Rattle.path.proofs.has_edge.Tie as tie
 
 returns : tie.Need-returns
 returns c = rw (le-ltb (c .before .before .args .v) 256 (c .if1 .taken))
@@ -37,8 +37,8 @@ returns-3 c =
     let a = e .before .before .before .args in
     rw (lt-ltb (a .v) 256 (e .before .if1 .left), lt-ltb (a .w) 256 (e .if2 .left)) (c .member .ensures)
 
-pub is-marked-spec : {M : Type 1} → statement M
-is-marked-spec =
+pub has-edge-spec : {M : Type 1} → statement M
+has-edge-spec =
     tie.close
     (tie.spec
     returns

@@ -1,8 +1,8 @@
--- `passes_by` meets its contract.
+-- `event::passes_by` meets its contract.
 -- Assumes nothing.
 use borrow.Author.Tests.{ne-eqb}
-use Rattle.passes.proofs.uses.passes_by.Statement.{statement}
-use Rattle.passes.proofs.uses.passes_by.Tie as tie
+use Rattle.labels.proofs.event.passes_by.Statement.{statement}
+use Rattle.labels.proofs.event.passes_by.Tie as tie
 
 returns : tie.Need-returns
 returns c = rw (c .if1 .taken)

@@ -1,0 +1,36 @@
+-- Demand 2, one claim about a whole routine: its labels are exactly those of the rules; a remapping before the exit is dropped exactly if
+-- no path from it uses its array before the next one; a reference is refused as ambiguous exactly if two paths bring different versions.
+-- Assumes nothing.
+use mathlib.Core.Path.{_≡_}
+use mathlib.Core.List.{List}
+use mathlib.Core.Logic.{_↔_}
+use Prim.Native.Nat.{ℕ, _<_}
+use lib.Dec.{T}
+use Rattle.refusal.specs.declared.Refusal.{Refusal}
+use Rattle.refusal.specs.declared.Refusal.the-variants.{AmbiguousReference}
+use Rattle.refusal.specs.declared.Verdict.the-variants.{Passed, Failed}
+use Rattle.routine.specs.Layout.{arrays, vertices, exit}
+use Rattle.sets.specs.Sets.{has}
+use Rattle.labels.specs.declared.Use.{Use}
+use Rattle.labels.specs.Ambiguity.{Ambiguous}
+use Rattle.labels.specs.Checks.{FirstFault, check21}
+use Rattle.labels.specs.Events.{isLabel}
+use Rattle.labels.specs.Kept.{InKept, keptOf}
+use Rattle.labels.specs.Reaching.{Reaches, reachingOf}
+use Rattle.labels.specs.Uses.{IsUse, useOf, Unused, isKept}
+
+pub record Demand2 (file : List ℕ) : Type 0 where
+  -- the letter of a label is the one whose rule holds, and no other's rule does
+  pub letters : (a v : ℕ) → a < arrays file → (u : Use) → IsUse file a v u ↔ (u ≡ useOf file a v)
+  -- its reaching set has the versions that reach it, and no others
+  pub reaching : (a v : ℕ) → a < arrays file → (k : ℕ) → T (has (reachingOf file a v) k) ↔ Reaches file a v k
+  -- its kept set has the versions that it keeps, and no others
+  pub kept : (a v : ℕ) → a < arrays file → (k : ℕ) → T (has (keptOf file a v) k) ↔ InKept file a v k
+  -- a label before the exit is dropped exactly if no segment from it meets a reference
+  pub dropped : (a v : ℕ) → a < arrays file → T (isLabel file a v) → (v ≡ exit file → ⊥) → (T (isKept file a v) → ⊥) ↔ Unused file a v
+  -- 21 is passed exactly if no reference is ambiguous
+  pub unambiguous : (check21 file ≡ Passed) ↔ ((v a : ℕ) → v < vertices file → a < arrays file → Ambiguous file a v → ⊥)
+  -- else its places are those of the first that is, by vertex, then by array
+  pub ambiguous :
+      (r : Refusal) → (check21 file ≡ Failed r)
+      ↔ ((v : ℕ) × (a : ℕ) × FirstFault (λ v a. Ambiguous file a v) file v a × (r ≡ AmbiguousReference v a))
