@@ -1,5 +1,5 @@
-// The order in which the solver takes the edges: by the place of the vertex that they leave in a reverse postorder, so that a round by
-// rising place carries a fact along every path without a loop, whatever the numbers of the vertices.
+// The order in which the solver takes the edges: by their numbers where few of them fall, else by the place of the vertex that they leave
+// in a reverse postorder, so that a round by rising place carries a fact along every path without a retreating edge.
 // Vertices are below 256: the low byte of an edge's end names it.
 mod rising;
 mod search;
@@ -39,14 +39,14 @@ fn by_search(edges: &[u8], order: &mut [u16])
     search::settle_all(edges, order, &mut place);
 }
 
-// Fills in an order of the edges: by number if that is good, else by searches.
+// Fills in an order of the edges: by number if that is good enough, else by searches.
 pub fn fill(edges: &[u8], order: &mut [u16])
     requires { ⌜ edgeCount (now edges) ≤ 1024 ⌝ }
     requires { ⌜ length (now order) ≡ edgeCount (now edges) ⌝ }
     ensures { λ r. ⌜ Order (edgeCount (now (edges .entry))) (now (order .exit)) ⌝ }
 {
     identity(order);
-    if rising::rises(edges) {
+    if rising::is_good(edges) {
         return;
     }
     by_search(edges, order);

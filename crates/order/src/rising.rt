@@ -1,26 +1,48 @@
-// Whether the edges rise, so that they may be taken by their numbers.
+// Whether the edges may be taken by their numbers.
+ghost use mathlib.Core.Path.{_≡_};
+ghost use mathlib.Core.Bool.{cond, _||_};
+ghost use Prim.Native.Nat.{_≤_, _<_};
+ghost use lib.Dec.{leb, ltb};
+ghost use Rattle.flow.specs.Paths.{edgeCount};
+ghost use Rattle.order.specs.Falling.{isFalling};
+ghost use Rattle.words.specs.Sums.{countOf};
 
-// The lowest vertex with an edge to each vertex, in a table of zeros. Edges rise by the vertex that they leave: the last store is the lowest.
-fn fill_lowest(edges: &[u8], lowest: &mut [u8; 256]) {
-    let count = edges.len() / 4;
-    for j in 0..count {
-        let at = 4 * (count - 1 - j);
-        lowest[crate::index(edges[at + 2])] = edges[at];
+// So few falling edges cost few rounds.
+const FEW: usize = 16;
+
+// Of so many edges the search costs more than it saves on most routines.
+const MANY: usize = 768;
+
+// 1 if edge i leads to a vertex below the one that it leaves, else 0.
+fn falling(edges: &[u8], i: usize) -> usize
+    requires { ⌜ i < edgeCount (now edges) ⌝ }
+    ensures { λ r. ⌜ r ≡ cond (isFalling (now (edges .entry)) i) 1 0 ⌝ }
+{
+    if words::at(edges, 4 * i + 2) < words::at(edges, 4 * i) {
+        return 1;
     }
+    0
 }
 
-// Whether each vertex but the entry has a lower one in the table.
-fn all_lower(lowest: &[u8; 256]) -> bool {
-    let mut lower = true;
-    for v in 1..256 {
-        lower = (lowest[v] < v as u8) & lower;
+// How many edges fall.
+fn count_falling(edges: &[u8]) -> usize
+    requires { ⌜ edgeCount (now edges) ≤ 1024 ⌝ }
+    ensures { λ r. ⌜ r ≡ countOf (isFalling (now (edges .entry))) (edgeCount (now (edges .entry))) ⌝ }
+{
+    let n = edges.len() / 4;
+    let mut count = 0;
+    let mut i = 0;
+    while i < n {
+        count += falling(edges, i);
+        i += 1;
     }
-    lower
+    count
 }
 
-// Whether each vertex that edges enter is entered from a lower one: a round by rising number then carries a fact from the entry to all.
-pub fn rises(edges: &[u8]) -> bool {
-    let mut lowest = [0u8; 256];
-    fill_lowest(edges, &mut lowest);
-    all_lower(&lowest)
+// Whether few edges fall, or there are many of them.
+pub fn is_good(edges: &[u8]) -> bool
+    requires { ⌜ edgeCount (now edges) ≤ 1024 ⌝ }
+    ensures { λ r. ⌜ r ≡ (ltb 768 (edgeCount (now (edges .entry))) || leb (countOf (isFalling (now (edges .entry))) (edgeCount (now (edges .entry)))) 16) ⌝ }
+{
+    (edges.len() / 4 > MANY) | (count_falling(edges) <= FEW)
 }

@@ -16,8 +16,8 @@ first c = subst (λ (n : ℕ). Identity n (c .identity .last .0)) (c .before .be
 identity-requires : tie.Need-identity-requires
 identity-requires c κs = search needs
 
-rises-requires : tie.Need-rises-requires
-rises-requires c κs = search needs
+is-good-requires : tie.Need-is-good-requires
+is-good-requires c κs = search needs
 
 same-length : tie.Need-same-length
 same-length c = search needs
@@ -41,7 +41,7 @@ fill-spec =
     tie.close
     (tie.spec
     identity-requires
-    rises-requires
+    is-good-requires
     same-length
     returns
     by-search-requires
