@@ -1,36 +1,53 @@
-/* Array remapping by copies: planner and run-time.
+/* Array remapping by copies: hpf_plan plans the copies of a routine, hpf_run runs a path through it.
  *
- * Two calls. Both read bytes that the caller lends and write bytes into a buffer that the caller lends. They keep no state and
- * take no memory of their own but at most 48 KiB of stack: any number of threads may call them at once, each with its own
- * buffers. Every call ends.
+ * Memory    A call reads the bytes and writes the buffer that its caller lends. It keeps no state and takes no heap,
+ *           and less than 48 KiB of stack. Any number of threads may call at once, each with a buffer of its own.
+ *           Every call ends.
+ * Pointers  Each points to as many bytes as the length beside it says; where that is 0 it may be null. The buffer
+ *           overlaps neither the routine nor the path; these two may overlap.
+ * Numbers   In all formats 16-bit numbers are unsigned, low byte first. Bytes, arrays, versions, vertices and
+ *           indices count from 0, the steps of a path from 1. A set of versions has 16 bits, bit k for version k.
  *
- * Each pointer is that of as many bytes as the length beside it says, or null if that length is 0. The buffer that a call writes
- * must not overlap the bytes that it reads.
+ * What a call answers; a number with two reasons has a line for each.
  *
- * 16-bit numbers in all formats are unsigned, low byte first.
+ *   number  call      what it says                                            first                       second
+ *   ------  --------  ------------------------------------------------------  --------------------------  ------
+ *      0    both      done                                                    length written              0
  *
- * What a call answers, in `number`:
+ *   The library's caller
+ *      1    hpf_plan  the buffer is too short                                 length needed               0
+ *      2    hpf_run   the buffer is too short                                 length needed               0
  *
- *   number  who can cause it        what it says                                   first               second
- *   ------  ----------------------  ---------------------------------------------  ------------------  ------
- *      0    -                       done                                           length written      0
- *      1    the library's caller    plan buffer too short                          needed length       0
- *      2    the library's caller    report buffer too short                        needed length       0
- *     10    the file's writer       under 18 bytes; or wrong mark                  length; 0           0
- *     11    the file's writer       edition is not 1                               4                   0
- *     12    the file's writer       count outside its limits                       its first byte      0
- *     13    the file's writer       offset wrong; or length wrong                  its first byte; 18  0
- *     14    the file's writer       array byte                                     the byte            0
- *     15    the file's writer       action byte                                    the byte            0
- *     16    the file's writer       edge                                           its first byte      0
- *     20    the programmer          define or modify of an in argument             vertex              array
- *     21    the programmer          ambiguous reference                            vertex              array
- *     30    the path's writer       length 0 or above 4,096                        length              0
- *     31    the path's writer       first vertex not the entry                     0                   0
- *     32    the path's writer       no such edge                                   index in the path   0
+ *   The writer of the routine file
+ *     10    both      the file has under 18 bytes                             its length                  0
+ *                     its mark is not `HPFR`                                  0                           0
+ *     11    both      the edition is not 1                                    4                           0
+ *     12    both      a count is outside its limits                           its first byte: 8, 12, 16   0
+ *     13    both      an offset is wrong                                      its first byte: 6, 10, 14   0
+ *                     the file does not end with its last edge                18                          0
+ *     14    both      array: kind above 3, versions not 1 to 16, initial      the byte                    0
+ *                     version not below them, or last byte not zero
+ *     15    both      action: unknown, version not below the array's          the byte                    0
+ *                     versions, not 00 at entry or exit, or a reference
+ *                     where an earlier byte of its vertex is a remapping,
+ *                     or the other way round
+ *     16    both      edge: an end not below the vertex count, into the       its first byte              0
+ *                     entry, out of the exit, or not above the edge before
  *
- * The lowest number wins, but that 1 and 2 come last; within one number the lowest place wins. A call that does not answer 0
- * writes no byte. One that answers 0 writes `first` bytes and leaves the rest of the buffer as it was.
+ *   The routine's programmer
+ *     20    both      an in argument is defined or modified                   vertex                      array
+ *     21    both      a reference is ambiguous: two paths from the entry      vertex                      array
+ *                     bring different versions to it
+ *
+ *   The writer of the path
+ *     30    hpf_run   no vertex, or more than 4,096                           how many vertices           0
+ *     31    hpf_run   the first vertex is not the entry                       0                           0
+ *     32    hpf_run   no edge leads to a vertex from the one before           index of the vertex         0
+ *                                                                             arrived at
+ *
+ * Checks run from 10 up; 1 and 2 come last. Within one number the lowest byte or index wins, for 20 and 21 the lowest
+ * vertex and then the lowest array. A call that answers 0 writes `first` bytes from the buffer's start and leaves the
+ * others as they were; any other answer leaves the whole buffer as it was.
  */
 #ifndef HPF_REMAP_H
 #define HPF_REMAP_H
@@ -46,37 +63,78 @@ typedef struct {
     uint64_t number, first, second;
 } hpf_outcome;
 
-/* Sizes in bytes that always suffice, and the most vertices of a path. A report's length depends on the path: call hpf_run with an
- * empty buffer, and answer 2 gives it. */
-#define HPF_LARGEST_ROUTINE 6194
-#define HPF_LARGEST_PLAN 17416
-#define HPF_LARGEST_REPORT 327648
+/* Lengths in bytes that always suffice, and the most vertices of a path (two bytes each). Most reports are far
+ * shorter: with an empty buffer (null, 0) hpf_run answers 2 and the length needed, as hpf_plan answers 1. */
+#define HPF_LARGEST_ROUTINE 6194  /* 18 + 4 * 8 + 256 * 8 + 4 * 1024 */
+#define HPF_LARGEST_PLAN 17416    /* 8 + 4 * 256 + 8 * 256 * 8 */
+#define HPF_LARGEST_REPORT 327648 /* 6 * 8 + 10 * 4095 * 8: at the entry stands no reference */
 #define HPF_LONGEST_PATH 4096
 
 /* Plans a routine.
  *
- * routine: four bytes `HPFR`; edition (16 bits, 1); offset and count (16 bits each) of arrays, vertices and edges; then, from
- *   byte 18 to the end of the file and without gaps,
- *   arrays   1 to 8, four bytes each: kind (0 local, 1 in, 2 out, 3 inout), versions (1 to 16), initial version (below versions),
- *            zero;
- *   vertices 2 to 256, a byte for each array: 00 nothing, 10 read, 20 define (all of it rewritten, nothing read), 30 modify (old
- *            value needed), 40+k remap to version k (hexadecimal; k below the array's versions). Read, define and modify are
- *            references: a vertex has references or remappings, never both. Vertex 0 is the entry and the last one the exit; all
- *            bytes of these two are 00;
- *   edges    0 to 1,024: from, to (16 bits each, below the vertex count), strictly rising by from, then to; none enters the entry,
- *            none leaves the exit.
- * plan: four bytes `HPFP`; vertex count; label count; for each vertex the index of its first label and how many (16 bits each);
- *   then labels of eight bytes by vertex, then array: array, use letter (N D R W), leaving version (255 none), zero,
- *   reaching set, kept set (16 bits each, bit k for version k).
+ *   routine        bytes  of A arrays, V vertices and E edges
+ *   -------------  -----  ----------------------------------------------------------------------------------------
+ *   0              4      `HPFR`
+ *   4              2      edition, 1
+ *   6, 8           2, 2   arrays: offset, 18; count A, 1 to 8
+ *   10, 12         2, 2   vertices: offset, 18 + 4A; count V, 2 to 256
+ *   14, 16         2, 2   edges: offset, 18 + 4A + VA; count E, 0 to 1,024
+ *   18             4A     for each array: kind (0 local, 1 in, 2 out, 3 inout; the last three are arguments),
+ *                         number of versions (1 to 16), initial version (below that number), zero
+ *   18 + 4A        VA     for each vertex an action for each array: hexadecimal 00 nothing; 10 read, 20 define (all
+ *                         of it rewritten, nothing read) and 30 modify (old value needed), which are references;
+ *                         40+k remap to version k. A vertex has references or remappings, never both. Vertex 0 is
+ *                         the entry, the last is the exit; their actions are all 00
+ *   18 + 4A + VA   4E     for each edge: from (2), to (2), below V. Edges strictly rise by from, then to; none enters
+ *                         the entry, none leaves the exit. With the last the file ends
+ *
+ *   plan           bytes  of V vertices and L labels
+ *   -------------  -----  ----------------------------------------------------------------------------------------
+ *   0              4      `HPFP`
+ *   4, 6           2, 2   V, L
+ *   8              4V     for each vertex: index of its first label (2), how many it has (2); a vertex without labels
+ *                         gives the index that its first would have had
+ *   8 + 4V         8L     for each label, by vertex, then array:
+ *     + 0, 1              array; use: one of the letters N, D, R, W
+ *     + 2, 3              leaving version, 255 for none; zero
+ *     + 4, 6       2, 2   reaching set; kept set
+ *
+ * A label is a remapping: each action 40+k, and one to the initial version of every array at the entry and of every
+ * argument at the exit. Its segments are the paths from it that go no further than the array's next label.
+ *
+ *   N         no segment meets a reference: the label is dropped, and nothing is copied there;
+ *   D         not N, and none meets a read, a modify or the next label without a define before it: no value is copied;
+ *   R         some segment meets a read, none a define or modify: other copies keep the same value;
+ *   W         all else. At the exit the letter is R for in, W for out and inout.
+ *   leaving   the label's version, in which the array goes on from there; none for N.
+ *   reaching  the leaving versions of the last kept labels (those not N) before the vertex on paths from the entry, and
+ *             for in and inout the initial version where a path has none; empty if no path reaches the vertex.
+ *   kept      the versions whose copies stay live: the leaving version, and that of each label that some path arrives
+ *             at while every label from here up to it, here included and it excluded, is N or R.
  */
 hpf_outcome hpf_plan(const uint8_t *routine, size_t routine_len, uint8_t *plan, size_t plan_len);
 
-/* Runs a path through a routine.
+/* Runs a path through a routine, which it plans itself.
  *
- * path: 16-bit vertices, the entry first; an odd last byte is ignored.
- * report: for each array copies (16 bits), live set (16 bits), current version or 255, zero; then for each reference on the path,
- *   by step, then array: step (16 bits), array, version, kind (1 read, 2 define, 3 modify), zero, stamp seen, new stamp
- *   (16 bits each). A stamp is the step that gave the value; 65,535 is the caller's value, 0 none.
+ *   path           bytes
+ *   -------------  -----  ----------------------------------------------------------------------------------------
+ *   0              2      for each vertex its number, the entry first, each next one along an edge. The path may end
+ *                         at any vertex; an odd last byte is ignored
+ *
+ *   report         bytes  of A arrays and N references, N = (length - 6A) / 10
+ *   -------------  -----  ----------------------------------------------------------------------------------------
+ *   0              6A     for each array, after the last step:
+ *     + 0, 2       2, 2   copies made; set of live versions
+ *     + 4, 5              current version, 255 for none; zero
+ *   6A             10N    for each reference on the path, by step, then array:
+ *     + 0          2      step; the entry is step 1
+ *     + 2, 3              array; version that is used
+ *     + 4, 5              kind: 1 read, 2 define, 3 modify; zero
+ *     + 6          2      stamp seen by a read or modify; 0 for a define
+ *     + 8          2      new stamp, given by a define or modify: the step; 0 for a read
+ *
+ * A stamp tells a value: it is the step that gave it, 65,535 for what the caller gave (in and inout), 0 for what was
+ * never given.
  */
 hpf_outcome hpf_run(const uint8_t *routine, size_t routine_len, const uint8_t *path, size_t path_len, uint8_t *report,
                     size_t report_len);
