@@ -1,4 +1,5 @@
-/* Plans routine P of document 01, runs its case 2, and prints what the plan's flags and the report show. */
+/* Plans routine P of document 01 and runs its case 2. Prints the plan's labels, the copies and flags that the run
+ * leaves for each array, and what each reference saw and gave. */
 #include <stdio.h>
 #include <stdlib.h>
 
@@ -41,11 +42,21 @@ static void print_plan(const uint8_t *plan) {
     }
 }
 
+static void print_array(unsigned array, const uint8_t *entry) {
+    unsigned copies = word(entry);
+    printf("array %u: %u %s, live %04x, current ", array, copies, copies == 1 ? "copy" : "copies", word(entry + 2));
+    if (entry[4] == 255)
+        printf("none\n");
+    else
+        printf("%u\n", entry[4]);
+}
+
 static void print_report(const uint8_t *report, size_t length) {
-    printf("array 0: %u copy, live %04x, current %u\n", word(report), word(report + 2), report[4]);
-    for (const uint8_t *record = report + 6; record < report + length; record += 10)
-        printf("step %u: version %u, kind %u, sees %u, gives %u\n", word(record), record[3], record[4], word(record + 6),
-               word(record + 8));
+    unsigned arrays = word(routine + 8);
+    for (unsigned a = 0; a < arrays; a++) print_array(a, report + 6 * a);
+    for (const uint8_t *record = report + 6 * arrays; record < report + length; record += 10)
+        printf("step %u: version %u, kind %u, sees %u, gives %u\n", word(record), record[3], record[4],
+               word(record + 6), word(record + 8));
 }
 
 int main(void) {
@@ -54,7 +65,8 @@ int main(void) {
     if (planned.number != 0) refused("hpf_plan", planned);
     print_plan(plan);
 
-    hpf_outcome asked = hpf_run(routine, sizeof routine, path, sizeof path, plan, 0);
+    /* An empty buffer is too short for any report: answer 2 gives the length needed. */
+    hpf_outcome asked = hpf_run(routine, sizeof routine, path, sizeof path, NULL, 0);
     if (asked.number != 2) refused("hpf_run", asked);
     uint8_t *report = malloc(asked.first);
     if (report == NULL) return EXIT_FAILURE;

@@ -1,4 +1,5 @@
-! Array remapping by copies, from Fortran. `include/hpf_remap.h` documents formats and answers.
+! Array remapping by copies, from Fortran. `include/hpf_remap.h` documents formats, answers and the rules for buffers.
+! A byte is a c_int8_t, which has a sign: iand(int(b), 255) is its number from 0 to 255.
 module hpf_remap
   use iso_c_binding, only: c_int64_t, c_int8_t, c_size_t
   implicit none
@@ -11,6 +12,7 @@ module hpf_remap
   integer, parameter, public :: hpf_largest_report = 327648
   integer, parameter, public :: hpf_longest_path = 4096
 
+  ! In C these are unsigned. No answer comes near 2**63, so that none is negative here.
   type, bind(c) :: hpf_outcome
     integer(c_int64_t) :: number, first, second
   end type hpf_outcome

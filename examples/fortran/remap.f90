@@ -1,6 +1,8 @@
-! Plans routine P of document 01, runs its case 2, and prints what the plan's flags and the report show.
+! Plans routine P of document 01 and runs its case 2. Prints the plan's labels, the copies and flags that the run
+! leaves for each array, and what each reference saw and gave.
 program remap
   use iso_c_binding, only: c_int8_t, c_size_t
+  use iso_fortran_env, only: error_unit
   use hpf_remap, only: hpf_outcome, hpf_plan, hpf_run, hpf_largest_plan
   implicit none
 
@@ -28,10 +30,15 @@ program remap
   call expect('hpf_plan', outcome, 0)
   call print_plan()
 
-  outcome = hpf_run(routine, size(routine, kind=c_size_t), path, size(path, kind=c_size_t), plan, 0_c_size_t)
+  ! An empty buffer is too short for any report: answer 2 gives the length needed.
+  allocate (report(0))
+  outcome = hpf_run(routine, size(routine, kind=c_size_t), path, size(path, kind=c_size_t), &
+    report, size(report, kind=c_size_t))
   call expect('hpf_run', outcome, 2)
+  deallocate (report)
   allocate (report(outcome%first))
-  outcome = hpf_run(routine, size(routine, kind=c_size_t), path, size(path, kind=c_size_t), report, size(report, kind=c_size_t))
+  outcome = hpf_run(routine, size(routine, kind=c_size_t), path, size(path, kind=c_size_t), &
+    report, size(report, kind=c_size_t))
   call expect('hpf_run', outcome, 0)
   call print_report()
 
@@ -42,8 +49,8 @@ contains
     type(hpf_outcome), intent(in) :: got
     integer, intent(in) :: number
     if (got%number == number) return
-    print '(a, 3(1x, i0))', call_name, got%number, got%first, got%second
-    error stop 1
+    write (error_unit, '(2a, 3(1x, i0))') call_name, ':', got%number, got%first, got%second
+    stop 1
   end subroutine expect
 
   ! A byte as a number from 0 to 255.
@@ -75,12 +82,26 @@ contains
     end do
   end subroutine print_plan
 
+  subroutine print_array(array, at)
+    integer, intent(in) :: array, at
+    character(6) :: noun
+    character(4) :: current
+    noun = merge('copy  ', 'copies', word(report, at) == 1)
+    current = 'none'
+    if (byte(report, at + 4) /= 255) write (current, '(i0)') byte(report, at + 4)
+    print '(a, i0, a, i0, 3a, z4.4, 2a)', 'array ', array, ': ', word(report, at), ' ', trim(noun), ', live ', &
+      word(report, at + 2), ', current ', trim(current)
+  end subroutine print_array
+
   subroutine print_report()
-    integer :: at
-    print '(a, i0, a, z4.4, a, i0)', 'array 0: ', word(report, 1), ' copy, live ', word(report, 3), ', current ', byte(report, 5)
-    do at = 7, size(report), 10
-      print '(a, i0, a, i0, a, i0, a, i0, a, i0)', 'step ', word(report, at), ': version ', byte(report, at + 3), ', kind ', &
-        byte(report, at + 4), ', sees ', word(report, at + 6), ', gives ', word(report, at + 8)
+    integer :: array, arrays, at
+    arrays = word(routine, 9)
+    do array = 0, arrays - 1
+      call print_array(array, 1 + 6 * array)
+    end do
+    do at = 1 + 6 * arrays, size(report), 10
+      print '(5(a, i0))', 'step ', word(report, at), ': version ', byte(report, at + 3), ', kind ', byte(report, at + 4), &
+        ', sees ', word(report, at + 6), ', gives ', word(report, at + 8)
     end do
   end subroutine print_report
 end program remap
