@@ -100,8 +100,8 @@ contains
       call print_array(array, 1 + 6 * array)
     end do
     do at = 1 + 6 * arrays, size(report), 10
-      print '(5(a, i0))', 'step ', word(report, at), ': version ', byte(report, at + 3), ', kind ', byte(report, at + 4), &
-        ', sees ', word(report, at + 6), ', gives ', word(report, at + 8)
+      print '(5(a, i0))', 'step ', word(report, at), ': version ', byte(report, at + 3), &
+        ', kind ', byte(report, at + 4), ', sees ', word(report, at + 6), ', gives ', word(report, at + 8)
     end do
   end subroutine print_report
 end program remap
