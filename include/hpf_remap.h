@@ -4,9 +4,10 @@
  *           and less than 48 KiB of stack. Any number of threads may call at once, each with a buffer of its own.
  *           Every call ends.
  * Pointers  Each points to as many bytes as the length beside it says; where that is 0 it may be null. The buffer
- *           overlaps neither the routine nor the path; these two may overlap.
+ *           must overlap neither the routine nor the path; these two may overlap.
  * Numbers   In all formats 16-bit numbers are unsigned, low byte first. Bytes, arrays, versions, vertices and
  *           indices count from 0, the steps of a path from 1. A set of versions has 16 bits, bit k for version k.
+ * Linking   C and C++ programs link libremap.a, which is for x86-64 Linux and needs only memcpy and memset.
  *
  * What a call answers; a number with two reasons has a line for each.
  *
@@ -42,8 +43,8 @@
  *   The writer of the path
  *     30    hpf_run   no vertex, or more than 4,096                           how many vertices           0
  *     31    hpf_run   the first vertex is not the entry                       0                           0
- *     32    hpf_run   no edge leads to a vertex from the one before           index of the vertex         0
- *                                                                             arrived at
+ *     32    hpf_run   no such edge: none leads to the vertex from the         its index in the path       0
+ *                     one before it
  *
  * Checks run from 10 up; 1 and 2 come last. Within one number the lowest byte or index wins, for 20 and 21 the lowest
  * vertex and then the lowest array. A call that answers 0 writes `first` bytes from the buffer's start and leaves the
