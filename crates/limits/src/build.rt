@@ -61,69 +61,256 @@ fn put_head(file: &mut Buffer, arrays: usize, vertices: usize, edges: usize)
     put_word(file, 16, edges);
 }
 
-// Routine P: one local array of 3 versions, 8 vertices, 8 edges.
+// The bytes of a file from its start.
+fn put_all(file: &mut Buffer, bytes: &[u8]) {
+    let mut i = 0;
+    while i < bytes.len() {
+        put(file, i, bytes[i]);
+        i += 1;
+    }
+}
+
+// Routine files in rows of bytes: mark, edition and contents; array; actions; edges.
+
+// P: one local array of 3 versions, 8 vertices, 8 edges.
+const P: [u8; 62] = [
+    b'H',
+    b'P',
+    b'F',
+    b'R',
+    1,
+    0,
+    18,
+    0,
+    1,
+    0,
+    22,
+    0,
+    8,
+    0,
+    30,
+    0,
+    8,
+    0,
+    0,
+    3,
+    0,
+    0,
+    0x00,
+    0x20,
+    0x41,
+    0x10,
+    0x42,
+    0x40,
+    0x10,
+    0x00,
+    0,
+    0,
+    1,
+    0,
+    1,
+    0,
+    2,
+    0,
+    2,
+    0,
+    3,
+    0,
+    3,
+    0,
+    4,
+    0,
+    4,
+    0,
+    5,
+    0,
+    5,
+    0,
+    6,
+    0,
+    6,
+    0,
+    2,
+    0,
+    6,
+    0,
+    7,
+    0,
+];
+
+// U: one local array of 2 versions, 8 vertices in a row.
+const U: [u8; 58] = [
+    b'H',
+    b'P',
+    b'F',
+    b'R',
+    1,
+    0,
+    18,
+    0,
+    1,
+    0,
+    22,
+    0,
+    8,
+    0,
+    30,
+    0,
+    7,
+    0,
+    0,
+    2,
+    0,
+    0,
+    0x00,
+    0x20,
+    0x41,
+    0x20,
+    0x10,
+    0x40,
+    0x10,
+    0x00,
+    0,
+    0,
+    1,
+    0,
+    1,
+    0,
+    2,
+    0,
+    2,
+    0,
+    3,
+    0,
+    3,
+    0,
+    4,
+    0,
+    4,
+    0,
+    5,
+    0,
+    5,
+    0,
+    6,
+    0,
+    6,
+    0,
+    7,
+    0,
+];
+
+// T: one local array of 2 versions, 4 vertices, 4 edges.
+const T: [u8; 42] = [
+    b'H',
+    b'P',
+    b'F',
+    b'R',
+    1,
+    0,
+    18,
+    0,
+    1,
+    0,
+    22,
+    0,
+    4,
+    0,
+    26,
+    0,
+    4,
+    0,
+    0,
+    2,
+    0,
+    0,
+    0x00,
+    0x41,
+    0x10,
+    0x00,
+    0,
+    0,
+    1,
+    0,
+    0,
+    0,
+    2,
+    0,
+    1,
+    0,
+    2,
+    0,
+    2,
+    0,
+    3,
+    0,
+];
+
+// T with a define between its read and its exit.
+const LONGER_T: [u8; 47] = [
+    b'H',
+    b'P',
+    b'F',
+    b'R',
+    1,
+    0,
+    18,
+    0,
+    1,
+    0,
+    22,
+    0,
+    5,
+    0,
+    27,
+    0,
+    5,
+    0,
+    0,
+    2,
+    0,
+    0,
+    0x00,
+    0x41,
+    0x10,
+    0x20,
+    0x00,
+    0,
+    0,
+    1,
+    0,
+    0,
+    0,
+    2,
+    0,
+    1,
+    0,
+    2,
+    0,
+    2,
+    0,
+    3,
+    0,
+    3,
+    0,
+    4,
+    0,
+];
+
 pub fn put_p(file: &mut Buffer) {
-    put_head(file, 1, 8, 8);
-    put(file, 19, 3);
-    put(file, 23, 0x20);
-    put(file, 24, 0x41);
-    put(file, 25, 0x10);
-    put(file, 26, 0x42);
-    put(file, 27, 0x40);
-    put(file, 28, 0x10);
-    put_edge(file, 30, 0, 1);
-    put_edge(file, 34, 1, 2);
-    put_edge(file, 38, 2, 3);
-    put_edge(file, 42, 3, 4);
-    put_edge(file, 46, 4, 5);
-    put_edge(file, 50, 5, 6);
-    put_edge(file, 54, 6, 2);
-    put_edge(file, 58, 6, 7);
+    put_all(file, &P);
 }
 
-// Routine U: one local array of 2 versions, 8 vertices in a row, 58 bytes.
 pub fn put_u(file: &mut Buffer) {
-    put_head(file, 1, 8, 7);
-    put(file, 19, 2);
-    put(file, 23, 0x20);
-    put(file, 24, 0x41);
-    put(file, 25, 0x20);
-    put(file, 26, 0x10);
-    put(file, 27, 0x40);
-    put(file, 28, 0x10);
-    put_edge(file, 30, 0, 1);
-    put_edge(file, 34, 1, 2);
-    put_edge(file, 38, 2, 3);
-    put_edge(file, 42, 3, 4);
-    put_edge(file, 46, 4, 5);
-    put_edge(file, 50, 5, 6);
-    put_edge(file, 54, 6, 7);
+    put_all(file, &U);
 }
 
-// Routine T: one local array of 2 versions, 4 vertices, 4 edges.
 pub fn put_t(file: &mut Buffer) {
-    put_head(file, 1, 4, 4);
-    put(file, 19, 2);
-    put(file, 23, 0x41);
-    put(file, 24, 0x10);
-    put_edge(file, 26, 0, 1);
-    put_edge(file, 30, 0, 2);
-    put_edge(file, 34, 1, 2);
-    put_edge(file, 38, 2, 3);
+    put_all(file, &T);
 }
 
-// Routine T with a define between its read and its exit, 47 bytes.
 pub fn put_longer_t(file: &mut Buffer) {
-    put_head(file, 1, 5, 5);
-    put(file, 19, 2);
-    put(file, 23, 0x41);
-    put(file, 24, 0x10);
-    put(file, 25, 0x20);
-    put_edge(file, 27, 0, 1);
-    put_edge(file, 31, 0, 2);
-    put_edge(file, 35, 1, 2);
-    put_edge(file, 39, 2, 3);
-    put_edge(file, 43, 3, 4);
+    put_all(file, &LONGER_T);
 }
 
 // The same byte `count` times, `step` bytes apart.

@@ -22,8 +22,8 @@ fn case(name: &[u8], file: Buffer, length: usize, room: usize)
     requires { ⌜ room ≤ 17416 ⌝ }
 {
     let mut out = buffer();
-    print::text(name);
-    print::text(b" ");
+    print::bytes(name);
+    print::bytes(b" ");
     write_answer(&file[..length], &mut out[..room]);
 }
 

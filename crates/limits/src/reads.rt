@@ -19,8 +19,8 @@ fn write_answer(file: &[u8]) {
 fn case(name: &[u8], file: Buffer, length: usize)
     requires { ⌜ length ≤ 8192 ⌝ }
 {
-    print::text(name);
-    print::text(b" ");
+    print::bytes(name);
+    print::bytes(b" ");
     write_answer(&file[..length]);
 }
 
@@ -75,72 +75,101 @@ fn accepted() {
     idle(b"largest", 8, 256, 1024);
 }
 
-// 10: under 18 bytes, wrong mark. 11: edition.
-fn marks_and_editions() {
+// 10: under 18 bytes, wrong mark.
+fn marks() {
     p_of_length(b"empty", 0);
     p_of_length(b"under_18_bytes", 17);
     p_with(b"mark_first_byte", 0, b'h');
     p_with(b"mark_last_byte", 3, b'P');
+}
+
+// 11.
+fn editions() {
     p_with(b"edition_2", 4, 2);
     p_with(b"edition_257", 5, 1);
 }
 
-// 12.
-fn counts() {
+// 12: arrays, vertices, edges.
+fn array_counts() {
     p_with(b"arrays_0", 8, 0);
     idle(b"arrays_8", 8, 2, 0);
     idle(b"arrays_9", 9, 2, 0);
+}
+
+fn vertex_counts() {
     p_with(b"vertices_1", 12, 1);
     idle(b"vertices_2", 1, 2, 0);
     idle(b"vertices_256", 1, 256, 0);
     idle(b"vertices_257", 1, 257, 0);
+}
+
+fn edge_counts() {
     idle(b"edges_1024", 1, 66, 1024);
     idle(b"edges_1025", 1, 66, 1025);
 }
 
-// 13; a wrong count comes first.
-fn offsets_and_lengths() {
+// 13: offsets; a wrong count comes first.
+fn offsets() {
     p_with(b"arrays_offset", 6, 19);
     p_with(b"vertices_offset", 10, 23);
     p_with(b"edges_offset", 14, 29);
+}
+
+fn file_lengths() {
     p_of_length(b"a_byte_short", 61);
     p_of_length(b"a_byte_long", 63);
     p_with_two(b"count_before_offset", 6, 19, 17, 5);
 }
 
-// 14; the lowest byte comes first.
-fn array_bytes() {
+// 14: kind, versions, initial version, zero; the lowest byte comes first.
+fn kinds() {
     p_with(b"kind_3", 18, 3);
     p_with(b"kind_4", 18, 4);
+}
+
+fn versions() {
     p_with(b"versions_0", 19, 0);
     p_with(b"versions_16", 19, 16);
     p_with(b"versions_17", 19, 17);
+}
+
+fn initial_versions() {
     p_with(b"initial_2_of_3", 20, 2);
     p_with(b"initial_3_of_3", 20, 3);
     p_with(b"fourth_byte_1", 21, 1);
     p_with_two(b"lowest_byte_first", 21, 1, 18, 4);
 }
 
-// 15.
+// 15: a byte by itself.
 fn action_bytes() {
     p_with(b"action_11", 25, 0x11);
     p_with(b"action_50", 23, 0x50);
     p_with(b"remap_2_of_3", 24, 0x42);
     p_with(b"remap_3_of_3", 24, 0x43);
+}
+
+// 15: a byte in its row.
+fn rows() {
     p_with(b"entry_row", 22, 0x10);
     p_with(b"exit_row", 29, 0x40);
+}
+
+fn mixed_rows() {
     middle_row(b"row_of_references", 0x10, 0x30);
     middle_row(b"row_of_remappings", 0x40, 0x40);
     middle_row(b"remap_after_read", 0x10, 0x40);
     middle_row(b"define_after_remap", 0x40, 0x20);
 }
 
-// 16.
-fn edges() {
+// 16: ends, then order.
+fn edge_ends() {
     p_with(b"edge_from_8_of_8", 30, 8);
     p_with(b"edge_to_8_of_8", 60, 8);
     p_with(b"edge_into_entry", 56, 0);
     p_with(b"edge_out_of_exit", 58, 7);
+}
+
+fn edge_order() {
     p_with(b"edge_to_itself", 36, 1);
     p_with_two(b"edge_falls", 38, 1, 40, 1);
     p_with_two(b"edge_twice", 34, 0, 36, 1);
@@ -148,10 +177,19 @@ fn edges() {
 
 pub fn all() {
     accepted();
-    marks_and_editions();
-    counts();
-    offsets_and_lengths();
-    array_bytes();
+    marks();
+    editions();
+    array_counts();
+    vertex_counts();
+    edge_counts();
+    offsets();
+    file_lengths();
+    kinds();
+    versions();
+    initial_versions();
     action_bytes();
-    edges();
+    rows();
+    mixed_rows();
+    edge_ends();
+    edge_order();
 }

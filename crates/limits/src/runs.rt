@@ -23,8 +23,8 @@ fn case(name: &[u8], file: Buffer, length: usize, path: Buffer, bytes: usize, ro
     requires { ⌜ room ≤ 17000 ⌝ }
 {
     let mut out = buffer();
-    print::text(name);
-    print::text(b" ");
+    print::bytes(name);
+    print::bytes(b" ");
     write_answer(&file[..length], &path[..bytes], &mut out[..room]);
 }
 
@@ -71,14 +71,14 @@ fn write_stamp(file: &[u8], path: &[u8], out: &mut [u8], at: usize)
     requires { ⌜ at ≤ 17000 ⌝ }
 {
     write_answer(file, path, out);
-    print::text(b"u_last_read ");
+    print::bytes(b"u_last_read ");
     print::number(listing::word(out, at));
 }
 
 // Routine U on this path: the answer, and the stamp that the last read saw.
 fn u_on(file: Buffer, path: Buffer) {
     let mut out = buffer();
-    print::text(b"u ");
+    print::bytes(b"u ");
     write_stamp(&file[..58], &path[..14], &mut out[..46], 42);
 }
 
@@ -90,22 +90,30 @@ fn u() {
     u_on(file, path);
 }
 
-// 30: the place is the number of vertices; before 31, and after 21.
+// 30: the place is the number of vertices.
 fn lengths() {
     p_round(b"path_of_1", 1, 2, ROOM);
     p_round(b"path_of_4096", 4096, 8192, ROOM);
     p_round(b"path_of_4097", 4097, 8194, ROOM);
+}
+
+// An odd last byte is ignored; 30 comes before 31, and after 21.
+fn odd_lengths() {
     p_round(b"path_odd_last_byte", 9, 19, ROOM);
     p_round(b"path_of_one_byte", 1, 1, ROOM);
     p_round(b"path_empty", 1, 0, ROOM);
     t_on_nothing(b"21_before_30");
 }
 
-// 31, and 32 at the vertex arrived at: before 2.
+// 31, and 32 at the vertex arrived at.
 fn steps() {
     p_on_two(b"path_0_2", 0, 2, ROOM);
     p_on_two(b"path_1_2", 1, 2, ROOM);
     p_on_two(b"path_0_8", 0, 8, ROOM);
+}
+
+// 31 before 32, and 32 before 2.
+fn steps_in_order() {
     p_on_two(b"31_before_32", 8, 8, ROOM);
     p_on_two(b"path_256_0", 256, 0, ROOM);
     p_on_two(b"32_before_2", 0, 2, 0);
@@ -120,7 +128,9 @@ fn buffers() {
 
 pub fn all() {
     lengths();
+    odd_lengths();
     steps();
+    steps_in_order();
     buffers();
     u();
 }

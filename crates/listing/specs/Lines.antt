@@ -6,7 +6,7 @@ use lib.ListN.{getD}
 use Rattle.refusal.specs.Replies.{replyOutcome}
 use Rattle.refusal.specs.declared.Reply.{Reply}
 use Rattle.words.specs.Words.{word}
-use Rattle.listing.specs.Text.{NUMBER, CHARACTER, VERSION, MASK, line}
+use Rattle.text.specs.Text.{NUMBER, CHARACTER, VERSION, MASK, line}
 
 -- a label whose eight bytes stand at `at`: vertex, array, letter, leaving version, reaching set, kept set
 abbrev pub labelLine : List ℕ → ℕ → ℕ → List ℕ

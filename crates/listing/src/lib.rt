@@ -1,12 +1,10 @@
 // What the programs print: each line as text, at the front of a buffer that is lent.
-mod text;
-
 use refusal::Reply;
 use text::CHARACTER;
 use text::MASK;
-pub use text::NUMBER;
+use text::NUMBER;
 use text::VERSION;
-pub use text::line;
+use text::line;
 ghost use mathlib.Core.Path.{_≡_};
 ghost use Prim.Native.Nat.{_≤_};
 ghost use lib.ListN.{length, getD};

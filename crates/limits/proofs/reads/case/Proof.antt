@@ -6,14 +6,14 @@ use lib.ListN.{length-take}
 use Rattle.limits.proofs.reads.case.Statement.{statement}
 use Rattle.limits.proofs.reads.case.Tie as tie
 
-text-requires : tie.Need-text-requires
-text-requires c κs = search needs
+bytes-requires : tie.Need-bytes-requires
+bytes-requires c κs = search needs
 
-slice-aggregate-text : tie.Need-slice-aggregate-text
-slice-aggregate-text c = search needs
+slice-aggregate-bytes : tie.Need-slice-aggregate-bytes
+slice-aggregate-bytes c = search needs
 
-text-requires-2 : tie.Need-text-requires-2
-text-requires-2 c κs = search needs
+bytes-requires-2 : tie.Need-bytes-requires-2
+bytes-requires-2 c κs = search needs
 
 array-share-prefix-file : tie.Need-array-share-prefix-file
 array-share-prefix-file c = search needs
@@ -31,9 +31,9 @@ pub case-spec : {M : Type 1} → statement M
 case-spec =
     tie.close
     (tie.spec
-    text-requires
-    slice-aggregate-text
-    text-requires-2
+    bytes-requires
+    slice-aggregate-bytes
+    bytes-requires-2
     array-share-prefix-file
     slice-aggregate-write-answer
     write-answer-requires

@@ -9,11 +9,11 @@ use Rattle.limits.proofs.runs.u_on.Tie as tie
 buffer-requires : tie.Need-buffer-requires
 buffer-requires c κs = search needs
 
-slice-aggregate-text : tie.Need-slice-aggregate-text
-slice-aggregate-text c = search needs
+slice-aggregate-bytes : tie.Need-slice-aggregate-bytes
+slice-aggregate-bytes c = search needs
 
-text-requires : tie.Need-text-requires
-text-requires c κs = search needs
+bytes-requires : tie.Need-bytes-requires
+bytes-requires c κs = search needs
 
 array-share-prefix-file : tie.Need-array-share-prefix-file
 array-share-prefix-file c = search needs
@@ -44,8 +44,8 @@ u-on-spec =
     tie.close
     (tie.spec
     buffer-requires
-    slice-aggregate-text
-    text-requires
+    slice-aggregate-bytes
+    bytes-requires
     array-share-prefix-file
     slice-aggregate-write-stamp
     array-share-prefix-path

@@ -5,7 +5,7 @@ ghost use mathlib.Core.List.{List, [], _∷_, _++_};
 ghost use Prim.Native.Nat.{_*_, _%_, _≤_};
 ghost use lib.ListN.{length};
 ghost use Rattle.io.specs.Counts.{Counts};
-ghost use Rattle.listing.specs.Text.{decimal, mask, versionText, columnText, line};
+ghost use Rattle.text.specs.Text.{decimal, mask, versionText, columnText, line};
 ghost use Rattle.words.specs.Tables.{wrote};
 
 // The forms of a column.

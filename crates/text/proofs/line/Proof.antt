@@ -8,10 +8,10 @@ use lib.ListN.{length}
 use lib.Seq.{length-take-le}
 use Rattle.words.specs.Tables.{rows}
 use Rattle.words.proofs.Filling.{Filled, begin, same, end, lends, lies, next, onward, all, lies-all}
-use Rattle.listing.specs.Text.{cell}
-use Rattle.listing.proofs.Cells.{cell-most, cells-most}
-use Rattle.listing.proofs.text.line.Statement.{statement}
-use Rattle.listing.proofs.text.line.Tie as tie
+use Rattle.text.specs.Text.{cell}
+use Rattle.text.proofs.Cells.{cell-most, cells-most}
+use Rattle.text.proofs.line.Statement.{statement}
+use Rattle.text.proofs.line.Tie as tie
 
 abbrev Inv-loop : tie.InvT-loop
 Inv-loop out₀ forms fields n at₀ i₀ out at i = Filled (cell forms fields) (length fields) out₀ i out × (at ≡ length (rows (cell forms fields) i))

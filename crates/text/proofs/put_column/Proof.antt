@@ -7,9 +7,9 @@ use borrow.Author.Tests.{ne-eqb}
 use borrow.Author.Needs.{needs}
 use lib.ListN.{length}
 use Rattle.words.specs.Tables.{wrote}
-use Rattle.listing.specs.Text.{CHARACTER, VERSION, MASK, decimal, mask, versionText, columnText}
-use Rattle.listing.proofs.text.put_column.Statement.{statement}
-use Rattle.listing.proofs.text.put_column.Tie as tie
+use Rattle.text.specs.Text.{CHARACTER, VERSION, MASK, decimal, mask, versionText, columnText}
+use Rattle.text.proofs.put_column.Statement.{statement}
+use Rattle.text.proofs.put_column.Tie as tie
 
 module _ {form : ℕ} (n : ℕ) where
   column-character : form ≡ CHARACTER → n % 256 ∷ [] ≡ columnText form n

@@ -4,9 +4,9 @@ use mathlib.Core.Path.{ap, _∙_}
 use native.Mathlib.Omega.{arith}
 use borrow.Author.Needs.{needs}
 use lib.ListN.{length}
-use Rattle.listing.proofs.Digits.{copied, mask-four, mask-text}
-use Rattle.listing.proofs.text.put_mask.Statement.{statement}
-use Rattle.listing.proofs.text.put_mask.Tie as tie
+use Rattle.text.proofs.Digits.{copied, mask-four, mask-text}
+use Rattle.text.proofs.put_mask.Statement.{statement}
+use Rattle.text.proofs.put_mask.Tie as tie
 
 hex-requires : tie.Need-hex-requires
 hex-requires c κs = search needs

@@ -9,9 +9,9 @@ use borrow.Author.Needs.{needs}
 use lib.Dec.{eqb}
 use lib.ListN.{length}
 use Rattle.words.specs.Tables.{wrote}
-use Rattle.listing.specs.Text.{decimal, versionText}
-use Rattle.listing.proofs.text.put_version.Statement.{statement}
-use Rattle.listing.proofs.text.put_version.Tie as tie
+use Rattle.text.specs.Text.{decimal, versionText}
+use Rattle.text.proofs.put_version.Statement.{statement}
+use Rattle.text.proofs.put_version.Tie as tie
 
 version-none : (n : ℕ) → eqb n 255 ≡ true → 45 ∷ [] ≡ versionText n
 unfolding versionText

@@ -5,8 +5,8 @@ use mathlib.Core.Path.{refl}
 use native.Mathlib.Omega.{arith}
 use borrow.Author.Needs.{needs}
 use lib.Seq.{sets-eq}
-use Rattle.listing.proofs.text.put_character.Statement.{statement}
-use Rattle.listing.proofs.text.put_character.Tie as tie
+use Rattle.text.proofs.put_character.Statement.{statement}
+use Rattle.text.proofs.put_character.Tie as tie
 
 slice-write-out : tie.Need-slice-write-out
 slice-write-out c = search needs

@@ -9,8 +9,8 @@ use lib.ListN.{length, getD, length-append}
 use Rattle.io.specs.Digits.{glyph}
 use Rattle.words.specs.Tables.{rows}
 use Rattle.words.proofs.Tables.{rows-most}
-use Rattle.listing.specs.Text.{decimalIn, decimal, versionText, CHARACTER, VERSION, MASK, columnText, separator, cell}
-use Rattle.listing.proofs.Digits.{mask-length}
+use Rattle.text.specs.Text.{decimalIn, decimal, versionText, CHARACTER, VERSION, MASK, columnText, separator, cell}
+use Rattle.text.proofs.Digits.{mask-length}
 
 choice : (t : Bool) (xs ys : List ℕ) {n : ℕ} → length xs ≤ n → length ys ≤ n → length (cond t xs ys) ≤ n
 choice true xs ys h k = h

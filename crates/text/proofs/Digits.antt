@@ -13,7 +13,7 @@ use lib.Seq.{take-all}
 use lib.Pow.{pow-add}
 use Rattle.io.specs.Digits.{glyph, digits, Fewest}
 use Rattle.words.specs.Tables.{wrote}
-use Rattle.listing.specs.Text.{decimalIn, decimal, mask}
+use Rattle.text.specs.Text.{decimalIn, decimal, mask}
 
 pow-pos : (b k : ℕ) → 0 < b → 1 ≤ b ^ k
 pow-pos b zero h = omega (arith, pow-zero b)

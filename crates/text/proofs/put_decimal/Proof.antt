@@ -4,9 +4,9 @@ use mathlib.Core.Path.{ap, _∙_}
 use native.Mathlib.Omega.{arith}
 use borrow.Author.Needs.{needs}
 use lib.ListN.{length}
-use Rattle.listing.proofs.Digits.{copied, decimal-text, decimal-length}
-use Rattle.listing.proofs.text.put_decimal.Statement.{statement}
-use Rattle.listing.proofs.text.put_decimal.Tie as tie
+use Rattle.text.proofs.Digits.{copied, decimal-text, decimal-length}
+use Rattle.text.proofs.put_decimal.Statement.{statement}
+use Rattle.text.proofs.put_decimal.Tie as tie
 
 decimal-requires : tie.Need-decimal-requires
 decimal-requires c κs = search needs

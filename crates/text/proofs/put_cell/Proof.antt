@@ -8,10 +8,10 @@ use native.Mathlib.Omega.{arith}
 use borrow.Author.Needs.{needs}
 use lib.ListN.{length, set, length-append}
 use Rattle.words.proofs.Written.{wrote-length, write-one}
-use Rattle.listing.specs.Text.{columnText}
-use Rattle.listing.proofs.Cells.{column-most}
-use Rattle.listing.proofs.text.put_cell.Statement.{statement}
-use Rattle.listing.proofs.text.put_cell.Tie as tie
+use Rattle.text.specs.Text.{columnText}
+use Rattle.text.proofs.Cells.{column-most}
+use Rattle.text.proofs.put_cell.Statement.{statement}
+use Rattle.text.proofs.put_cell.Tie as tie
 
 put-column-requires : tie.Need-put-column-requires
 put-column-requires c κs = search needs
