@@ -1,18 +1,29 @@
 -- The ways out of the call `plan` once the routine is read: what the checks say, as the definition's answer.
 -- Assumes nothing.
-use mathlib.Core.Path.{_≡_}
+use mathlib.Core.Path.{_≡_, sym, _∙_}
 use mathlib.Core.List.{List}
 use Prim.Native.Nat.{ℕ, _≤_, _<_}
-use borrow.Author.Tests.{le-leb, lt-leb}
+use native.Mathlib.Omega.{arith}
+use borrow.Author.Tests.{le-leb, lt-leb, leb-true}
+use lib.ListN.{length}
 use Rattle.labels.specs.Checks.{programmerCheck}
-use Rattle.plan.specs.Calls.{plannerCheck}
-use Rattle.planbytes.specs.Plan.{planLength}
+use Rattle.plan.specs.Calls.{plannerCheck, PlannedRead}
+use Rattle.planbytes.specs.Plan.{planBytes, planLength}
+use Rattle.planbytes.proofs.Sizes.{plan-length}
 use Rattle.refusal.specs.Replies.{written}
 use Rattle.refusal.specs.declared.Refusal.{Refusal}
 use Rattle.refusal.specs.declared.Refusal.the-variants.{ShortPlanBuffer}
+use Rattle.refusal.specs.declared.Reply.{Reply}
 use Rattle.refusal.specs.declared.Reply.the-variants.{Written, Denied}
 use Rattle.refusal.specs.declared.Verdict.{Verdict}
 use Rattle.refusal.specs.declared.Verdict.the-variants.{Passed, Failed}
+use Rattle.routine.proofs.Accepted.{written-passed}
+use Rattle.routine.proofs.Laws.{passed-left, passed-right, holds-true}
+use Rattle.words.specs.Tables.{wrote}
+
+-- a refusal is no plan
+pub not-written : {A : Type 0} {r : Refusal} {n : ℕ} → Denied r ≡ Written n → A
+not-written e = absurd (let z : _≡_ {A = ℕ} 0 1 = cc in omega arith)
 
 module _ (file : List ℕ) (size : ℕ) {v : Verdict} (is : v ≡ programmerCheck file) where
   -- 20 or 21
@@ -28,3 +39,25 @@ module _ (file : List ℕ) (size : ℕ) {v : Verdict} (is : v ≡ programmerChec
   pub written-way : v ≡ Passed → planLength file ≤ size → Written (planLength file) ≡ written (plannerCheck file size) (planLength file)
   unfolding plannerCheck
   written-way e h = rw (← is, e, le-leb (planLength file) size h)
+
+-- ---- a plan of a routine that was read, from its reply
+
+module _ (file before : List ℕ) {reply : Reply} (is : reply ≡ written (plannerCheck file (length before)) (planLength file)) where
+  pub denied-planned : {r : Refusal} → reply ≡ Denied r → PlannedRead file before reply before
+  denied-planned e = record { answer = is; buffer = rw e }
+
+  -- all checks have passed
+  module _ {n : ℕ} (e : reply ≡ Written n) where
+    all-passed : plannerCheck file (length before) ≡ Passed
+    all-passed = written-passed (plannerCheck file (length before)) (planLength file) (sym is ∙ e)
+
+    pub passed : programmerCheck file ≡ Passed
+    unfolding plannerCheck
+    passed = passed-left (programmerCheck file) _ all-passed
+
+    pub fits : length (planBytes file) ≤ length before
+    unfolding plannerCheck
+    fits = omega (arith, plan-length file, leb-true (planLength file) (length before) (holds-true _ _ (passed-right (programmerCheck file) _ all-passed)))
+
+    pub written-planned : {after : List ℕ} → after ≡ wrote before (planBytes file) → PlannedRead file before reply after
+    written-planned w = record { answer = is; buffer = rw e w }

@@ -8,12 +8,14 @@ use lib.ListN.{length}
 use Rattle.labels.specs.Checks.{programmerCheck}
 use Rattle.labels.specs.Demand.{Demand2}
 use Rattle.planbytes.specs.Plan.{planBytes, planLength}
+use Rattle.planbytes.specs.Tables.{Firsts}
 use Rattle.refusal.specs.Checks.{_andThen_, holds}
 use Rattle.routine.specs.Reader.{readCheck}
 use Rattle.refusal.specs.Replies.{written, filledBy, replyOutcome}
 use Rattle.refusal.specs.declared.Outcome.{Outcome}
 use Rattle.refusal.specs.declared.Refusal.the-variants.{ShortPlanBuffer}
 use Rattle.refusal.specs.declared.Reply.{Reply}
+use Rattle.refusal.specs.declared.Reply.the-variants.{Written}
 use Rattle.refusal.specs.declared.Verdict.{Verdict}
 use Rattle.refusal.specs.declared.Verdict.the-variants.{Passed}
 
@@ -35,6 +37,11 @@ planOf file size = written (planCheck file size) (planLength file)
 -- the plan at the front of the buffer, or the buffer as it was
 abbrev pub planInto : Reply → List ℕ → List ℕ → List ℕ
 planInto reply file before = filledBy reply (planBytes file) before
+
+-- the reply of a routine that was read, and where that is no refusal the table of first labels
+pub record Replied (file : List ℕ) (size : ℕ) (reply : Reply) (firsts : List ℕ) : Type 0 where
+  pub answer : reply ≡ written (plannerCheck file size) (planLength file)
+  pub counts : (n : ℕ) → reply ≡ Written n → Firsts file firsts
 
 -- of a routine that was read
 pub record PlannedRead (file before : List ℕ) (reply : Reply) (after : List ℕ) : Type 0 where

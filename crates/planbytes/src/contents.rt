@@ -74,6 +74,16 @@ pub fn label_count(file: &[u8], h: Header, versions: &[u16], firsts: &mut [u16])
     count
 }
 
+// The same number, from the table that was filled in.
+pub fn total(file: &[u8], h: Header, firsts: &[u16]) -> usize
+    requires { ⌜ ReadAs (now file) h ⌝ }
+    requires { ⌜ Firsts (now file) (now firsts) ⌝ }
+    ensures { λ r. ⌜ r ≡ labelCount (now (file .entry)) ⌝ }
+{
+    let n = h.vertices;
+    firsts[n] as usize
+}
+
 // The length of the plan of a routine that has so many labels.
 pub fn plan_length(h: Header, count: usize) -> usize
     requires { ⌜ (h .vertices ≤ 256) × (count ≤ 2048) ⌝ }

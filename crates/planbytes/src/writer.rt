@@ -168,7 +168,7 @@ fn write_labels(
     }
 }
 
-// Writes the plan of a routine that has `count` labels.
+// Writes the plan.
 pub fn write(
     file: &[u8],
     h: Header,
@@ -177,17 +177,15 @@ pub fn write(
     reaching: &[u16],
     kept: &[u16],
     firsts: &[u16],
-    count: usize,
     out: &mut [u8],
 )
     requires { ⌜ ReadAs (now file) h ⌝ }
     requires { ⌜ Firsts (now file) (now firsts) ⌝ }
-    requires { ⌜ count ≡ labelCount (now file) ⌝ }
     requires { ⌜ Tabled (now file) (now versions) (now letters) (now reaching) (now kept) ⌝ }
     requires { ⌜ length (planBytes (now file)) ≤ length (now out) ⌝ }
     ensures { λ _. ⌜ now (out .exit) ≡ wrote (now (out .entry)) (planBytes (now (file .entry))) ⌝ }
 {
-    write_head(out, h.vertices, count);
+    write_head(out, h.vertices, contents::total(file, h, firsts));
     contents::write(file, h, firsts, &mut out[contents::HEAD..]);
     let at = contents::HEAD + contents::ENTRY * h.vertices;
     write_labels(file, h, versions, letters, reaching, kept, &mut out[at..]);

@@ -8,7 +8,7 @@ use Rattle.routine.specs.declared.reader.Answer.{Answer}
 use Rattle.routine.specs.declared.reader.Answer.the-variants.{Routine, Refused}
 use Rattle.refusal.specs.declared.Refusal.{Refusal}
 use Rattle.refusal.specs.declared.Reply.{Reply}
-use Rattle.refusal.specs.declared.Reply.the-variants.{Denied}
+use Rattle.refusal.specs.declared.Reply.the-variants.{Written, Denied}
 use Rattle.refusal.specs.declared.Verdict.{Verdict}
 use Rattle.refusal.specs.declared.Verdict.the-variants.{Passed, Failed}
 use Rattle.routine.specs.Actions.{actionCheck, rowCheck, check15}
@@ -76,6 +76,11 @@ module _ (file : List ℕ) {a : Answer} (is : a ≡ readOf file) (rest : Verdict
   pub read-way : {h : Header} → a ≡ Routine h → written rest n ≡ written (readCheck file andThen rest) n
   unfolding readOf
   read-way {h} e = rw (answered-passed (readCheck file) (headerOf file) h (sym is ∙ e) .0)
+
+-- a call that writes has passed its checks
+pub written-passed : (v : Verdict) (m : ℕ) {n : ℕ} → written v m ≡ Written n → v ≡ Passed
+written-passed Passed m e = refl
+written-passed (Failed r) m e = cc
 
 -- ---- a refusal handed on leaves the buffer as it was
 pub unwritten : {reply : Reply} {a : Answer} {r : Refusal} (bytes before : List ℕ) → reply ≡ deniedOf a → a ≡ Refused r → before ≡ filledBy reply bytes before

@@ -1,6 +1,6 @@
 -- The ways out of the call `run` once the routine is read: what the checks say, as the definition's answer.
 -- Assumes nothing.
-use mathlib.Core.Path.{_≡_, refl, sym, _∙_}
+use mathlib.Core.Path.{_≡_, sym, _∙_}
 use mathlib.Core.List.{List}
 use Prim.Native.Nat.{ℕ, _≤_, _<_}
 use native.Mathlib.Omega.{arith}
@@ -20,16 +20,13 @@ use Rattle.refusal.specs.declared.Reply.{Reply}
 use Rattle.refusal.specs.declared.Reply.the-variants.{Written, Denied}
 use Rattle.refusal.specs.declared.Verdict.{Verdict}
 use Rattle.refusal.specs.declared.Verdict.the-variants.{Passed, Failed}
+use Rattle.routine.proofs.Accepted.{written-passed}
 use Rattle.routine.proofs.Laws.{passed-left, passed-right, holds-true}
 use Rattle.run.specs.Calls.{runnerCheck, DemandMet, RanRead}
 use Rattle.path.specs.Paths.{pathCheck}
 use Rattle.walk.specs.Report.{reportBytes, reportLength}
 use Rattle.walk.proofs.Bytes.{report-length}
 use Rattle.words.specs.Tables.{wrote}
-
-written-passed : (v : Verdict) (m : ℕ) {n : ℕ} → written v m ≡ Written n → v ≡ Passed
-written-passed Passed m e = refl
-written-passed (Failed r) m e = cc
 
 module _ (file path : List ℕ) (size : ℕ) {v : Verdict} (is : v ≡ programmerCheck file) where
   -- 20 or 21

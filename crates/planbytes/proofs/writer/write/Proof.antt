@@ -26,31 +26,36 @@ room : (s : tie.Start) → 8 + 4 * s .args .h .vertices + length (labels (s .arg
 unfolding planLength
 room s = omega (arith, plan-length (s .args .file .now), labels-length (s .args .file .now))
 
-few : (s : tie.Start) → s .args .count ≤ 2048
-few s = omega (arith, s .pre .1 .1 .0, labels-few (s .args .file .now) (s .pre .0 .heads .laid))
+few : (s : tie.Start) → labelCount (s .args .file .now) ≤ 2048
+few s = labels-few (s .args .file .now) (s .pre .0 .heads .laid)
 
 place : (s : tie.Start) → 8 + 4 * s .args .h .vertices ≡ length (first s ++ contents (s .args .file .now))
 place s = omega (arith, labels-at (s .args .file .now))
 
 -- ---- mark and counts
 
+total-requires : tie.Need-total-requires
+total-requires c κs = let s = c .before .before .before .before .before .before .before .before in (s .pre .0, s .pre .1 .0)
+
 write-head-requires : tie.Need-write-head-requires
-write-head-requires c κs = (omega (arith, room (c .before .before .before .before .before .before .before .before)), omega (arith, few (c .before .before .before .before .before .before .before .before)))
+write-head-requires c κs =
+    let s = c .before .before .before .before .before .before .before .before .before in
+    (omega (arith, room s), omega (arith, c .total .ensures, few s, s .pre .0 .heads .vertices-are, s .pre .0 .well .laid .limits .few-vertices))
 
 abbrev start : tie.After-write-head → tie.Start
-start c = c .before .before .before .before .before .before .before .before .before
+start c = c .before .before .before .before .before .before .before .before .before .before
 
 head : (c : tie.After-write-head) → Front (old (start c)) (first (start c)) (c .write-head .last .0)
 head c =
     let s = start c in
     record {
-      is = c .write-head .ensures ∙ ap₂ (λ (n k : ℕ). wrote (old s) (planHead n k)) (s .pre .0 .heads .vertices-are) (s .pre .1 .1 .0);
+      is = c .write-head .ensures ∙ ap₂ (λ (n k : ℕ). wrote (old s) (planHead n k)) (s .pre .0 .heads .vertices-are) (c .before .total .ensures);
     }
 
 -- ---- the contents
 
 sub-write : tie.Need-sub-write
-sub-write c = starts (head (c .before .before)) {at = 8} refl (omega (arith, room (c .before .before .before .before .before .before .before .before .before .before .before)))
+sub-write c = starts (head (c .before .before)) {at = 8} refl (omega (arith, room (start (c .before .before))))
 
 part-write-start : tie.Need-part-write-start
 part-write-start c = sub-write c
@@ -60,7 +65,7 @@ part-write-end c = search needs
 
 write-requires : tie.Need-write-requires
 write-requires c κs =
-    let s = c .before .before .before .before .before .before .before .before .before .before .before .before in
+    let s = start (c .before .before .before) in
     (s .pre .0, (s .pre .1 .0, lends (head (c .before .before .before)) {at = 8} refl (omega (arith, room s))))
 
 abbrev behind : tie.After-write → List ℕ
@@ -82,7 +87,7 @@ add-at c = search needs
 
 sub-write-labels : tie.Need-sub-write-labels
 sub-write-labels c =
-    let s = c .before .before .before .before .before .before .before .before .before .before .before .before .before .before .before .before in
+    let s = start (c .before .before .before .before .before .before .before) in
     starts (both (c .before .before .before)) (place s) (omega (arith, room s))
 
 part-write-labels-start : tie.Need-part-write-labels-start
@@ -93,8 +98,8 @@ part-write-labels-end c = search needs
 
 write-labels-requires : tie.Need-write-labels-requires
 write-labels-requires c κs =
-    let s = c .before .before .before .before .before .before .before .before .before .before .before .before .before .before .before .before .before in
-    (s .pre .0, (s .pre .1 .1 .1 .0, lends (both (c .before .before .before .before)) (place s) (room s)))
+    let s = start (c .before .before .before .before .before .before .before .before) in
+    (s .pre .0, (s .pre .1 .1 .0, lends (both (c .before .before .before .before)) (place s) (room s)))
 
 same-length : tie.Need-same-length
 same-length c = search needs
@@ -102,13 +107,14 @@ same-length c = search needs
 returns : tie.Need-returns
 unfolding planBytes
 returns c =
-    let s = c .before .before .before .before .before .before .before .before .before .before .before .before .before .before .before .before .before .before .before .before in
+    let s = start (c .before .before .before .before .before .before .before .before .before .before .before) in
     more (both (c .before .before .before .before .before .before .before)) (place s) (labels (s .args .file .now)) (c .before .before .write-labels .ensures) .is
 
 pub write-spec : {M : Type 1} → statement M
 write-spec =
     tie.close
     (tie.spec
+    total-requires
     write-head-requires
     sub-write
     part-write-start
