@@ -1,20 +1,20 @@
 //! Times of the verified library and of the oracle on the same inputs, in one process: medians
 //! of repeated batches, taken in turn. For a plan also the rounds over the edges.
 
-#[path = "../../tests/compare/src/bindings.rs"]
-mod bindings;
 mod order;
 mod rounds;
 
+use std::collections::HashSet;
 use std::hint::black_box;
 use std::time::{Duration, Instant};
 
-use compare::library::{Input, Library, ORACLE};
-use oracle::builder::{self, Draft, INOUT, MODIFY, remap};
+use compare::VERIFIED;
+use harness::library::{Input, Library, ORACLE};
+use oracle::builder::{self, Draft};
 use oracle::generate::limits;
 use oracle::generate::rng::Rng;
 use oracle::generate::routines::{self, Size};
-use oracle::routine::{MAX_ARRAYS, MAX_VERSIONS, MAX_VERTICES, Routine};
+use oracle::routine::{MAX_VERTICES, Routine};
 use rounds::Rounds;
 
 const SEED: u64 = 1;
@@ -42,116 +42,114 @@ fn structured(rng: &mut Rng, vertices: usize) -> Draft {
     }
 }
 
-/// The vertices of a ring that has room for another vertex beside each.
-const RING: u16 = MAX_VERTICES as u16 / 2 - 1;
-
-/// Each vertex of the ring remaps all arrays, and the one beside it modifies them: no label is
-/// dropped.
-fn ring_of_labels() -> Draft {
-    let version = |vertex, array| ((vertex + array) % MAX_VERSIONS) as u8;
-    let labels = |vertex| (0..MAX_ARRAYS).map(move |array| remap(version(vertex, array)));
-    let mut rows = vec![vec![0; MAX_ARRAYS]];
-    rows.extend((1..=usize::from(RING)).map(|vertex| labels(vertex).collect()));
-    rows.resize(MAX_VERTICES - 1, vec![MODIFY; MAX_ARRAYS]);
-    rows.push(vec![0; MAX_ARRAYS]);
-    let mut edges = vec![(0, 1), (RING, 1)];
-    edges.extend((1..RING).map(|vertex| (vertex, vertex + 1)));
-    edges.extend((1..=RING).map(|vertex| (vertex, vertex + RING)));
-    edges.sort_unstable();
-    Draft {
-        arrays: vec![[INOUT, MAX_VERSIONS as u8, 0, 0]; MAX_ARRAYS],
-        rows,
-        edges,
-    }
+/// So many different routines of one array with as many vertices as P, all accepted.
+fn small_routines(count: usize) -> Vec<Input> {
+    let size = Size {
+        vertices: builder::p().rows.len(),
+        arrays: 1,
+        versions: 3,
+    };
+    let mut files = HashSet::new();
+    let drawn = (0..).map(|index| routines::accepted(&mut Rng::for_input(SEED, index), size));
+    drawn
+        .filter(|draft| draft.rows.len() == size.vertices)
+        .map(|draft| draft.bytes())
+        .filter(|file| files.insert(file.clone()))
+        .map(Input::plan)
+        .take(count)
+        .collect()
 }
 
-/// The longest path round the ring.
-fn round_the_ring() -> Vec<u16> {
-    let mut path = vec![0];
-    path.extend((0..4095).map(|index| 1 + index % RING));
-    path
+/// Inputs that are called in turn, under a name.
+struct Line {
+    name: &'static str,
+    inputs: Vec<Input>,
 }
 
-fn lines() -> Vec<(&'static str, Input)> {
+fn plan(name: &'static str, routine: Vec<u8>) -> Line {
+    let inputs = vec![Input::plan(routine)];
+    Line { name, inputs }
+}
+
+fn run(name: &'static str, draft: Draft, path: &[u16]) -> Line {
+    let inputs = vec![Input::run(draft.bytes(), builder::path_bytes(path))];
+    Line { name, inputs }
+}
+
+fn lines() -> Vec<Line> {
     vec![
-        ("plan P", Input::plan(builder::p().bytes())),
-        (
+        plan("plan P", builder::p().bytes()),
+        Line {
+            name: "plan, 1,000 routines like P in turn",
+            inputs: small_routines(1000),
+        },
+        plan(
             "plan, structured, 51 vertices",
-            Input::plan(acceptable(|rng| structured(rng, 51))),
+            acceptable(|rng| structured(rng, 51)),
         ),
-        (
+        plan(
             "plan, structured, 256 vertices",
-            Input::plan(acceptable(|rng| structured(rng, MAX_VERTICES))),
+            acceptable(|rng| structured(rng, MAX_VERTICES)),
         ),
-        (
-            "plan, 256 vertices, 1,024 edges",
-            Input::plan(acceptable(limits::dense)),
-        ),
-        (
-            "plan, backward chain",
-            Input::plan(acceptable(limits::backward_chain)),
-        ),
-        (
-            "plan, zigzag chain",
-            Input::plan(acceptable(limits::zigzag_chain)),
-        ),
-        ("plan, largest", Input::plan(limits::largest_plan().bytes())),
-        (
-            "run, case 2",
-            Input::run(
-                builder::p().bytes(),
-                builder::path_bytes(&[0, 1, 2, 3, 4, 5, 6, 2, 3]),
-            ),
-        ),
-        (
+        plan("plan, 256 vertices, 1,024 edges", acceptable(limits::dense)),
+        plan("plan, backward chain", acceptable(limits::backward_chain)),
+        plan("plan, zigzag chain", acceptable(limits::zigzag_chain)),
+        plan("plan, slowest chain", limits::slowest_chain().bytes()),
+        plan("plan, largest", limits::largest_plan().bytes()),
+        run("run, case 2", builder::p(), &[0, 1, 2, 3, 4, 5, 6, 2, 3]),
+        run(
             "run, 4,096 vertices, 8 arrays",
-            Input::run(
-                limits::largest_report().bytes(),
-                builder::path_bytes(&limits::longest_path()),
-            ),
+            limits::largest_report(),
+            &limits::longest_path(),
         ),
-        (
+        run(
             "run, 4,096 vertices, labels alone",
-            Input::run(
-                ring_of_labels().bytes(),
-                builder::path_bytes(&round_the_ring()),
-            ),
+            limits::ring_of_labels(),
+            &limits::round_the_ring(),
         ),
     ]
 }
 
 /// Both sides do the whole work and give the same bytes: a refusal is not to be timed.
-fn check(name: &str, both: &[Library; 2], input: &Input) {
-    let [ours, rust] = both.map(|library| {
-        let mut out = vec![0; ROOM];
-        (input.call(&library, &mut out), out)
-    });
-    assert_eq!(ours.0.number, 0, "{name}: {:?}", ours.0);
-    assert_eq!(ours.0, rust.0, "{name}");
-    assert!(ours.1 == rust.1, "{name}: the bytes differ");
-}
-
-/// The rounds of a plan's passes; a run has no column for them.
-fn rounds_of(input: &Input) -> String {
-    match (&input.path, Routine::parse(&input.routine)) {
-        (None, Ok(routine)) => Rounds::of(&routine).to_string(),
-        _ => String::new(),
+fn check(both: &[Library; 2], line: &Line) {
+    let name = line.name;
+    for input in &line.inputs {
+        let [ours, rust] = both.map(|library| {
+            let mut out = vec![0; ROOM];
+            (input.call(&library, &mut out), out)
+        });
+        assert_eq!(ours.0.number, 0, "{name}: {:?}", ours.0);
+        assert_eq!(ours.0, rust.0, "{name}");
+        assert!(ours.1 == rust.1, "{name}: the bytes differ");
     }
 }
 
-/// The time of one call, from `calls` of them.
-fn batch(library: &Library, input: &Input, out: &mut [u8], calls: u32) -> Duration {
+/// The most rounds of a plan's passes; a run has no column for them.
+fn rounds_of(line: &Line) -> String {
+    let plans = line.inputs.iter().filter(|input| input.path.is_none());
+    plans
+        .filter_map(|input| Routine::parse(&input.routine).ok())
+        .map(|routine| Rounds::of(&routine))
+        .reduce(Rounds::most)
+        .map_or_else(String::new, |rounds| rounds.to_string())
+}
+
+/// The time of one call, from `turns` through the inputs.
+fn batch(library: &Library, inputs: &[Input], out: &mut [u8], turns: u32) -> Duration {
     let start = Instant::now();
-    for _ in 0..calls {
-        black_box(black_box(input).call(library, black_box(out)));
+    for _ in 0..turns {
+        for input in inputs {
+            black_box(black_box(input).call(library, black_box(out)));
+        }
     }
-    start.elapsed() / calls
+    start.elapsed() / (turns * inputs.len() as u32)
 }
 
-/// How many calls fill a batch.
-fn calls(library: &Library, input: &Input, out: &mut [u8]) -> u32 {
-    let one = batch(library, input, out, 3).max(Duration::from_nanos(1));
-    (BATCH.as_nanos() / one.as_nanos()).clamp(1, 1_000_000) as u32
+/// How many turns fill a batch.
+fn turns(library: &Library, inputs: &[Input], out: &mut [u8]) -> u32 {
+    let one = batch(library, inputs, out, 3).max(Duration::from_nanos(1));
+    let calls = BATCH.as_nanos() / one.as_nanos();
+    (calls as u32 / inputs.len() as u32).clamp(1, 1_000_000)
 }
 
 fn median(mut times: Vec<Duration>) -> Duration {
@@ -163,29 +161,42 @@ fn micros(time: Duration) -> f64 {
     time.as_nanos() as f64 / 1000.0
 }
 
+/// Times a line on both sides and prints it.
+fn time(line: &Line) {
+    let both = [VERIFIED, ORACLE];
+    check(&both, line);
+    let mut out = vec![0; ROOM];
+    let counts = both.map(|library| turns(&library, &line.inputs, &mut out));
+    let mut times = [Vec::new(), Vec::new()];
+    for _ in 0..BATCHES {
+        for side in 0..2 {
+            times[side].push(batch(&both[side], &line.inputs, &mut out, counts[side]));
+        }
+    }
+    let [ours, rust] = times.map(median).map(micros);
+    let (name, ratio, per_second) = (line.name, ours / rust, 1e6 / ours);
+    print!("{name:36} {ours:9.2} {rust:9.2} {ratio:7.2} {per_second:11.0}");
+    println!("{}", rounds_of(line));
+}
+
 fn main() {
-    println!("seed {SEED}, medians of {BATCHES} batches, microseconds a call");
     println!(
-        "{:34} {:>12} {:>12} {:>7}{}",
+        "seed {SEED}, medians of {BATCHES} batches, microseconds a call; calls/s of the library"
+    );
+    println!("the buffer is not cleared between calls: each call finds what the one before wrote");
+    println!(
+        "{:36} {:>9} {:>9} {:>7} {:>11}{}",
         "",
         "library",
         "Rust",
         "ratio",
+        "calls/s",
         rounds::HEADS
     );
-    let both = [bindings::VERIFIED, ORACLE];
-    let mut out = vec![0; ROOM];
-    for (name, input) in lines() {
-        check(name, &both, &input);
-        let counts = both.map(|library| calls(&library, &input, &mut out));
-        let mut times = [Vec::new(), Vec::new()];
-        for _ in 0..BATCHES {
-            for side in 0..2 {
-                times[side].push(batch(&both[side], &input, &mut out, counts[side]));
-            }
-        }
-        let [ours, rust] = times.map(median).map(micros);
-        let times = format!("{name:34} {ours:12.2} {rust:12.2} {:7.2}", ours / rust);
-        println!("{times}{}", rounds_of(&input));
+    for line in lines() {
+        time(&line);
     }
+    println!("beyond the goal, built against the order in which the library takes the edges:");
+    let built = limits::against_the_search().bytes();
+    time(&plan("plan, 1,013 edges against the order", built));
 }

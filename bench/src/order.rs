@@ -3,22 +3,21 @@
 
 type Edge = (usize, usize);
 
-/// The edges in their order: as they are where that is good, else as searches find them.
+/// So many edges may fall where they are taken by number.
+const FEW: usize = 8;
+
+/// The edges in their order: by number if few of them fall, else as searches find them.
 pub fn ordered(edges: &[Edge], vertices: usize) -> Vec<Edge> {
-    if rises(edges, vertices) {
+    if falling(edges) <= FEW {
         edges.to_vec()
     } else {
         by_search(edges, vertices)
     }
 }
 
-/// Whether each vertex that edges enter is entered from a lower one.
-fn rises(edges: &[Edge], vertices: usize) -> bool {
-    let mut lowest = vec![0; vertices];
-    for &(from, to) in edges.iter().rev() {
-        lowest[to] = from;
-    }
-    (1..vertices).all(|v| lowest[v] < v)
+/// How many edges lead to a lower vertex than the one they leave.
+fn falling(edges: &[Edge]) -> usize {
+    edges.iter().filter(|&&(from, to)| to < from).count()
 }
 
 /// Searches from each vertex that is new, the entry first. The edge that was settled last comes

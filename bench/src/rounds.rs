@@ -55,6 +55,17 @@ impl Rounds {
         most
     }
 
+    /// The most rounds of each pass on two routines.
+    pub fn most(self, other: Rounds) -> Rounds {
+        Rounds {
+            reached: self.reached.max(other.reached),
+            arriving: self.arriving.max(other.arriving),
+            letters: self.letters.max(other.letters),
+            reaching: self.reaching.max(other.reaching),
+            kept: self.kept.max(other.kept),
+        }
+    }
+
     /// Counts the passes for one array with these labels.
     fn take(&mut self, array: &Array, labels: &[Option<Label>]) {
         let (_, rounds) = array.arriving();

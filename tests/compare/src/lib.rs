@@ -1,11 +1,56 @@
-//! Holds a library with the two calls against the oracle, byte by byte.
+//! The verified library, as what is held against the oracle.
 
-pub mod check;
-pub mod drive;
-pub mod library;
-pub mod render;
-pub mod shrink;
-pub mod tally;
+use harness::library::Library;
+use harness::raw::{self, Raw};
+use hpf_remap::ffi::{hpf_plan, hpf_run};
+use oracle::outcome::Outcome;
 
-#[cfg(test)]
-mod self_test;
+/// The verified library by its safe calls.
+pub const VERIFIED: Library = Library {
+    plan: |routine, out| answer(hpf_remap::plan(routine, out)),
+    run: |routine, path, out| answer(hpf_remap::run(routine, path, out)),
+};
+
+fn answer(outcome: hpf_remap::Outcome) -> Outcome {
+    let hpf_remap::Outcome {
+        number,
+        first,
+        second,
+    } = outcome;
+    Outcome {
+        number,
+        first,
+        second,
+    }
+}
+
+/// The verified library by pointers.
+pub fn verified_by_pointers() -> Library {
+    raw::library::<Pointers>()
+}
+
+struct Pointers;
+
+impl Raw for Pointers {
+    unsafe fn plan(
+        routine: *const u8,
+        routine_len: usize,
+        out: *mut u8,
+        out_len: usize,
+    ) -> Outcome {
+        // SAFETY: what `Raw` asks of its caller is what the call asks.
+        answer(unsafe { hpf_plan(routine, routine_len, out, out_len) })
+    }
+
+    unsafe fn run(
+        routine: *const u8,
+        routine_len: usize,
+        path: *const u8,
+        path_len: usize,
+        out: *mut u8,
+        out_len: usize,
+    ) -> Outcome {
+        // SAFETY: as in `plan`.
+        answer(unsafe { hpf_run(routine, routine_len, path, path_len, out, out_len) })
+    }
+}

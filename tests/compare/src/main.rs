@@ -2,11 +2,10 @@
 //!
 //! compare [--routines N] [--paths N] [--seed S]
 
-mod bindings;
-mod nulls;
 mod stack;
 
-use compare::drive::{Mismatch, Options, compare, compare_empty};
+use compare::{VERIFIED, verified_by_pointers};
+use harness::drive::{Mismatch, Options, compare, compare_part};
 use std::env;
 use std::process::ExitCode;
 use std::time::Instant;
@@ -36,19 +35,26 @@ fn options() -> Option<Options> {
 fn hold(options: Options) -> Result<(), String> {
     let in_words = |mismatch: Box<Mismatch>| mismatch.to_string();
     let start = Instant::now();
-    let tally = compare(&bindings::VERIFIED, options).map_err(in_words)?;
+    let tally = compare(&VERIFIED, options).map_err(in_words)?;
     print!("{tally}");
     let seconds = start.elapsed().as_secs_f64();
-    println!("{} inputs agree, {seconds:.1} seconds", tally.inputs());
+    let inputs = tally.inputs();
+    println!("{inputs} inputs agree, plans and runs at the same time, {seconds:.1} seconds");
     let missing = tally.missing();
     if !missing.is_empty() {
-        return Err(format!("never answered: {}\n", missing.join(", ")));
+        return Err(format!("missing or too few: {}\n", missing.join(", ")));
     }
-    let tally = compare_empty(&nulls::EMPTY_AS_NULL).map_err(in_words)?;
-    println!("{} inputs agree with null pointers", tally.inputs());
-    let (plan, run) = stack::most();
-    println!("stack: {plan} bytes for a plan, {run} for a run");
-    if plan.max(run) > stack::LIMIT {
+    let part = Options {
+        routines: options.routines / 10,
+        paths: options.paths / 10,
+        ..options
+    };
+    let tally = compare_part(&verified_by_pointers(), part).map_err(in_words)?;
+    let inputs = tally.inputs();
+    println!("{inputs} inputs agree and stay as they were, null pointers for what is empty");
+    let most = stack::most(options.seed);
+    println!("{most}");
+    if most.bytes() > stack::LIMIT {
         return Err(format!("more stack than {} bytes\n", stack::LIMIT));
     }
     Ok(())

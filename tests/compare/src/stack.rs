@@ -1,11 +1,15 @@
 //! How much stack a call takes: it runs in a thread whose stack was painted.
 
-use crate::bindings::VERIFIED;
-use compare::library::Input;
-use oracle::builder::path_bytes;
-use oracle::generate::limits;
+use compare::VERIFIED;
+use harness::drive::named;
+use harness::library::{Input, ORACLE};
+use oracle::builder::{Draft, path_bytes};
+use oracle::generate::rng::Rng;
+use oracle::generate::{limits, paths};
 use oracle::outcome::Outcome;
+use oracle::run::MAX_PATH;
 use std::ffi::{c_int, c_void};
+use std::fmt;
 use std::ptr::null_mut;
 
 /// What include/hpf_remap.h says.
@@ -52,16 +56,53 @@ extern "C" fn start(job: *mut c_void) -> *mut c_void {
     null_mut()
 }
 
-/// The stack that the largest plan and the largest report take. Nothing recurs, so that other
-/// inputs take no more.
-pub fn most() -> (usize, usize) {
-    let plan = Input::plan(limits::largest_plan().bytes());
-    let path = path_bytes(&limits::longest_path());
-    let run = Input::run(limits::largest_report().bytes(), path);
-    (used(&plan), used(&run))
+/// The most stack of a call, over so many inputs of each.
+#[derive(Default)]
+pub struct Most {
+    plan: usize,
+    run: usize,
+    inputs: usize,
 }
 
-/// The bytes of stack below the caller's frame that an accepted input's call takes.
+impl Most {
+    pub fn bytes(&self) -> usize {
+        self.plan.max(self.run)
+    }
+
+    fn take(&mut self, draft: &Draft, path: &[u16]) {
+        let file = draft.bytes();
+        self.plan = self.plan.max(used(&Input::plan(file.clone())));
+        self.run = self.run.max(used(&Input::run(file, path_bytes(path))));
+        self.inputs += 1;
+    }
+}
+
+impl fmt::Display for Most {
+    fn fmt(&self, f: &mut fmt::Formatter) -> fmt::Result {
+        let Most { plan, run, inputs } = self;
+        write!(f, "stack: {plan} bytes for a plan, {run} for a run, ")?;
+        write!(f, "the most over {inputs} routines")
+    }
+}
+
+/// The most stack that the routines with a name and those at the limits take: the largest, those
+/// whose edges are numbered along their paths and against them, accepted and refused ones.
+pub fn most(seed: u64) -> Most {
+    let mut most = Most::default();
+    for (draft, paths) in named() {
+        most.take(&draft, &paths[0]);
+    }
+    most.take(&limits::largest_report(), &limits::longest_path());
+    most.take(&limits::ring_of_labels(), &limits::round_the_ring());
+    let mut rng = Rng::new(seed);
+    for draft in limits::at_limits(&mut rng) {
+        let path = paths::walk(&mut rng, &draft, MAX_PATH);
+        most.take(&draft, &path);
+    }
+    most
+}
+
+/// The bytes of stack below the caller's frame that a call takes.
 fn used(input: &Input) -> usize {
     let mut stack = Box::new(Stack([PAINT; SIZE]));
     let mut attributes = Attributes([0; 128]);
@@ -86,6 +127,7 @@ fn used(input: &Input) -> usize {
             .take_while(|&place| memory.add(place).read_volatile() == PAINT)
             .count()
     };
-    assert_eq!(job.outcome.number, 0);
+    // A call that ends too early takes less.
+    assert_eq!(job.outcome, input.call(&ORACLE, &mut job.out));
     job.frame - memory.addr() - painted
 }

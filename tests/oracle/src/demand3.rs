@@ -1,7 +1,7 @@
 //! Demand 3 ("Run", last part): a run held against the machine that copies at every
 //! remapping, over a whole accepted path.
 
-use crate::labels::fixpoint::Solved;
+use crate::labels::Labels;
 use crate::machine;
 use crate::record::Record;
 use crate::routine::{Array, Event, Kind, Reference, Routine};
@@ -14,9 +14,9 @@ struct Shown {
 }
 
 /// Demand 3 of the run by the rules, the last stamps included.
-pub fn of_run(routine: &Routine, solved: &Solved, path: &[u8]) -> Result<(), String> {
+pub fn of_run(routine: &Routine, labels: &impl Labels, path: &[u8]) -> Result<(), String> {
     let mut records = Vec::new();
-    let states = run::walk(routine, solved, path, |record| records.push(record));
+    let states = run::walk(routine, labels, path, |record| records.push(record));
     let states = &states[..routine.array_count()];
     let shown = Shown {
         copies: states

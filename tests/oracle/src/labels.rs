@@ -57,6 +57,22 @@ impl Label {
     }
 }
 
+/// The labels of a routine, as a form of the rules works them out.
+pub trait Labels {
+    /// The arrays with a label at a vertex, rising, each with its label.
+    fn at(&self, vertex: usize) -> impl Iterator<Item = (usize, Label)>;
+}
+
+/// Labels by array, then vertex.
+impl Labels for Vec<Vec<Option<Label>>> {
+    fn at(&self, vertex: usize) -> impl Iterator<Item = (usize, Label)> {
+        let labels = self.iter().map(move |labels| labels[vertex]);
+        labels
+            .enumerate()
+            .filter_map(|(array, label)| Some((array, label?)))
+    }
+}
+
 /// The first define or modify of an in argument, by vertex, then array.
 pub fn refusal_20(routine: &Routine) -> Option<Refusal> {
     for vertex in 0..routine.vertex_count() {

@@ -1,20 +1,30 @@
 //! The plan's bytes ("Plan and report") and refusal 1.
 
 use crate::labels::fixpoint::Solved;
+use crate::labels::{Labels, literal};
 use crate::outcome::{Outcome, Refusal};
 use crate::routine::Routine;
 
 /// Writes the plan of a routine file over the front of `out`.
 pub fn plan(file: &[u8], out: &mut [u8]) -> Outcome {
-    Outcome::of(write(file, out))
+    Outcome::of(Routine::parse(file).and_then(|routine| {
+        let mut solved = Solved::EMPTY;
+        solved.accept(&routine)?;
+        write(&routine, &solved, out)
+    }))
 }
 
-fn write(file: &[u8], out: &mut [u8]) -> Result<usize, Refusal> {
-    let routine = Routine::parse(file)?;
-    let mut solved = Solved::EMPTY;
-    solved.accept(&routine)?;
+/// The same with the labels by listing paths, for small routines.
+pub fn plan_by_paths(file: &[u8], out: &mut [u8]) -> Outcome {
+    Outcome::of(Routine::parse(file).and_then(|routine| {
+        let labels = literal::accept(&routine)?;
+        write(&routine, &labels, out)
+    }))
+}
+
+fn write(routine: &Routine, all: &impl Labels, out: &mut [u8]) -> Result<usize, Refusal> {
     let vertices = routine.vertex_count();
-    let labels = label_count(&routine);
+    let labels = label_count(routine);
     let needed = 8 + 4 * vertices + 8 * labels;
     if out.len() < needed {
         return Err(Refusal::at(1, needed));
@@ -28,7 +38,7 @@ fn write(file: &[u8], out: &mut [u8]) -> Result<usize, Refusal> {
     let mut records = records.as_chunks_mut::<8>().0.iter_mut();
     for (vertex, entry) in contents.as_chunks_mut::<4>().0.iter_mut().enumerate() {
         let mut here = 0;
-        for ((array, label), record) in solved.labels_at(vertex).zip(&mut records) {
+        for ((array, label), record) in all.at(vertex).zip(&mut records) {
             here += 1;
             let [reaching, reaching_high] = label.reaching.to_le_bytes();
             let [kept, kept_high] = label.kept.to_le_bytes();

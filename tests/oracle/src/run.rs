@@ -1,7 +1,7 @@
 //! The run rules ("Run", first part), the report's bytes and refusals 30 to 32 and 2.
 
 use crate::labels::fixpoint::Solved;
-use crate::labels::{Label, Use};
+use crate::labels::{Label, Labels, Use, literal};
 use crate::outcome::{Outcome, Refusal};
 use crate::record::Record;
 use crate::routine::{
@@ -147,7 +147,7 @@ impl Edges {
 /// Takes an accepted path by the run rules; gives each record and the last state.
 pub fn walk(
     routine: &Routine,
-    solved: &Solved,
+    labels: &impl Labels,
     path: &[u8],
     mut give: impl FnMut(Record),
 ) -> [Copies; MAX_ARRAYS] {
@@ -162,7 +162,7 @@ pub fn walk(
                 give(all[array].reference(step, array, reference));
             }
         }
-        for (array, label) in solved.labels_at(vertex) {
+        for (array, label) in labels.at(vertex) {
             all[array].label(routine.array(array), &label);
         }
         if vertex == routine.exit() {
@@ -178,22 +178,36 @@ pub fn walk(
 
 /// Writes the report of a path through a routine file over the front of `out`.
 pub fn run(file: &[u8], path: &[u8], out: &mut [u8]) -> Outcome {
-    Outcome::of(write(file, path, out))
+    Outcome::of(Routine::parse(file).and_then(|routine| {
+        let mut solved = Solved::EMPTY;
+        solved.accept(&routine)?;
+        write(&routine, &solved, path, out)
+    }))
 }
 
-fn write(file: &[u8], path: &[u8], out: &mut [u8]) -> Result<usize, Refusal> {
-    let routine = Routine::parse(file)?;
-    let mut solved = Solved::EMPTY;
-    solved.accept(&routine)?;
-    check_path(&routine, path)?;
+/// The same with the labels by listing paths, for small routines.
+pub fn run_by_paths(file: &[u8], path: &[u8], out: &mut [u8]) -> Outcome {
+    Outcome::of(Routine::parse(file).and_then(|routine| {
+        let labels = literal::accept(&routine)?;
+        write(&routine, &labels, path, out)
+    }))
+}
+
+fn write(
+    routine: &Routine,
+    labels: &impl Labels,
+    path: &[u8],
+    out: &mut [u8],
+) -> Result<usize, Refusal> {
+    check_path(routine, path)?;
     let arrays = routine.array_count();
-    let needed = 6 * arrays + 10 * reference_count(&routine, path);
+    let needed = 6 * arrays + 10 * reference_count(routine, path);
     if out.len() < needed {
         return Err(Refusal::at(2, needed));
     }
     let (heads, records) = out[..needed].split_at_mut(6 * arrays);
     let mut records = records.as_chunks_mut::<10>().0.iter_mut();
-    let states = walk(&routine, &solved, path, |record| {
+    let states = walk(routine, labels, path, |record| {
         if let Some(place) = records.next() {
             *place = record.bytes();
         }

@@ -1,11 +1,9 @@
 //! Refusals, places, buffers and limits.
 
 use oracle::builder::{self, DEFINE, Draft, IN, LOCAL, READ, path_bytes, remap};
-use oracle::generate::rng::Rng;
-use oracle::generate::{damage, limits, paths, routines};
+use oracle::generate::limits;
 use oracle::outcome::Outcome;
 use oracle::plan::plan;
-use oracle::routine::Routine;
 use oracle::run::run;
 
 fn plan_answer(file: &[u8]) -> (u64, u64, u64) {
@@ -190,47 +188,4 @@ fn one_beyond_each_limit() {
             (14, 19, 0)
         ]
     );
-}
-
-#[test]
-fn drawn_refusals_have_their_number() {
-    for number in damage::FILE_REFUSALS {
-        for index in 0..300 {
-            let mut rng = Rng::for_input(number, index);
-            let file = damage::refused(&mut rng, number);
-            assert_eq!(plan_answer(&file).0, number);
-        }
-    }
-}
-
-#[test]
-fn drawn_routines_are_well_formed() {
-    for index in 0..500 {
-        let mut rng = Rng::for_input(5, index);
-        let size = routines::Size::any(&mut rng);
-        for draft in [
-            routines::program(&mut rng, size),
-            routines::any_graph(&mut rng, size),
-        ] {
-            let file = draft.bytes();
-            assert!(Routine::parse(&file).is_ok(), "{draft:?}");
-            assert_eq!(Draft::from_bytes(&file), Some(draft));
-        }
-    }
-}
-
-#[test]
-fn drawn_paths_follow_edges() {
-    let mut refused = [0; 33];
-    for index in 0..500 {
-        let mut rng = Rng::for_input(6, index);
-        let size = routines::Size::any(&mut rng);
-        let draft = routines::accepted(&mut rng, size);
-        let wanted = paths::any_length(&mut rng);
-        let path = path_bytes(&paths::walk(&mut rng, &draft, wanted));
-        assert_eq!(run_answer(&draft.bytes(), &path).0, 0);
-        let damaged = paths::damaged(&mut rng, &draft);
-        refused[run_answer(&draft.bytes(), &damaged).0 as usize] += 1;
-    }
-    assert!(refused[30..].iter().all(|&count| count > 20), "{refused:?}");
 }

@@ -1,6 +1,6 @@
 //! What document 01 says that the two programs print ("Routine P and others").
 
-use compare::library::{Input, ORACLE};
+use harness::library::{Input, ORACLE};
 use oracle::listing;
 use oracle::outcome::Outcome;
 use oracle::routine::Routine;

@@ -1,12 +1,11 @@
 //! The inputs that are tried. The seed decides all that are drawn.
 
 use crate::expected::LONGEST_PATH;
-use compare::drive::named;
-use compare::library::Input;
+use harness::drive::named;
+use harness::library::Input;
 use oracle::builder::{self, Draft, path_bytes};
 use oracle::generate::rng::Rng;
-use oracle::generate::routines::{self, Size};
-use oracle::generate::{damage, limits, paths};
+use oracle::generate::{damage, limits, paths, routines};
 
 /// The longest routine file.
 const LONGEST_FILE: usize = 6194;
@@ -36,21 +35,6 @@ fn drawn(seed: u64, count: u64, draw: impl Fn(&mut Rng, u64) -> Input) -> Vec<In
     (0..count)
         .map(|index| draw(&mut Rng::for_input(seed, index), index))
         .collect()
-}
-
-/// An accepted routine with two arrays of each kind, of up to so many vertices.
-fn every_kind(rng: &mut Rng, vertices: usize) -> Draft {
-    let size = Size {
-        vertices: rng.between(3, vertices),
-        arrays: 8,
-        versions: rng.between(1, 16),
-    };
-    let mut draft = routines::program(rng, size);
-    for (array, record) in draft.arrays.iter_mut().enumerate() {
-        record[0] = array as u8 % 4;
-    }
-    routines::make_acceptable(rng, &mut draft);
-    draft
 }
 
 fn lengthened(draft: &Draft, length: usize) -> Vec<u8> {
@@ -86,7 +70,9 @@ fn plans_by_length() -> Vec<Input> {
 }
 
 fn accepted_plans(seed: u64) -> Vec<Input> {
-    drawn(seed, 150, |rng, _| Input::plan(every_kind(rng, 80).bytes()))
+    drawn(seed, 150, |rng, _| {
+        Input::plan(routines::every_kind(rng, 80).bytes())
+    })
 }
 
 fn refused_plans(seed: u64) -> Vec<Input> {
@@ -103,7 +89,7 @@ fn damaged_plans(seed: u64) -> Vec<Input> {
         if index % 3 == 0 {
             return Input::plan(damage::several_faults(rng));
         }
-        let mut file = every_kind(rng, 20).bytes();
+        let mut file = routines::every_kind(rng, 20).bytes();
         if rng.chance(80) {
             let place = rng.below(file.len());
             file[place] ^= rng.between(1, 255) as u8;
@@ -195,7 +181,7 @@ fn long_paths() -> Vec<Input> {
 
 fn accepted_runs(seed: u64) -> Vec<Input> {
     drawn(seed, 200, |rng, _| {
-        let draft = every_kind(rng, 80);
+        let draft = routines::every_kind(rng, 80);
         let wanted = rng.between(1, LONGEST_PATH + 8);
         let path = paths::walk(rng, &draft, wanted);
         Input::run(draft.bytes(), path_bytes(&path))
@@ -204,7 +190,7 @@ fn accepted_runs(seed: u64) -> Vec<Input> {
 
 fn damaged_paths(seed: u64) -> Vec<Input> {
     drawn(!seed, 150, |rng, _| {
-        let draft = every_kind(rng, 20);
+        let draft = routines::every_kind(rng, 20);
         let path = paths::damaged(rng, &draft);
         Input::run(draft.bytes(), path)
     })

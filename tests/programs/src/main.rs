@@ -6,10 +6,10 @@ mod expected;
 mod folder;
 mod inputs;
 
-use compare::library::Input;
-use compare::shrink::shrink;
 use expected::Answer;
 use folder::Folder;
+use harness::library::Input;
+use harness::shrink::shrink;
 use oracle::generate::damage::FILE_REFUSALS;
 use std::collections::BTreeMap;
 use std::env;

@@ -138,25 +138,37 @@ fn damage_action(rng: &mut Rng, draft: &mut Draft) {
 
 fn damage_edge(rng: &mut Rng, draft: &mut Draft) {
     let vertices = draft.rows.len();
-    let edge = rng.between(1, draft.edges.len() - 1);
+    let edge = rng.below(draft.edges.len());
+    // The first edge has none before it.
+    let later = edge.max(1);
     match rng.below(6) {
         0 => draft.edges[edge].0 = rng.between(vertices, 65_535) as u16,
         1 => draft.edges[edge].1 = rng.between(vertices, 65_535) as u16,
         2 => draft.edges[edge].1 = 0,
         3 => draft.edges[edge].0 = vertices as u16 - 1,
-        4 => draft.edges[edge] = draft.edges[edge - 1],
-        _ => draft.edges.swap(edge, edge - 1),
+        4 => draft.edges[later] = draft.edges[later - 1],
+        _ => draft.edges.swap(later, later - 1),
     }
 }
 
-/// A define or modify of an in argument.
+/// A define or modify of an in argument, often of several in one row, beside references that
+/// are allowed.
 fn change_in_argument(rng: &mut Rng, draft: &mut Draft) {
-    let array = rng.below(draft.arrays.len());
-    draft.arrays[array][0] = IN;
+    let always = rng.below(draft.arrays.len());
+    for (array, record) in draft.arrays.iter_mut().enumerate() {
+        if array == always || rng.chance(50) {
+            record[0] = IN;
+        }
+    }
     for _ in 0..rng.between(1, 3) {
         let vertex = rng.between(1, draft.rows.len() - 2);
-        draft.rows[vertex].fill(0);
-        draft.rows[vertex][array] = rng.pick(&[DEFINE, MODIFY]);
+        for (array, action) in draft.rows[vertex].iter_mut().enumerate() {
+            *action = if array == always {
+                rng.pick(&[DEFINE, MODIFY])
+            } else {
+                rng.pick(&[0, READ, DEFINE, MODIFY])
+            };
+        }
     }
 }
 

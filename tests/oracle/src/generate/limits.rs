@@ -74,15 +74,91 @@ pub fn zigzag_chain(rng: &mut Rng) -> Draft {
 
 /// 256 vertices, 1,024 edges, eight arrays of up to 16 versions.
 pub fn dense(rng: &mut Rng) -> Draft {
-    let mut draft = routines::graph(rng, Size::LARGEST, MAX_EDGES, true);
-    while draft.edges.len() < MAX_EDGES {
-        let from = rng.below(MAX_VERTICES - 1) as u16;
-        let to = rng.between(1, MAX_VERTICES - 1) as u16;
-        if let Err(place) = draft.edges.binary_search(&(from, to)) {
-            draft.edges.insert(place, (from, to));
+    routines::graph_of(rng, Size::LARGEST, MAX_EDGES)
+}
+
+/// Eight arrays that the last vertex but one and vertex 1 remap; nothing else is done.
+fn two_rows_of_labels(mut edges: Vec<(u16, u16)>) -> Draft {
+    let remaps = |first: u8| (0..MAX_ARRAYS as u8).map(move |array| remap(first + array % 3));
+    let mut rows = vec![vec![0; MAX_ARRAYS]; MAX_VERTICES];
+    rows[MAX_VERTICES - 2] = remaps(1).collect();
+    rows[1] = remaps(4).collect();
+    edges.sort_unstable();
+    Draft {
+        arrays: vec![[INOUT, MAX_VERSIONS as u8, 0, 0]; MAX_ARRAYS],
+        rows,
+        edges,
+    }
+}
+
+/// The entry has an edge to each vertex but the exit, and a chain runs against the numbers: in
+/// sweeps by number facts travel one vertex a sweep.
+pub fn slowest_chain() -> Draft {
+    let exit = MAX_VERTICES as u16 - 1;
+    let mut edges = vec![(1, exit)];
+    edges.extend((1..exit).map(|vertex| (0, vertex)));
+    edges.extend((2..exit).map(|vertex| (vertex, vertex - 1)));
+    two_rows_of_labels(edges)
+}
+
+/// `slowest_chain` with edges to the next vertex and loops at each: a depth-first search settles
+/// the vertices by number too, and facts still travel one vertex a sweep.
+pub fn against_the_search() -> Draft {
+    let exit = MAX_VERTICES as u16 - 1;
+    let mut edges = slowest_chain().edges;
+    edges.extend((2..exit).map(|vertex| (vertex, vertex)));
+    edges.extend((2..exit - 1).map(|vertex| (vertex, vertex + 1)));
+    two_rows_of_labels(edges)
+}
+
+/// The vertices of a ring that has room for another vertex beside each.
+const RING: u16 = MAX_VERTICES as u16 / 2 - 1;
+
+/// Each vertex of the ring remaps all arrays, and the one beside it modifies them: no label is
+/// dropped.
+pub fn ring_of_labels() -> Draft {
+    let version = |vertex, array| ((vertex + array) % MAX_VERSIONS) as u8;
+    let labels = |vertex| (0..MAX_ARRAYS).map(move |array| remap(version(vertex, array)));
+    let mut rows = vec![vec![0; MAX_ARRAYS]];
+    rows.extend((1..=usize::from(RING)).map(|vertex| labels(vertex).collect()));
+    rows.resize(MAX_VERTICES - 1, vec![MODIFY; MAX_ARRAYS]);
+    rows.push(vec![0; MAX_ARRAYS]);
+    let mut edges = vec![(0, 1), (RING, 1)];
+    edges.extend((1..RING).map(|vertex| (vertex, vertex + 1)));
+    edges.extend((1..=RING).map(|vertex| (vertex, vertex + RING)));
+    edges.sort_unstable();
+    Draft {
+        arrays: vec![[INOUT, MAX_VERSIONS as u8, 0, 0]; MAX_ARRAYS],
+        rows,
+        edges,
+    }
+}
+
+/// The longest path round the ring: each step but the first copies every array.
+pub fn round_the_ring() -> Vec<u16> {
+    let mut path = vec![0];
+    path.extend((0..4095).map(|index| 1 + index % RING));
+    path
+}
+
+/// Accepted graphs with counts about powers of two, where a smaller table may end.
+fn about_powers_of_two(rng: &mut Rng) -> Vec<Draft> {
+    let mut drafts = Vec::new();
+    for (vertices, edges) in [([32, 33], [127, 128, 129]), ([128, 129], [511, 512, 513])] {
+        for vertices in vertices {
+            let size = Size {
+                vertices,
+                arrays: MAX_ARRAYS,
+                versions: 4,
+            };
+            drafts.extend(edges.map(|edges| {
+                let mut draft = routines::graph_of(rng, size, edges);
+                routines::make_acceptable(rng, &mut draft);
+                draft
+            }));
         }
     }
-    draft
+    drafts
 }
 
 /// Routines with a count at its limit; each is well formed.
@@ -92,10 +168,17 @@ pub fn at_limits(rng: &mut Rng) -> Vec<Draft> {
         Draft::one_array(INOUT, 16, 15, &[], &[(0, 1)]),
         largest_plan(),
         largest_report(),
+        slowest_chain(),
+        against_the_search(),
+        ring_of_labels(),
     ];
+    drafts.extend(about_powers_of_two(rng));
     for _ in 0..2 {
         let mut draft = backward_chain(rng);
         drafts.push(draft.clone());
+        routines::make_acceptable(rng, &mut draft);
+        drafts.push(draft);
+        let mut draft = zigzag_chain(rng);
         routines::make_acceptable(rng, &mut draft);
         drafts.push(draft);
         let mut draft = dense(rng);

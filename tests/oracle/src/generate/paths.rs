@@ -7,8 +7,9 @@ use crate::run::MAX_PATH;
 /// How long a path may become: mostly short, sometimes up to the limit.
 pub fn any_length(rng: &mut Rng) -> usize {
     match rng.below(20) {
-        0..=11 => rng.between(1, 30),
-        12..=17 => rng.between(20, 200),
+        0 | 1 => rng.between(1, 8),
+        2..=9 => rng.between(8, 40),
+        10..=17 => rng.between(40, 200),
         18 => rng.between(200, 1000),
         _ => rng.between(1000, MAX_PATH),
     }

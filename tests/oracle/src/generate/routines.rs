@@ -181,10 +181,24 @@ pub fn program(rng: &mut Rng, size: Size) -> Draft {
     program.edges(&returns, exit);
     let mut draft = program.draft;
     draft.rows.push(vec![0; draft.arrays.len()]);
-    draft.edges.sort_unstable();
-    draft.edges.dedup();
-    draft.edges.truncate(MAX_EDGES);
+    put_in_order(rng, &mut draft.edges);
     draft
+}
+
+/// Sorts edges and takes out the surplus: those that stand twice, and any beyond the limit.
+fn put_in_order(rng: &mut Rng, edges: &mut Vec<(u16, u16)>) {
+    edges.sort_unstable();
+    edges.dedup();
+    while edges.len() > MAX_EDGES {
+        edges.remove(rng.below(edges.len()));
+    }
+}
+
+/// Any edge that a routine of so many vertices may have.
+fn edge(rng: &mut Rng, vertices: usize) -> (u16, u16) {
+    let from = rng.below(vertices - 1);
+    let to = rng.between(1, vertices - 1);
+    (from as u16, to as u16)
 }
 
 /// Any graph with about so many edges; `spine` joins all vertices in order first.
@@ -199,18 +213,26 @@ pub fn graph(rng: &mut Rng, size: Size, edges: usize, spine: bool) -> Draft {
         list.extend((0..vertices as u16 - 1).map(|vertex| (vertex, vertex + 1)));
     }
     for _ in list.len()..edges {
-        let from = rng.below(vertices - 1);
-        let to = rng.between(1, vertices - 1);
-        list.push((from as u16, to as u16));
+        list.push(edge(rng, vertices));
     }
-    list.sort_unstable();
-    list.dedup();
-    list.truncate(MAX_EDGES);
+    put_in_order(rng, &mut list);
     Draft {
         arrays,
         rows,
         edges: list,
     }
+}
+
+/// A graph with exactly so many edges, all vertices joined in order among them.
+pub fn graph_of(rng: &mut Rng, size: Size, edges: usize) -> Draft {
+    let mut draft = graph(rng, size, edges, true);
+    while draft.edges.len() < edges {
+        let edge = edge(rng, size.vertices);
+        if let Err(place) = draft.edges.binary_search(&edge) {
+            draft.edges.insert(place, edge);
+        }
+    }
+    draft
 }
 
 /// Any graph of any size and density.
@@ -250,6 +272,21 @@ pub fn accepted(rng: &mut Rng, size: Size) -> Draft {
     } else {
         any_graph(rng, size)
     };
+    make_acceptable(rng, &mut draft);
+    draft
+}
+
+/// A program that is accepted, with two arrays of each kind and up to so many vertices.
+pub fn every_kind(rng: &mut Rng, vertices: usize) -> Draft {
+    let size = Size {
+        vertices: rng.between(3, vertices),
+        arrays: MAX_ARRAYS,
+        versions: rng.between(1, MAX_VERSIONS),
+    };
+    let mut draft = program(rng, size);
+    for (array, record) in draft.arrays.iter_mut().enumerate() {
+        record[0] = array as u8 % 4;
+    }
     make_acceptable(rng, &mut draft);
     draft
 }

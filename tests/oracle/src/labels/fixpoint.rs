@@ -5,7 +5,7 @@
 //! when something it depends on has changed. Programs are mostly numbered forwards, so
 //! a sweep along the edges takes vertices by rising number, one against them by falling.
 
-use super::{Label, Use};
+use super::{Label, Labels, Use};
 use crate::outcome::Refusal;
 use crate::routine::{Array, Kind, MAX_ARRAYS, MAX_EDGES, MAX_VERTICES, Routine};
 
@@ -362,23 +362,6 @@ impl Solved {
         }
     }
 
-    /// The arrays with a label at a vertex, rising, each with its label.
-    #[inline(always)]
-    pub fn labels_at(&self, vertex: usize) -> impl Iterator<Item = (usize, Label)> {
-        let row = &self.rows[vertex];
-        let reaching = self.reaching[vertex];
-        let kept = self.kept[vertex];
-        members(row.labels).map(move |array| {
-            let label = Label {
-                letter: row.letter(array),
-                version: set_of(row.version, array).trailing_zeros() as u8,
-                reaching: set_of(reaching, array),
-                kept: set_of(kept, array),
-            };
-            (array, label)
-        })
-    }
-
     /// The first define or modify of an in argument, by vertex, then array.
     fn refusal_20(&self, routine: &Routine) -> Option<Refusal> {
         let ins = arrays(routine, |array| array.kind == Kind::In);
@@ -420,6 +403,24 @@ impl Solved {
     }
 }
 
+impl Labels for Solved {
+    #[inline(always)]
+    fn at(&self, vertex: usize) -> impl Iterator<Item = (usize, Label)> {
+        let row = &self.rows[vertex];
+        let reaching = self.reaching[vertex];
+        let kept = self.kept[vertex];
+        members(row.labels).map(move |array| {
+            let label = Label {
+                letter: row.letter(array),
+                version: set_of(row.version, array).trailing_zeros() as u8,
+                reaching: set_of(reaching, array),
+                kept: set_of(kept, array),
+            };
+            (array, label)
+        })
+    }
+}
+
 /// The arrays that pass a test.
 fn arrays(routine: &Routine, test: impl Fn(Array) -> bool) -> Arrays {
     let bits = routine.arrays().enumerate();
@@ -439,7 +440,7 @@ pub fn labels(routine: &Routine) -> Vec<Vec<Option<Label>>> {
     let mut solved = Solved::EMPTY;
     solved.solve(routine);
     let label = |vertex, array| {
-        let mut labels = solved.labels_at(vertex);
+        let mut labels = solved.at(vertex);
         labels.find_map(|(other, label)| (other == array).then_some(label))
     };
     let vertices = 0..routine.vertex_count();

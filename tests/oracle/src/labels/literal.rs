@@ -201,3 +201,11 @@ pub fn refusal(routine: &Routine) -> Option<Refusal> {
     };
     refusal_20(routine).or_else(ambiguous)
 }
+
+/// The labels of a routine, or refusal 20 or 21.
+pub fn accept(routine: &Routine) -> Result<Vec<Vec<Option<Label>>>, Refusal> {
+    match refusal(routine) {
+        Some(refusal) => Err(refusal),
+        None => Ok(labels(routine)),
+    }
+}

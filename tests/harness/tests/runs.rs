@@ -1,6 +1,8 @@
-//! Demand 3 on random paths, and the share of what they exercise.
+//! Demand 3 of the oracle's own runs, the last stamps included.
 
-use oracle::builder::{Draft, path_bytes};
+use harness::library::Input;
+use harness::shrink::demand;
+use oracle::builder::{self, Draft, path_bytes};
 use oracle::demand3;
 use oracle::generate::rng::Rng;
 use oracle::generate::routines::{self, Size};
@@ -11,49 +13,53 @@ use oracle::run::{check_path, run};
 
 const SEED: u64 = 2;
 
-/// Demand 3 of the run and of the report's bytes; `name` says where the input comes from.
-fn demand_3(name: &str, draft: &Draft, path: &[u16]) {
-    let shown = || format!("{name}: path {path:?}, {draft:?}");
-    let file = draft.bytes();
-    let bytes = path_bytes(path);
-    let routine =
-        Routine::parse(&file).unwrap_or_else(|refusal| panic!("{refusal:?}, {}", shown()));
-    assert_eq!(check_path(&routine, &bytes), Ok(()), "{}", shown());
+/// No report is longer.
+const ROOM: usize = 327_648;
+
+/// Demand 3 of the run and of the report's bytes, where routine and path are well formed.
+fn holds(file: &[u8], path: &[u8]) -> Result<(), String> {
+    let Ok(routine) = Routine::parse(file) else {
+        return Ok(());
+    };
+    if check_path(&routine, path).is_err() {
+        return Ok(());
+    }
     let mut solved = Solved::EMPTY;
     let accepted = solved.accept(&routine).is_ok();
-    assert_eq!(
-        demand3::of_run(&routine, &solved, &bytes),
-        Ok(()),
-        "{}",
-        shown()
-    );
-    if accepted {
-        let mut report = vec![0x5a; 400_000];
-        let answer = run(&file, &bytes, &mut report);
-        assert_eq!(answer.number, 0, "{}", shown());
-        report.truncate(answer.first as usize);
-        assert_eq!(
-            demand3::of_report(&routine, &bytes, &report),
-            Ok(()),
-            "{}",
-            shown()
-        );
+    demand3::of_run(&routine, &solved, path)?;
+    if !accepted {
+        return Ok(());
     }
+    let mut report = vec![0x5a; ROOM];
+    let answer = run(file, path, &mut report);
+    if answer.number != 0 {
+        return Err(format!("{answer:?}"));
+    }
+    demand3::of_report(&routine, path, &report[..answer.first as usize])
+}
+
+/// `name` says where routine and path come from.
+fn demand_3(name: &str, draft: &Draft, path: &[u16]) {
+    let (file, path) = (draft.bytes(), path_bytes(path));
+    let well_formed =
+        Routine::parse(&file).is_ok_and(|routine| check_path(&routine, &path).is_ok());
+    let input = Input::run(file, path);
+    assert!(well_formed, "{name}\n{input}");
+    demand(name, input, &|input| {
+        holds(&input.routine, input.path.as_deref().unwrap_or_default())
+    });
 }
 
 #[test]
 fn random_paths() {
-    let mut home = 0;
     for index in 0..4000 {
         let mut rng = Rng::for_input(SEED, index);
         let size = Size::any(&mut rng);
         let draft = routines::accepted(&mut rng, size);
         let wanted = paths::any_length(&mut rng);
         let path = paths::walk(&mut rng, &draft, wanted);
-        home += usize::from(usize::from(path[path.len() - 1]) == draft.rows.len() - 1);
         demand_3(&format!("seed {SEED}, index {index}"), &draft, &path);
     }
-    assert!(home > 1000, "{home} paths end at the exit");
 }
 
 /// Demand 3 needs neither 20 nor 21.
@@ -75,18 +81,30 @@ fn paths_through_refused_routines() {
 }
 
 #[test]
-fn the_longest_path() {
-    demand_3(
-        "the longest path",
-        &limits::largest_report(),
-        &limits::longest_path(),
+fn the_longest_paths() {
+    let (report, ring) = (limits::largest_report(), limits::ring_of_labels());
+    demand_3("the largest report", &report, &limits::longest_path());
+    demand_3("the ring", &ring, &limits::round_the_ring());
+}
+
+/// Every step round the ring copies: the machine does no more.
+#[test]
+fn the_most_copies() {
+    let (file, path) = (
+        limits::ring_of_labels().bytes(),
+        path_bytes(&limits::round_the_ring()),
     );
+    let mut report = [0; 48];
+    assert_eq!(run(&file, &path, &mut report).number, 0);
+    for head in report.chunks_exact(6) {
+        assert_eq!(u16::from_le_bytes([head[0], head[1]]), 4095);
+    }
 }
 
 /// A report that differs from the machine is found.
 #[test]
 fn invented_records_are_found() {
-    let draft = oracle::builder::s();
+    let draft = builder::s();
     let file = draft.bytes();
     let path = path_bytes(&[0, 1, 2, 3, 4]);
     let routine = Routine::parse(&file).unwrap();

@@ -1,6 +1,7 @@
 //! The calls that are held against the oracle's, and their inputs.
 
 use oracle::outcome::Outcome;
+use oracle::routine::Routine;
 
 /// Plans a routine into a buffer.
 pub type Plan = fn(&[u8], &mut [u8]) -> Outcome;
@@ -15,10 +16,16 @@ pub struct Library {
     pub run: Run,
 }
 
-/// The oracle's own calls.
+/// The oracle's own calls, with the labels by data flow.
 pub const ORACLE: Library = Library {
     plan: oracle::plan::plan,
     run: oracle::run::run,
+};
+
+/// The oracle's own calls, with the labels by listing paths.
+const LITERAL: Library = Library {
+    plan: oracle::plan::plan_by_paths,
+    run: oracle::run::run_by_paths,
 };
 
 /// What a call reads: a plan has no path.
@@ -48,6 +55,38 @@ impl Input {
         match &self.path {
             None => (library.plan)(&self.routine, out),
             Some(path) => (library.run)(&self.routine, path, out),
+        }
+    }
+}
+
+/// Which form of the label rules says what is expected.
+#[derive(Clone, Copy, Debug, PartialEq, Eq)]
+pub enum Form {
+    /// The file is refused by 10 to 16, before the rules are asked.
+    NotAsked,
+    /// By listing paths: the words of the rules, and slow.
+    Literal,
+    /// By data flow.
+    Fixpoint,
+}
+
+impl Form {
+    /// Literal for small routines: there are few paths to list.
+    pub fn of(file: &[u8]) -> Form {
+        match Routine::parse(file) {
+            Err(_) => Form::NotAsked,
+            Ok(routine) if routine.vertex_count() <= 8 && routine.edge_count() <= 12 => {
+                Form::Literal
+            }
+            Ok(_) => Form::Fixpoint,
+        }
+    }
+
+    /// The oracle's calls with this form.
+    pub fn oracle(self) -> Library {
+        match self {
+            Form::Literal => LITERAL,
+            Form::NotAsked | Form::Fixpoint => ORACLE,
         }
     }
 }

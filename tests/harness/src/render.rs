@@ -1,15 +1,19 @@
 //! An input and a mismatch in words.
 
-use crate::check::Difference;
+use crate::check::{Called, Difference};
 use crate::drive::Mismatch;
 use crate::library::Input;
 use oracle::builder::Draft;
 use oracle::outcome::Outcome;
 use oracle::routine::Action;
+use oracle::run::{MAX_PATH, vertices};
 use std::fmt::{self, Write};
 
 /// Longer buffers are not printed.
 const SHOWN: usize = 400;
+
+/// So many bytes of a routine or path are printed: no accepted one has more.
+const MOST: usize = 2 * MAX_PATH + 1;
 
 fn hexadecimal(bytes: &[u8]) -> String {
     let mut text = String::new();
@@ -19,6 +23,17 @@ fn hexadecimal(bytes: &[u8]) -> String {
             text += &format!(" {byte:02x}");
         }
         text += "\n";
+    }
+    text
+}
+
+/// A name, the length, and the front of what is longer than any accepted input.
+fn named(name: &str, bytes: &[u8]) -> String {
+    let front = &bytes[..bytes.len().min(MOST)];
+    let mut text = format!("{name}, {} bytes:\n", bytes.len());
+    text += &hexadecimal(front);
+    if front.len() < bytes.len() {
+        text += "    and so on\n";
     }
     text
 }
@@ -61,33 +76,29 @@ fn routine(draft: &Draft) -> String {
     text + &format!("  edges: {}\n", edges.join(" "))
 }
 
-fn side(name: &str, (outcome, bytes): &(Outcome, Vec<u8>)) -> String {
+fn side(name: &str, called: &Called) -> String {
     let Outcome {
         number,
         first,
         second,
-    } = outcome;
+    } = called.outcome;
     let mut text = format!("{name}: {number} {first} {second}\n");
-    if bytes.len() <= SHOWN {
-        text += &hexadecimal(bytes);
+    if called.buffer.len() <= SHOWN {
+        text += &hexadecimal(&called.buffer);
     }
     text
 }
 
 impl fmt::Display for Input {
     fn fmt(&self, f: &mut fmt::Formatter) -> fmt::Result {
-        writeln!(f, "routine, {} bytes:", self.routine.len())?;
-        f.write_str(&hexadecimal(&self.routine))?;
+        f.write_str(&named("routine", &self.routine))?;
         if let Some(draft) = Draft::from_bytes(&self.routine) {
             f.write_str(&routine(&draft))?;
         }
         if let Some(path) = &self.path {
-            writeln!(f, "path, {} bytes:", path.len())?;
-            f.write_str(&hexadecimal(path))?;
-            let words = path.as_chunks().0.iter();
-            let vertices: Vec<String> = words
-                .map(|&word| u16::from_le_bytes(word).to_string())
-                .collect();
+            f.write_str(&named("path", path))?;
+            let vertices = vertices(path).take(MAX_PATH);
+            let vertices: Vec<String> = vertices.map(|vertex| vertex.to_string()).collect();
             writeln!(f, "  vertices: {}", vertices.join(" "))?;
         }
         Ok(())
@@ -97,7 +108,10 @@ impl fmt::Display for Input {
 impl fmt::Display for Mismatch {
     fn fmt(&self, f: &mut fmt::Formatter) -> fmt::Result {
         let mut text = String::new();
-        writeln!(text, "mismatch: {}, input {}", self.kind, self.index)?;
+        let Mismatch {
+            seed, kind, index, ..
+        } = self;
+        writeln!(text, "mismatch: seed {seed}, {kind}, input {index}")?;
         let fault = &self.fault;
         let difference = match &fault.difference {
             Difference::Outcome => String::from("number, places or length differ"),
@@ -107,7 +121,8 @@ impl fmt::Display for Mismatch {
             Difference::Outside => String::from("a byte outside the buffer is touched"),
             Difference::Demand3(reason) => format!("demand 3: {reason}"),
         };
-        writeln!(text, "{difference}, buffer of {} bytes", fault.buffer)?;
+        let length = fault.found.buffer.len();
+        writeln!(text, "{difference}, buffer of {length} bytes")?;
         text += &side("oracle", &fault.expected);
         text += &side("library", &fault.found);
         write!(text, "{}", self.input)?;

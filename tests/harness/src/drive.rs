@@ -1,6 +1,6 @@
 //! The whole comparison: which inputs are tried, in which order.
 
-use crate::check::{Fault, check};
+use crate::check::{Checked, Fault, check};
 use crate::library::{Input, Library};
 use crate::shrink::shrink;
 use crate::tally::Tally;
@@ -8,6 +8,9 @@ use oracle::builder::{self, Draft, path_bytes};
 use oracle::generate::rng::Rng;
 use oracle::generate::routines::{self, Size};
 use oracle::generate::{damage, limits, paths};
+use oracle::run::MAX_PATH;
+use std::panic::resume_unwind;
+use std::thread;
 
 /// What a comparison tries.
 #[derive(Clone, Copy, Debug)]
@@ -22,14 +25,15 @@ pub struct Options {
 /// An input on which library and oracle differ, made small.
 #[derive(Debug)]
 pub struct Mismatch {
+    pub seed: u64,
     pub kind: &'static str,
-    /// Number of the input within its kind.
+    /// Number of the input within its kind; for a drawn one that of its draw.
     pub index: u64,
     pub input: Input,
     pub fault: Fault,
 }
 
-type Compared = Result<(), Box<Mismatch>>;
+type Compared<T = ()> = Result<T, Box<Mismatch>>;
 
 struct Driver<'a> {
     library: &'a Library,
@@ -37,46 +41,51 @@ struct Driver<'a> {
     tally: Tally,
 }
 
-/// Compares a library with the oracle where the routine, the path or both are empty, and on
-/// inputs that are tried with an empty buffer.
-pub fn compare_empty(library: &Library) -> Result<Tally, Box<Mismatch>> {
-    let mut driver = Driver {
-        library,
-        options: Options {
-            routines: 0,
-            paths: 0,
-            seed: 0,
-        },
-        tally: Tally::default(),
-    };
-    let inputs = [
-        Input::plan(vec![]),
-        Input::run(vec![], vec![]),
-        Input::run(vec![], path_bytes(&[0])),
-        Input::run(builder::p().bytes(), vec![]),
-    ];
-    driver.try_all("empty", inputs.into_iter())?;
-    driver.named_plans()?;
-    driver.named_runs()?;
-    Ok(driver.tally)
+/// Compares a library with the oracle on all inputs: plans in one thread and runs in another at
+/// the same time, each up to its first mismatch.
+pub fn compare(library: &Library, options: Options) -> Compared<Tally> {
+    let (plans, runs) = thread::scope(|scope| {
+        let plans = scope.spawn(|| compare_plans(library, options));
+        let runs = compare_runs(library, options);
+        (plans.join(), runs)
+    });
+    let mut tally = plans.unwrap_or_else(|panic| resume_unwind(panic))?;
+    tally.add(&runs?);
+    Ok(tally)
 }
 
-/// Compares a library with the oracle on all inputs, up to the first mismatch.
-pub fn compare(library: &Library, options: Options) -> Result<Tally, Box<Mismatch>> {
-    let mut driver = Driver {
-        library,
-        options,
-        tally: Tally::default(),
-    };
+/// Compares the plans of a library with the oracle's.
+pub fn compare_plans(library: &Library, options: Options) -> Compared<Tally> {
+    let mut driver = Driver::new(library, options);
     driver.named_plans()?;
     driver.plans_at_limits()?;
     driver.small_plans()?;
     driver.damaged_plans()?;
     driver.random_plans()?;
+    Ok(driver.tally)
+}
+
+/// Compares the runs of a library with the oracle's.
+pub fn compare_runs(library: &Library, options: Options) -> Compared<Tally> {
+    let mut driver = Driver::new(library, options);
     driver.named_runs()?;
     driver.runs_at_limits()?;
     driver.small_runs()?;
     driver.damaged_runs()?;
+    driver.random_runs()?;
+    Ok(driver.tally)
+}
+
+/// Compares a library with the oracle on a part of the inputs: with a name, empty, at the
+/// limits, and drawn.
+pub fn compare_part(library: &Library, options: Options) -> Compared<Tally> {
+    let mut driver = Driver::new(library, options);
+    driver.empty()?;
+    driver.named_plans()?;
+    driver.plans_at_limits()?;
+    driver.random_plans()?;
+    driver.named_runs()?;
+    driver.runs_at_limits()?;
     driver.random_runs()?;
     Ok(driver.tally)
 }
@@ -125,35 +134,80 @@ fn small(seed: u64) -> Vec<Draft> {
     drafts
 }
 
+/// Bytes with 65,536 further ones, twice and four times as many: a length of 16 bits, in bytes or
+/// in vertices, does not show them.
+fn too_long(bytes: &[u8]) -> [Vec<u8>; 3] {
+    [1, 2, 4].map(|times| {
+        let mut longer = bytes.to_vec();
+        longer.resize(bytes.len() + times * 65_536, 0);
+        longer
+    })
+}
+
 impl Driver<'_> {
-    fn try_one(&mut self, kind: &'static str, index: u64, input: Input) -> Compared {
-        match check(self.library, &input) {
-            Ok(numbers) => {
-                self.tally.count(kind, input.path.is_some(), &numbers);
-                Ok(())
+    fn new(library: &Library, options: Options) -> Driver<'_> {
+        Driver {
+            library,
+            options,
+            tally: Tally::default(),
+        }
+    }
+
+    fn try_one(&mut self, kind: &'static str, index: u64, input: &Input) -> Compared<Checked> {
+        match check(self.library, input) {
+            Ok(checked) => {
+                self.tally.count(kind, input, &checked);
+                Ok(checked)
             }
-            Err(_) => Err(self.mismatch(kind, index, input)),
+            Err(fault) => Err(self.mismatch(kind, index, input, *fault)),
         }
     }
 
     fn try_all(&mut self, kind: &'static str, inputs: impl Iterator<Item = Input>) -> Compared {
-        for (index, input) in inputs.enumerate() {
-            self.try_one(kind, index as u64, input)?;
+        let before = self.tally.kinds.get(kind).copied().unwrap_or(0);
+        for (index, input) in (before..).zip(inputs) {
+            self.try_one(kind, index, &input)?;
         }
         Ok(())
     }
 
-    fn mismatch(&self, kind: &'static str, index: u64, input: Input) -> Box<Mismatch> {
-        let input = shrink(input, &|input| check(self.library, input).is_err());
-        match check(self.library, &input) {
-            Err(fault) => Box::new(Mismatch {
-                kind,
-                index,
-                input,
-                fault: *fault,
-            }),
-            Ok(_) => unreachable!("a shrunk input still differs"),
-        }
+    fn try_drawn(&mut self, kind: &'static str, index: u64, input: &Input) -> Compared {
+        let checked = self.try_one(kind, index, input)?;
+        self.tally.drawn.count(input, &checked.written);
+        Ok(())
+    }
+
+    /// The small input, or the first one if no smaller fails again.
+    fn mismatch(
+        &self,
+        kind: &'static str,
+        index: u64,
+        input: &Input,
+        fault: Fault,
+    ) -> Box<Mismatch> {
+        let small = shrink(input.clone(), &|input| check(self.library, input).is_err());
+        let (input, fault) = match check(self.library, &small) {
+            Err(fault) => (small, *fault),
+            Ok(_) => (input.clone(), fault),
+        };
+        Box::new(Mismatch {
+            seed: self.options.seed,
+            kind,
+            index,
+            input,
+            fault,
+        })
+    }
+
+    /// The routine, the path or both are empty.
+    fn empty(&mut self) -> Compared {
+        let inputs = [
+            Input::plan(vec![]),
+            Input::run(vec![], vec![]),
+            Input::run(vec![], path_bytes(&[0])),
+            Input::run(builder::p().bytes(), vec![]),
+        ];
+        self.try_all("empty", inputs.into_iter())
     }
 
     fn named_plans(&mut self) -> Compared {
@@ -168,7 +222,9 @@ impl Driver<'_> {
         let mut drafts = limits::at_limits(&mut rng);
         drafts.extend(limits::beyond_limits());
         let inputs = drafts.iter().map(|draft| Input::plan(draft.bytes()));
-        self.try_all("plan, limits", inputs)
+        self.try_all("plan, limits", inputs)?;
+        let inputs = too_long(&builder::p().bytes()).map(Input::plan);
+        self.try_all("plan, far too long", inputs.into_iter())
     }
 
     fn small_plans(&mut self) -> Compared {
@@ -192,7 +248,11 @@ impl Driver<'_> {
             let mut rng = Rng::for_input(self.options.seed, index);
             let size = Size::any(&mut rng);
             let (kind, file) = match index % 10 {
-                0..=2 => {
+                0 => {
+                    let draft = routines::every_kind(&mut rng, 80);
+                    ("plan, two arrays of each kind", draft.bytes())
+                }
+                1 | 2 => {
                     let mut draft = routines::program(&mut rng, size);
                     routines::make_acceptable(&mut rng, &mut draft);
                     ("plan, program made acceptable", draft.bytes())
@@ -216,7 +276,7 @@ impl Driver<'_> {
                 }
                 _ => ("plan, several faults", damage::several_faults(&mut rng)),
             };
-            self.try_one(kind, index, Input::plan(file))?;
+            self.try_drawn(kind, index, &Input::plan(file))?;
         }
         Ok(())
     }
@@ -234,21 +294,37 @@ impl Driver<'_> {
     fn runs_at_limits(&mut self) -> Compared {
         let kind = "run, limits";
         let longest = limits::longest_path();
-        let mut too_long = longest.clone();
-        too_long.push(1);
+        let mut longer = longest.clone();
+        longer.push(1);
         let mut odd = path_bytes(&longest);
         odd.push(1);
         for draft in [limits::largest_report(), limits::largest_plan()] {
-            let paths = [path_bytes(&longest), path_bytes(&too_long), odd.clone()];
+            let paths = [path_bytes(&longest), path_bytes(&longer), odd.clone()];
             let inputs = paths.map(|path| Input::run(draft.bytes(), path));
             self.try_all(kind, inputs.into_iter())?;
         }
+        let path = path_bytes(&limits::round_the_ring());
+        let ring = Input::run(limits::ring_of_labels().bytes(), path);
+        self.try_all(kind, std::iter::once(ring))?;
         let mut rng = Rng::new(self.options.seed);
-        for (index, draft) in limits::at_limits(&mut rng).iter().enumerate() {
-            let path = path_bytes(&paths::walk(&mut rng, draft, 4096));
-            self.try_one(kind, index as u64, Input::run(draft.bytes(), path))?;
-        }
-        Ok(())
+        let drafts = limits::at_limits(&mut rng);
+        let inputs = drafts.iter().map(|draft| {
+            let path = paths::walk(&mut rng, draft, MAX_PATH);
+            Input::run(draft.bytes(), path_bytes(&path))
+        });
+        self.try_all(kind, inputs)?;
+        self.runs_far_too_long()
+    }
+
+    /// A file, and a path, that is accepted if its length is cut to 16 bits.
+    fn runs_far_too_long(&mut self) -> Compared {
+        let kind = "run, far too long";
+        let file = builder::p().bytes();
+        let path = path_bytes(&[0, 1, 2, 3, 4, 5, 6, 2, 3]);
+        let inputs = too_long(&file).map(|file| Input::run(file, path.clone()));
+        self.try_all(kind, inputs.into_iter())?;
+        let inputs = too_long(&path).map(|path| Input::run(file.clone(), path));
+        self.try_all(kind, inputs.into_iter())
     }
 
     /// One path through each routine of four vertices.
@@ -262,9 +338,9 @@ impl Driver<'_> {
         self.try_all("run, all of four vertices", inputs)
     }
 
-    /// Every byte and length of P and Q with a path of each, and of the path.
+    /// Every byte and length of the routines with a name and a path of each, and of the path.
     fn damaged_runs(&mut self) -> Compared {
-        for (draft, paths) in named().into_iter().take(2) {
+        for (draft, paths) in named() {
             let file = draft.bytes();
             let path = path_bytes(&paths[0]);
             let run = |file| Input::run(file, path.clone());
@@ -292,7 +368,13 @@ impl Driver<'_> {
             let mut rng = Rng::for_input(!self.options.seed, index);
             let size = Size::any(&mut rng);
             let (kind, file, path) = match index % 10 {
-                0..=6 => {
+                0 => {
+                    let draft = routines::every_kind(&mut rng, 80);
+                    let wanted = paths::any_length(&mut rng);
+                    let path = path_bytes(&paths::walk(&mut rng, &draft, wanted));
+                    ("run, two arrays of each kind", draft.bytes(), path)
+                }
+                1..=6 => {
                     let draft = routines::accepted(&mut rng, size);
                     let wanted = paths::any_length(&mut rng);
                     let path = path_bytes(&paths::walk(&mut rng, &draft, wanted));
@@ -310,7 +392,7 @@ impl Driver<'_> {
                     ("run, refused routine", file, path)
                 }
             };
-            self.try_one(kind, index, Input::run(file, path))?;
+            self.try_drawn(kind, index, &Input::run(file, path))?;
         }
         Ok(())
     }

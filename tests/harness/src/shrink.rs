@@ -42,6 +42,16 @@ impl Parts {
     }
 }
 
+/// Panics with a small input and the reason if what is asked of an input does not hold; `name`
+/// says where the input comes from.
+pub fn demand(name: &str, input: Input, holds: &dyn Fn(&Input) -> Result<(), String>) {
+    if let Err(reason) = holds(&input) {
+        let small = shrink(input, &|input| holds(input).is_err());
+        let reason = holds(&small).err().unwrap_or(reason);
+        panic!("{name}: {reason}\n{small}");
+    }
+}
+
 struct Shrinker<'a> {
     fails: &'a dyn Fn(&Input) -> bool,
     best: Parts,
@@ -132,7 +142,7 @@ impl Shrinker<'_> {
     /// the next visit; also single vertices.
     fn drop_loops(&mut self) {
         let mut start = 0;
-        while start < self.path_length() {
+        while start < self.path_length() && self.tried <= BUDGET {
             let path = self.best.path.clone().unwrap_or_default();
             let visits: Vec<usize> = (start + 1..path.len())
                 .filter(|&later| path[later] == path[start])
@@ -289,7 +299,9 @@ fn renumbered(vertex: u16, dropped: u16) -> u16 {
 fn drop_exit(draft: &mut Draft) {
     let exit = draft.rows.len().saturating_sub(2);
     draft.rows.truncate(exit + 1);
-    draft.rows[exit].fill(0);
+    if let Some(row) = draft.rows.last_mut() {
+        row.fill(0);
+    }
     let is_left = |vertex: u16| usize::from(vertex) <= exit;
     draft
         .edges

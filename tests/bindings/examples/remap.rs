@@ -1,0 +1,105 @@
+//! Plans routine P of document 01, runs its case 2, and prints what the plan's flags and the
+//! report show.
+
+use hpf_remap::Outcome;
+use std::process::ExitCode;
+
+#[rustfmt::skip]
+const ROUTINE: [u8; 62] = [
+    b'H', b'P', b'F', b'R', 1, 0,
+    18, 0, 1, 0, // arrays: offset, count
+    22, 0, 8, 0, // vertices
+    30, 0, 8, 0, // edges
+    0, 3, 0, 0,  // one local array, 3 versions, initial 0
+    0x00, 0x20, 0x41, 0x10, 0x42, 0x40, 0x10, 0x00,
+    0, 0, 1, 0, 1, 0, 2, 0, 2, 0, 3, 0, 3, 0, 4, 0,
+    4, 0, 5, 0, 5, 0, 6, 0, 6, 0, 2, 0, 6, 0, 7, 0,
+];
+
+const PATH: [u8; 18] = [0, 0, 1, 0, 2, 0, 3, 0, 4, 0, 5, 0, 6, 0, 2, 0, 3, 0];
+
+/// No plan is longer.
+const LARGEST_PLAN: usize = 17_416;
+
+fn word(bytes: &[u8], at: usize) -> usize {
+    usize::from(u16::from_le_bytes([bytes[at], bytes[at + 1]]))
+}
+
+/// The bytes that a call wrote into a buffer, or its refusal in words.
+fn written(call: &str, answer: Outcome, mut out: Vec<u8>) -> Result<Vec<u8>, String> {
+    let Outcome {
+        number,
+        first,
+        second,
+    } = answer;
+    if number != 0 {
+        return Err(format!("{call}: {number} {first} {second}"));
+    }
+    out.truncate(first as usize);
+    Ok(out)
+}
+
+fn planned() -> Result<Vec<u8>, String> {
+    let mut plan = vec![0; LARGEST_PLAN];
+    let answer = hpf_remap::plan(&ROUTINE, &mut plan);
+    written("plan", answer, plan)
+}
+
+/// An empty buffer asks how long the report is.
+fn ran() -> Result<Vec<u8>, String> {
+    let asked = hpf_remap::run(&ROUTINE, &PATH, &mut []);
+    let needed = if asked.number == 2 { asked.first } else { 0 };
+    let mut report = vec![0; needed as usize];
+    let answer = hpf_remap::run(&ROUTINE, &PATH, &mut report);
+    written("run", answer, report)
+}
+
+fn print_plan(plan: &[u8]) {
+    let vertices = word(plan, 4);
+    let (contents, labels) = plan[8..].split_at(4 * vertices);
+    for (vertex, entry) in contents.chunks_exact(4).enumerate() {
+        let here = labels.chunks_exact(8).skip(word(entry, 0));
+        for label in here.take(word(entry, 2)) {
+            let (array, letter, leaving) = (label[0], char::from(label[1]), label[2]);
+            print!("vertex {vertex}: array {array} ");
+            if letter == 'N' {
+                println!("is not copied");
+            } else {
+                let kept = word(label, 6);
+                println!("leaves as version {leaving}, use {letter}, keep {kept:04x}");
+            }
+        }
+    }
+}
+
+fn print_report(report: &[u8]) {
+    let arrays = word(&ROUTINE, 8);
+    let (heads, records) = report.split_at(6 * arrays);
+    for (array, head) in heads.chunks_exact(6).enumerate() {
+        let copies = match word(head, 0) {
+            1 => String::from("1 copy"),
+            more => format!("{more} copies"),
+        };
+        let (live, current) = (word(head, 2), head[4]);
+        println!("array {array}: {copies}, live {live:04x}, current {current}");
+    }
+    for record in records.chunks_exact(10) {
+        let (step, version, kind) = (word(record, 0), record[3], record[4]);
+        let (seen, new) = (word(record, 6), word(record, 8));
+        println!("step {step}: version {version}, kind {kind}, sees {seen}, gives {new}");
+    }
+}
+
+fn main() -> ExitCode {
+    match planned().and_then(|plan| Ok((plan, ran()?))) {
+        Ok((plan, report)) => {
+            print_plan(&plan);
+            print_report(&report);
+            ExitCode::SUCCESS
+        }
+        Err(words) => {
+            eprintln!("{words}");
+            ExitCode::FAILURE
+        }
+    }
+}

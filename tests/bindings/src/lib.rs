@@ -1,0 +1,75 @@
+//! Array remapping by copies for High Performance Fortran, from Rust: safe calls of the
+//! verified static library. include/hpf_remap.h tells the formats and every answer.
+//!
+//! A call keeps no state, takes no memory but some stack, and may run in any number of
+//! threads at once.
+//!
+//! ```
+//! let answer = hpf_remap::plan(b"HPFR", &mut []);
+//! assert_eq!((answer.number, answer.first), (10, 4));
+//! ```
+
+/// What a call answers: number 0 and the length written, or a refusal and its two places.
+#[repr(C)]
+#[derive(Clone, Copy, Debug, PartialEq, Eq)]
+pub struct Outcome {
+    /// 0 for success; else who can cause it and why, by the header's table.
+    pub number: u64,
+    /// The length written, or the refusal's first place.
+    pub first: u64,
+    /// The refusal's second place, 0 unless the header says so.
+    pub second: u64,
+}
+
+/// The calls as C has them. Each pointer is that of as many bytes as the length beside it says,
+/// or null if that length is 0; what is written must not overlap what is read.
+pub mod ffi {
+    use crate::Outcome;
+
+    unsafe extern "C" {
+        pub fn hpf_plan(
+            routine: *const u8,
+            routine_len: usize,
+            plan: *mut u8,
+            plan_len: usize,
+        ) -> Outcome;
+
+        pub fn hpf_run(
+            routine: *const u8,
+            routine_len: usize,
+            path: *const u8,
+            path_len: usize,
+            report: *mut u8,
+            report_len: usize,
+        ) -> Outcome;
+    }
+}
+
+/// Plans a routine: writes the plan over the front of `out`, and leaves the rest of it.
+///
+/// A refusal writes nothing. Number 1 says that `out` is too short, and `first` the length that
+/// is needed; 17,416 bytes always suffice.
+pub fn plan(routine: &[u8], out: &mut [u8]) -> Outcome {
+    // SAFETY: each pointer is that of a slice of the length beside it. The call reads the
+    // routine and writes `out`, which is lent to it alone.
+    unsafe { ffi::hpf_plan(routine.as_ptr(), routine.len(), out.as_mut_ptr(), out.len()) }
+}
+
+/// Runs a routine along a path of 16-bit vertices, low byte first: writes the report over the
+/// front of `out`, and leaves the rest of it.
+///
+/// A refusal writes nothing. Number 2 says that `out` is too short, and `first` the length that
+/// is needed, so that a call with an empty `out` asks for it.
+pub fn run(routine: &[u8], path: &[u8], out: &mut [u8]) -> Outcome {
+    // SAFETY: as in `plan`; the path is read too.
+    unsafe {
+        ffi::hpf_run(
+            routine.as_ptr(),
+            routine.len(),
+            path.as_ptr(),
+            path.len(),
+            out.as_mut_ptr(),
+            out.len(),
+        )
+    }
+}

@@ -1,0 +1,167 @@
+//! One input held against the oracle, with buffers of several lengths.
+
+use crate::library::{Form, Input, Library};
+use oracle::demand3;
+use oracle::outcome::Outcome;
+use oracle::routine::Routine;
+
+/// Bytes before and after a lent buffer that no call may touch.
+const GUARD: usize = 64;
+
+/// How much longer than needed the longest buffer is.
+const SPARE: usize = 40;
+
+/// In which way a library is wrong.
+#[derive(Clone, Debug, PartialEq, Eq)]
+pub enum Difference {
+    /// A byte outside the buffer.
+    Outside,
+    /// Demand 3 of the library's own report, whatever the oracle's says.
+    Demand3(String),
+    /// Number, places or length.
+    Outcome,
+    /// A byte of the plan or report, at this place.
+    Written(usize),
+    /// A byte beyond the length written, at this place.
+    Beyond(usize),
+    /// A byte of the buffer although the call is refused, at this place.
+    Refused(usize),
+}
+
+/// What a call did with a buffer.
+#[derive(Clone, Debug)]
+pub struct Called {
+    pub outcome: Outcome,
+    pub buffer: Vec<u8>,
+    /// Whether no byte outside the buffer was touched.
+    inside: bool,
+}
+
+impl Called {
+    /// The bytes written; none for a refusal, or where the length is beyond the buffer.
+    fn written(&self) -> &[u8] {
+        match self.outcome.number {
+            0 => self.buffer.get(..self.outcome.first as usize),
+            _ => None,
+        }
+        .unwrap_or_default()
+    }
+}
+
+/// A difference, with what both did.
+#[derive(Clone, Debug)]
+pub struct Fault {
+    pub difference: Difference,
+    pub expected: Called,
+    pub found: Called,
+}
+
+/// What an input showed on which both agree.
+pub struct Checked {
+    /// The number that each call answered.
+    pub numbers: Vec<u64>,
+    pub form: Form,
+    /// Whether demand 3 was judged.
+    pub judged: bool,
+    /// The plan or report; empty for a refusal.
+    pub written: Vec<u8>,
+}
+
+/// A byte that stands at a place of a buffer before the call.
+fn before(place: usize) -> u8 {
+    (place * 151 + 37) as u8
+}
+
+/// Calls a library with a filled buffer of this length inside guard bytes.
+fn call(library: &Library, input: &Input, length: usize) -> Called {
+    let mut all: Vec<u8> = (0..length + 2 * GUARD).map(before).collect();
+    let outcome = input.call(library, &mut all[GUARD..GUARD + length]);
+    let untouched =
+        |places: std::ops::Range<usize>| all[places.clone()].iter().copied().eq(places.map(before));
+    let inside = untouched(0..GUARD) && untouched(GUARD + length..length + 2 * GUARD);
+    all.truncate(GUARD + length);
+    all.drain(..GUARD);
+    Called {
+        outcome,
+        buffer: all,
+        inside,
+    }
+}
+
+/// Holds a library against the oracle on one input.
+pub fn check(library: &Library, input: &Input) -> Result<Checked, Box<Fault>> {
+    let form = Form::of(&input.routine);
+    let oracle = form.oracle();
+    let mut checked = Checked {
+        numbers: Vec::new(),
+        form,
+        judged: false,
+        written: Vec::new(),
+    };
+    for (index, length) in lengths(&oracle, input).into_iter().enumerate() {
+        let expected = call(&oracle, input, length);
+        let found = call(library, input, length);
+        // The first buffer is the longest; reports in the others are held against it.
+        let judgement = match index {
+            0 => judge(input, &expected, &found),
+            _ => None,
+        };
+        checked.judged |= judgement.is_some();
+        let broken = judgement.and_then(Result::err).map(Difference::Demand3);
+        let difference = (!found.inside)
+            .then_some(Difference::Outside)
+            .or(broken)
+            .or_else(|| difference(&expected, &found));
+        if let Some(difference) = difference {
+            return Err(Box::new(Fault {
+                difference,
+                expected,
+                found,
+            }));
+        }
+        checked.numbers.push(found.outcome.number);
+        if index == 0 {
+            checked.written = found.written().to_vec();
+        }
+    }
+    Ok(checked)
+}
+
+/// With room to spare, exact, one byte short and empty where a call succeeds; with room
+/// for any plan of such a file and empty where it is refused.
+fn lengths(oracle: &Library, input: &Input) -> Vec<usize> {
+    match input.call(oracle, &mut []) {
+        Outcome {
+            number: 1 | 2,
+            first,
+            ..
+        } => {
+            let needed = first as usize;
+            vec![needed + SPARE, needed, needed - 1, 0]
+        }
+        _ => vec![SPARE + 12 * input.routine.len(), 0],
+    }
+}
+
+/// Demand 3 of the library's report; it says nothing where routine, path or buffer is refused.
+fn judge(input: &Input, expected: &Called, found: &Called) -> Option<Result<(), String>> {
+    let path = input.path.as_ref()?;
+    let routine = Routine::parse(&input.routine).ok()?;
+    let due = expected.outcome.number == 0 && found.outcome.number == 0;
+    due.then(|| demand3::of_report(&routine, path, found.written()))
+}
+
+fn difference(expected: &Called, found: &Called) -> Option<Difference> {
+    if found.outcome != expected.outcome {
+        return Some(Difference::Outcome);
+    }
+    let mut bytes = found.buffer.iter().zip(&expected.buffer);
+    let place = bytes.position(|(byte, right)| byte != right)?;
+    Some(if place < expected.written().len() {
+        Difference::Written(place)
+    } else if expected.outcome.number == 0 {
+        Difference::Beyond(place)
+    } else {
+        Difference::Refused(place)
+    })
+}

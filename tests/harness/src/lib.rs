@@ -1,0 +1,13 @@
+//! Holds a library with the two calls against the oracle, byte by byte.
+
+pub mod check;
+mod drawn;
+pub mod drive;
+pub mod library;
+pub mod raw;
+pub mod render;
+pub mod shrink;
+pub mod tally;
+
+#[cfg(test)]
+mod self_test;
