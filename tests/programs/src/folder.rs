@@ -1,11 +1,31 @@
 //! The two programs, run in a folder of their own.
 
-use std::fs;
+use std::fs::{self, File};
 use std::io::{Error, ErrorKind, Result, Write};
 use std::path::PathBuf;
 use std::process::{self, Command, Output, Stdio};
 use std::thread;
 use std::time::Duration;
+
+/// What the runner finds under the name of a file.
+#[derive(Clone, Copy)]
+pub enum Content<'a> {
+    Bytes(&'a [u8]),
+    Missing,
+    /// A folder: it can be opened, but not read.
+    Unreadable,
+}
+
+impl Content<'_> {
+    /// All that counts as these bytes.
+    pub fn all_of(bytes: &[u8]) -> Vec<Content<'_>> {
+        let mut all = vec![Content::Bytes(bytes)];
+        if bytes.is_empty() {
+            all.extend([Content::Missing, Content::Unreadable]);
+        }
+        all
+    }
+}
 
 /// A temporary folder, and the folder of the programs.
 pub struct Folder {
@@ -54,21 +74,32 @@ impl Folder {
         child.wait_with_output().map(printed)
     }
 
-    /// What the runner prints for these files; none stands for a missing file.
-    pub fn runner(&self, routine: Option<&[u8]>, path: Option<&[u8]>) -> Result<Vec<u8>> {
-        self.set_file("routine", routine)?;
-        self.set_file("path", path)?;
+    /// What the planner prints for a standard input that is open, but cannot be read.
+    pub fn planner_of_folder(&self) -> Result<Vec<u8>> {
+        let folder = File::open(&self.work)?;
+        self.command("planner").stdin(folder).output().map(printed)
+    }
+
+    /// What the runner prints for these files.
+    pub fn runner(&self, routine: Content, path: Content) -> Result<Vec<u8>> {
+        self.set("routine", routine)?;
+        self.set("path", path)?;
         self.command("runner").output().map(printed)
     }
 
-    fn set_file(&self, name: &str, bytes: Option<&[u8]>) -> Result<()> {
+    fn set(&self, name: &str, content: Content) -> Result<()> {
         let file = self.work.join(name);
-        match bytes {
-            Some(bytes) => fs::write(file, bytes),
-            None => match fs::remove_file(file) {
-                Err(error) if error.kind() != ErrorKind::NotFound => Err(error),
-                _ => Ok(()),
-            },
+        let removed = match fs::symlink_metadata(&file) {
+            Ok(old) if old.is_dir() => fs::remove_dir(&file),
+            Ok(_) => fs::remove_file(&file),
+            Err(error) if error.kind() == ErrorKind::NotFound => Ok(()),
+            Err(error) => Err(error),
+        };
+        removed?;
+        match content {
+            Content::Bytes(bytes) => fs::write(file, bytes),
+            Content::Missing => Ok(()),
+            Content::Unreadable => fs::create_dir(file),
         }
     }
 }

@@ -7,7 +7,7 @@ mod folder;
 mod inputs;
 
 use expected::Answer;
-use folder::Folder;
+use folder::{Content, Folder};
 use harness::library::Input;
 use harness::shrink::shrink;
 use oracle::generate::damage::FILE_REFUSALS;
@@ -48,22 +48,24 @@ fn program(input: &Input) -> &'static str {
     }
 }
 
-/// What the input's program prints: the planner fed at once and in two pieces, the runner
-/// with an empty file also missing.
+/// What the input's program prints: the planner fed at once and in two pieces; both programs
+/// also with all else that counts as empty.
 fn outputs(folder: &Folder, input: &Input) -> Result<Vec<Vec<u8>>> {
     let routine = &input.routine;
+    let mut all = Vec::new();
     let Some(path) = &input.path else {
         let (first, second) = routine.split_at(routine.len() / 2);
-        return Ok(vec![
-            folder.planner(&[routine])?,
-            folder.planner(&[first, second])?,
-        ]);
+        all.push(folder.planner(&[routine])?);
+        all.push(folder.planner(&[first, second])?);
+        if routine.is_empty() {
+            all.push(folder.planner_of_folder()?);
+        }
+        return Ok(all);
     };
-    let mut all = vec![folder.runner(Some(routine), Some(path))?];
-    let routine = (!routine.is_empty()).then_some(&routine[..]);
-    let path = (!path.is_empty()).then_some(&path[..]);
-    if routine.is_none() || path.is_none() {
-        all.push(folder.runner(routine, path)?);
+    for routine in Content::all_of(routine) {
+        for path in Content::all_of(path) {
+            all.push(folder.runner(routine, path)?);
+        }
     }
     Ok(all)
 }
@@ -94,7 +96,8 @@ fn hold(folder: &Folder, seed: u64, tally: &mut Tally) -> Result<Option<String>>
                 let small = shrink(input, &differs);
                 let found = difference(folder, &small)?.unwrap_or_default();
                 let words = in_words(&small, &String::from_utf8_lossy(&found));
-                return Ok(Some(format!("mismatch: {kind}, input {index}\n{words}")));
+                let found = format!("mismatch: seed {seed}, {kind}, input {index}\n{words}");
+                return Ok(Some(found));
             }
             let (answer, text) = expected::output(&input);
             let (count, longest) = tally.entry((program(&input), answer)).or_default();
