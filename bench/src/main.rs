@@ -15,14 +15,12 @@ use oracle::generate::limits;
 use oracle::generate::rng::Rng;
 use oracle::generate::routines::{self, Size};
 use oracle::routine::{MAX_VERTICES, Routine};
+use oracle::run::LONGEST_REPORT;
 use rounds::Rounds;
 
 const SEED: u64 = 1;
 const BATCHES: usize = 31;
 const BATCH: Duration = Duration::from_millis(20);
-
-/// No plan or report is longer.
-const ROOM: usize = 327_648;
 
 /// The routine that the seed draws, with what 20 and 21 refuse taken out.
 fn acceptable(draw: impl Fn(&mut Rng) -> Draft) -> Vec<u8> {
@@ -115,7 +113,7 @@ fn check(both: &[Library; 2], line: &Line) {
     let name = line.name;
     for input in &line.inputs {
         let [ours, rust] = both.map(|library| {
-            let mut out = vec![0; ROOM];
+            let mut out = vec![0; LONGEST_REPORT];
             (input.call(&library, &mut out), out)
         });
         assert_eq!(ours.0.number, 0, "{name}: {:?}", ours.0);
@@ -165,7 +163,7 @@ fn micros(time: Duration) -> f64 {
 fn time(line: &Line) {
     let both = [VERIFIED, ORACLE];
     check(&both, line);
-    let mut out = vec![0; ROOM];
+    let mut out = vec![0; LONGEST_REPORT];
     let counts = both.map(|library| turns(&library, &line.inputs, &mut out));
     let mut times = [Vec::new(), Vec::new()];
     for _ in 0..BATCHES {

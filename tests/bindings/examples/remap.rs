@@ -1,7 +1,7 @@
 //! Plans routine P of document 01, runs its case 2, and prints what the plan's flags and the
 //! report show.
 
-use hpf_remap::Outcome;
+use hpf_remap::{LARGEST_PLAN, Outcome};
 use std::process::ExitCode;
 
 #[rustfmt::skip]
@@ -17,9 +17,6 @@ const ROUTINE: [u8; 62] = [
 ];
 
 const PATH: [u8; 18] = [0, 0, 1, 0, 2, 0, 3, 0, 4, 0, 5, 0, 6, 0, 2, 0, 3, 0];
-
-/// No plan is longer.
-const LARGEST_PLAN: usize = 17_416;
 
 fn word(bytes: &[u8], at: usize) -> usize {
     usize::from(u16::from_le_bytes([bytes[at], bytes[at + 1]]))

@@ -9,6 +9,18 @@
 //! assert_eq!((answer.number, answer.first), (10, 4));
 //! ```
 
+/// So many bytes suffice for any routine that is accepted.
+pub const LARGEST_ROUTINE: usize = 6194;
+
+/// So many bytes suffice for any plan.
+pub const LARGEST_PLAN: usize = 17_416;
+
+/// So many bytes suffice for any report.
+pub const LARGEST_REPORT: usize = 327_648;
+
+/// The most vertices of a path.
+pub const LONGEST_PATH: usize = 4096;
+
 /// What a call answers: number 0 and the length written, or a refusal and its two places.
 #[repr(C)]
 #[derive(Clone, Copy, Debug, PartialEq, Eq)]
@@ -48,7 +60,7 @@ pub mod ffi {
 /// Plans a routine: writes the plan over the front of `out`, and leaves the rest of it.
 ///
 /// A refusal writes nothing. Number 1 says that `out` is too short, and `first` the length that
-/// is needed; 17,416 bytes always suffice.
+/// is needed; [`LARGEST_PLAN`] bytes always suffice.
 pub fn plan(routine: &[u8], out: &mut [u8]) -> Outcome {
     // SAFETY: each pointer is that of a slice of the length beside it. The call reads the
     // routine and writes `out`, which is lent to it alone.

@@ -4,6 +4,17 @@ use harness::library::Library;
 use harness::raw::{self, Raw};
 use hpf_remap::ffi::{hpf_plan, hpf_run};
 use oracle::outcome::Outcome;
+use oracle::plan::LONGEST_PLAN;
+use oracle::routine::LONGEST_FILE;
+use oracle::run::{LONGEST_REPORT, MAX_PATH};
+
+// The sizes that the bindings tell are those of document 01.
+const _: () = assert!(
+    hpf_remap::LARGEST_ROUTINE == LONGEST_FILE
+        && hpf_remap::LARGEST_PLAN == LONGEST_PLAN
+        && hpf_remap::LARGEST_REPORT == LONGEST_REPORT
+        && hpf_remap::LONGEST_PATH == MAX_PATH
+);
 
 /// The verified library by its safe calls.
 pub const VERIFIED: Library = Library {

@@ -7,7 +7,7 @@ use oracle::builder::{Draft, path_bytes};
 use oracle::generate::rng::Rng;
 use oracle::generate::{limits, paths};
 use oracle::outcome::Outcome;
-use oracle::run::MAX_PATH;
+use oracle::run::{LONGEST_REPORT, MAX_PATH};
 use std::ffi::{c_int, c_void};
 use std::fmt;
 use std::ptr::null_mut;
@@ -109,7 +109,7 @@ fn used(input: &Input) -> usize {
     let mut thread = 0;
     let mut job = Job {
         input,
-        out: vec![0; 327_648],
+        out: vec![0; LONGEST_REPORT],
         outcome: Outcome::written(0),
         frame: 0,
     };

@@ -9,12 +9,9 @@ use oracle::generate::routines::{self, Size};
 use oracle::generate::{limits, paths};
 use oracle::labels::fixpoint::Solved;
 use oracle::routine::Routine;
-use oracle::run::{check_path, run};
+use oracle::run::{LONGEST_REPORT, check_path, run};
 
 const SEED: u64 = 2;
-
-/// No report is longer.
-const ROOM: usize = 327_648;
 
 /// Demand 3 of the run and of the report's bytes, where routine and path are well formed.
 fn holds(file: &[u8], path: &[u8]) -> Result<(), String> {
@@ -30,7 +27,7 @@ fn holds(file: &[u8], path: &[u8]) -> Result<(), String> {
     if !accepted {
         return Ok(());
     }
-    let mut report = vec![0x5a; ROOM];
+    let mut report = vec![0x5a; LONGEST_REPORT];
     let answer = run(file, path, &mut report);
     if answer.number != 0 {
         return Err(format!("{answer:?}"));

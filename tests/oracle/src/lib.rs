@@ -1,4 +1,4 @@
-//! An implementation of document 01 (docs/01-scope.md) in Rust, written from its words
+//! An implementation of document 01, the users' specification, in Rust, written from its words
 //! and from the readings in docs/DECISIONS.md, to hold the verified library against.
 //!
 //! `plan::plan` and `run::run` are the two calls. `labels` has the label rules three

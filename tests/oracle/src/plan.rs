@@ -3,7 +3,10 @@
 use crate::labels::fixpoint::Solved;
 use crate::labels::{Labels, literal};
 use crate::outcome::{Outcome, Refusal};
-use crate::routine::Routine;
+use crate::routine::{MAX_ARRAYS, MAX_VERTICES, Routine};
+
+/// The length of the longest plan: every vertex labels every array.
+pub const LONGEST_PLAN: usize = 8 + 4 * MAX_VERTICES + 8 * MAX_ARRAYS * MAX_VERTICES;
 
 /// Writes the plan of a routine file over the front of `out`.
 pub fn plan(file: &[u8], out: &mut [u8]) -> Outcome {

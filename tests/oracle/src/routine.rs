@@ -10,6 +10,9 @@ pub const MAX_EDGES: usize = 1024;
 /// Mark, edition and table of contents: the bodies follow from here.
 pub const HEAD: usize = 18;
 
+/// The length of the longest file that is accepted.
+pub const LONGEST_FILE: usize = HEAD + 4 * MAX_ARRAYS + MAX_ARRAYS * MAX_VERTICES + 4 * MAX_EDGES;
+
 /// Kind of an array; the last three are arguments.
 #[derive(Clone, Copy, Debug, PartialEq, Eq)]
 pub enum Kind {

@@ -10,6 +10,9 @@ use crate::routine::{
 
 pub const MAX_PATH: usize = 4096;
 
+/// The length of the longest report: every vertex of a path but the entry references every array.
+pub const LONGEST_REPORT: usize = 6 * MAX_ARRAYS + 10 * MAX_ARRAYS * (MAX_PATH - 1);
+
 /// The copies of one array.
 #[derive(Clone, Copy, Debug, PartialEq, Eq)]
 pub struct Copies {

@@ -4,14 +4,11 @@ use harness::library::{Input, ORACLE};
 use oracle::listing;
 use oracle::outcome::Outcome;
 use oracle::routine::Routine;
-use oracle::run::vertices;
+use oracle::run::{LONGEST_REPORT, vertices};
 use std::fmt;
 
 /// A longer path is not run.
 pub const LONGEST_PATH: usize = 512;
-
-/// No plan or report is longer: the programs never print refusals 1 and 2.
-const ROOM: usize = 327_648;
 
 /// What an output says.
 #[derive(Clone, Copy, Debug, PartialEq, Eq, PartialOrd, Ord)]
@@ -41,7 +38,8 @@ pub fn output(input: &Input) -> (Answer, String) {
     if path.is_some_and(|path| vertices(path).len() > LONGEST_PATH) {
         return (Answer::Long, String::from("long\n"));
     }
-    let mut out = vec![0; ROOM];
+    // Room for any plan or report: the programs never print refusals 1 and 2.
+    let mut out = vec![0; LONGEST_REPORT];
     let Outcome {
         number,
         first,

@@ -6,9 +6,7 @@ use harness::library::Input;
 use oracle::builder::{self, Draft, path_bytes};
 use oracle::generate::rng::Rng;
 use oracle::generate::{damage, limits, paths, routines};
-
-/// The longest routine file.
-const LONGEST_FILE: usize = 6194;
+use oracle::routine::LONGEST_FILE;
 
 /// A kind of input, and its inputs.
 pub type Group = (&'static str, Vec<Input>);
