@@ -370,14 +370,12 @@ impl Driver<'_> {
             let (kind, file, path) = match index % 10 {
                 0 => {
                     let draft = routines::every_kind(&mut rng, 80);
-                    let wanted = paths::any_length(&mut rng);
-                    let path = path_bytes(&paths::walk(&mut rng, &draft, wanted));
+                    let path = path_bytes(&paths::any(&mut rng, &draft));
                     ("run, two arrays of each kind", draft.bytes(), path)
                 }
                 1..=6 => {
                     let draft = routines::accepted(&mut rng, size);
-                    let wanted = paths::any_length(&mut rng);
-                    let path = path_bytes(&paths::walk(&mut rng, &draft, wanted));
+                    let path = path_bytes(&paths::any(&mut rng, &draft));
                     ("run, path along edges", draft.bytes(), path)
                 }
                 7 | 8 => {

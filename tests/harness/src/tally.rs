@@ -58,8 +58,8 @@ impl Tally {
         self.drawn.add(&other.drawn);
     }
 
-    /// What was to be seen and was not: answers that no call gave (`plan 16`, `run 32`), and
-    /// shares of the drawn inputs that are too small.
+    /// What was to be seen and was not: answers that no call gave (`plan 16`, `run 32`), a form of
+    /// the label rules, demand 3 of each report, and shares of the drawn inputs.
     pub fn missing(&self) -> Vec<String> {
         let never = |call: &str, answers: &[u64], given: &BTreeMap<u64, u64>| {
             let missing = answers.iter().filter(|number| !given.contains_key(number));
@@ -68,6 +68,15 @@ impl Tally {
         };
         let mut missing = never("plan", &PLAN_ANSWERS, &self.plans);
         missing.extend(never("run", &RUN_ANSWERS, &self.runs));
+        // An accepted run answers 0 with the two buffers that are long enough.
+        let reports = self.runs.get(&0).map_or(0, |answers| answers / 2);
+        for (name, seen) in [
+            ("labels by the literal rules", self.literal > 0),
+            ("labels by data flow", self.fixpoint > 0),
+            ("demand 3 of each report", self.judged == reports),
+        ] {
+            missing.extend((!seen).then(|| String::from(name)));
+        }
         missing.extend(self.drawn.lacking().into_iter().map(String::from));
         missing
     }

@@ -104,8 +104,7 @@ fn paths_follow_edges() {
         let mut rng = Rng::for_input(seed, index);
         let size = Size::any(&mut rng);
         let draft = routines::accepted(&mut rng, size);
-        let wanted = paths::any_length(&mut rng);
-        let path = path_bytes(&paths::walk(&mut rng, &draft, wanted));
+        let path = path_bytes(&paths::any(&mut rng, &draft));
         let input = Input::run(draft.bytes(), path);
         assert_eq!(answer(&input), 2, "seed {seed}, index {index}\n{input}");
         let damaged = paths::damaged(&mut rng, &draft);

@@ -53,8 +53,7 @@ fn random_paths() {
         let mut rng = Rng::for_input(SEED, index);
         let size = Size::any(&mut rng);
         let draft = routines::accepted(&mut rng, size);
-        let wanted = paths::any_length(&mut rng);
-        let path = paths::walk(&mut rng, &draft, wanted);
+        let path = paths::any(&mut rng, &draft);
         demand_3(&format!("seed {SEED}, index {index}"), &draft, &path);
     }
 }
@@ -71,8 +70,7 @@ fn paths_through_refused_routines() {
         } else {
             routines::any_graph(&mut rng, size)
         };
-        let wanted = paths::any_length(&mut rng);
-        let path = paths::walk(&mut rng, &draft, wanted);
+        let path = paths::any(&mut rng, &draft);
         demand_3(&format!("seed {seed}, index {index}"), &draft, &path);
     }
 }

@@ -5,7 +5,7 @@ use crate::builder::{Draft, path_bytes};
 use crate::run::MAX_PATH;
 
 /// How long a path may become: mostly short, sometimes up to the limit.
-pub fn any_length(rng: &mut Rng) -> usize {
+fn any_length(rng: &mut Rng) -> usize {
     match rng.below(20) {
         0 | 1 => rng.between(1, 8),
         2..=9 => rng.between(8, 40),
@@ -13,6 +13,12 @@ pub fn any_length(rng: &mut Rng) -> usize {
         18 => rng.between(200, 1000),
         _ => rng.between(1000, MAX_PATH),
     }
+}
+
+/// A path from the entry of any length.
+pub fn any(rng: &mut Rng, draft: &Draft) -> Vec<u16> {
+    let wanted = any_length(rng);
+    walk(rng, draft, wanted)
 }
 
 /// A path from the entry. It keeps away from dead ends until it has the wanted length, if
