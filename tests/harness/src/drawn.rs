@@ -175,7 +175,7 @@ impl fmt::Display for Drawn {
     fn fmt(&self, f: &mut fmt::Formatter) -> fmt::Result {
         writeln!(f, "{:<40}{:>9}{:>9}{:>9}", "share", "part", "%", "least %")?;
         for share in self.shares() {
-            let percent = 100.0 * share.part as f64 / share.whole as f64;
+            let percent = 100.0 * share.part as f64 / share.whole.max(1) as f64;
             let Share {
                 name, part, least, ..
             } = share;

@@ -1,0 +1,116 @@
+//! Faults of both calls: lengths, inputs that are changed, memory that threads share.
+
+use super::{FEW, outcome, planner, runner};
+use crate::check::Difference;
+use crate::drive::{compare, compare_plans, compare_runs};
+use crate::library::Library;
+use crate::raw::{self, CHANGED, Raw};
+use oracle::outcome::Outcome;
+use oracle::{plan, run};
+use std::slice;
+use std::sync::Mutex;
+use std::thread;
+
+/// A file's length taken modulo 65,536.
+#[test]
+fn a_file_length_of_16_bits() {
+    fn faulty(file: &[u8], out: &mut [u8]) -> Outcome {
+        plan::plan(&file[..file.len() % 65_536], out)
+    }
+    fn faulty_run(file: &[u8], path: &[u8], out: &mut [u8]) -> Outcome {
+        run::run(&file[..file.len() % 65_536], path, out)
+    }
+    for (mismatch, _) in [planner(faulty), runner(faulty_run)] {
+        assert_eq!(mismatch.fault.difference, Difference::Outcome);
+        assert_eq!(mismatch.fault.expected.outcome, outcome(13, 18, 0));
+        assert!(mismatch.kind.ends_with(", far too long"), "{mismatch}");
+    }
+}
+
+/// The oracle by pointers, which changes the last byte that it reads.
+struct Scribbler;
+
+/// The bytes behind a pointer, which is null if there are none.
+///
+/// # Safety
+///
+/// As for `Raw`.
+unsafe fn bytes<'a>(start: *mut u8, length: usize) -> &'a mut [u8] {
+    if length == 0 {
+        return &mut [];
+    }
+    // SAFETY: the caller's.
+    unsafe { slice::from_raw_parts_mut(start, length) }
+}
+
+impl Raw for Scribbler {
+    unsafe fn plan(
+        routine: *const u8,
+        routine_len: usize,
+        out: *mut u8,
+        out_len: usize,
+    ) -> Outcome {
+        // SAFETY: the caller's; what is read lies in memory that may be changed.
+        let (routine, out) =
+            unsafe { (bytes(routine.cast_mut(), routine_len), bytes(out, out_len)) };
+        let answer = plan::plan(routine, out);
+        if answer.number == 21 {
+            routine[routine_len - 1] ^= 1;
+        }
+        answer
+    }
+
+    unsafe fn run(
+        routine: *const u8,
+        routine_len: usize,
+        path: *const u8,
+        path_len: usize,
+        out: *mut u8,
+        out_len: usize,
+    ) -> Outcome {
+        // SAFETY: as in `plan`.
+        let (routine, path, out) = unsafe {
+            (
+                bytes(routine.cast_mut(), routine_len),
+                bytes(path.cast_mut(), path_len),
+                bytes(out, out_len),
+            )
+        };
+        let answer = run::run(routine, path, out);
+        if answer.number == 32 {
+            path[path_len - 1] ^= 1;
+        }
+        answer
+    }
+}
+
+/// A routine, and a path, that is not as it was after the call.
+#[test]
+fn a_changed_input() {
+    let library = raw::library::<Scribbler>();
+    for (mismatch, number) in [
+        (compare_plans(&library, FEW).unwrap_err(), 21),
+        (compare_runs(&library, FEW).unwrap_err(), 32),
+    ] {
+        assert_eq!(mismatch.fault.difference, Difference::Outcome);
+        assert_eq!(mismatch.fault.expected.outcome.number, number);
+        assert_eq!(mismatch.fault.found.outcome, CHANGED);
+    }
+}
+
+/// A library that keeps its routine where every thread finds it: right in one thread.
+#[test]
+fn threads_that_share_memory() {
+    static KEPT: Mutex<Vec<u8>> = Mutex::new(Vec::new());
+    fn keep(file: &[u8]) -> Vec<u8> {
+        KEPT.lock().unwrap().clear();
+        KEPT.lock().unwrap().extend(file);
+        thread::yield_now();
+        KEPT.lock().unwrap().clone()
+    }
+    let library = Library {
+        plan: |file, out| plan::plan(&keep(file), out),
+        run: |file, path, out| run::run(&keep(file), path, out),
+    };
+    compare(&library, FEW).expect_err("the fault is not found");
+}

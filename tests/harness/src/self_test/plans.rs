@@ -1,0 +1,283 @@
+//! Faults of a planner.
+
+use super::planner;
+use crate::check::Difference;
+use oracle::builder;
+use oracle::outcome::Outcome;
+use oracle::plan;
+use oracle::routine::{Event, Kind, Reference, Routine};
+use std::sync::Mutex;
+
+/// The labels of a plan that was written: vertex and record.
+fn labels<'a>(file: &[u8], out: &'a mut [u8]) -> Vec<(usize, &'a mut [u8])> {
+    let routine = Routine::parse(file).unwrap();
+    let (head, records) = out.split_at_mut(8 + 4 * routine.vertex_count());
+    let word = |at: usize| usize::from(u16::from_le_bytes([head[at], head[at + 1]]));
+    let counts = (0..routine.vertex_count()).map(|vertex| (vertex, word(10 + 4 * vertex)));
+    let vertices = counts.flat_map(|(vertex, count)| std::iter::repeat_n(vertex, count));
+    vertices.zip(records.chunks_exact_mut(8)).collect()
+}
+
+/// Whether a segment from here meets a read or modify without a define before it.
+fn old_value_read(routine: &Routine, array: usize, vertex: usize, seen: &mut Vec<usize>) -> bool {
+    routine
+        .edges()
+        .filter(|edge| edge.0 == vertex)
+        .any(|(_, next)| {
+            if seen.contains(&next) {
+                return false;
+            }
+            seen.push(next);
+            match routine.event(next, array) {
+                Event::Reference(Reference::Read | Reference::Modify) => true,
+                Event::Nothing => old_value_read(routine, array, next, seen),
+                Event::Reference(Reference::Define) | Event::Label(_) => false,
+            }
+        })
+}
+
+/// Q's vertex 1 as D: the next label, met without a define, does not count.
+#[test]
+fn define_on_one_branch_only() {
+    fn faulty(file: &[u8], out: &mut [u8]) -> Outcome {
+        let answer = plan::plan(file, out);
+        if answer.number == 0 {
+            let routine = Routine::parse(file).unwrap();
+            for (vertex, label) in labels(file, out) {
+                let array = usize::from(label[0]);
+                if label[1] == b'W'
+                    && vertex != routine.exit()
+                    && !old_value_read(&routine, array, vertex, &mut Vec::new())
+                {
+                    label[1] = b'D';
+                }
+            }
+        }
+        answer
+    }
+    let mut out = [0; 64];
+    let written = faulty(&builder::q().bytes(), &mut out).first as usize;
+    assert_eq!(out[..written][8 + 24 + 8 + 1], b'D');
+    let (mismatch, draft) = planner(faulty);
+    assert!(matches!(mismatch.fault.difference, Difference::Written(_)));
+    let draft = draft.unwrap();
+    assert_eq!(draft.arrays.len(), 1);
+    assert!(draft.rows.len() <= 4, "{mismatch}");
+    assert!(draft.edges.len() <= 3, "{mismatch}");
+}
+
+/// S's version 0 freed at vertex 2: the kept set of a dropped label is empty.
+#[test]
+fn nothing_kept_at_a_dropped_label() {
+    fn faulty(file: &[u8], out: &mut [u8]) -> Outcome {
+        let answer = plan::plan(file, out);
+        if answer.number == 0 {
+            for (_, label) in labels(file, out) {
+                if label[1] == b'N' {
+                    label[6..8].fill(0);
+                }
+            }
+        }
+        answer
+    }
+    let (mismatch, draft) = planner(faulty);
+    assert!(matches!(mismatch.fault.difference, Difference::Written(_)));
+    assert!(draft.unwrap().rows.len() <= 5, "{mismatch}");
+}
+
+/// A fault that shows on eight arrays only: the small routine still has them.
+#[test]
+fn last_of_eight_arrays() {
+    fn faulty(file: &[u8], out: &mut [u8]) -> Outcome {
+        let answer = plan::plan(file, out);
+        if answer.number == 0 {
+            for (_, label) in labels(file, out) {
+                if label[0] == 7 && label[1] == b'R' {
+                    label[4] ^= 1;
+                }
+            }
+        }
+        answer
+    }
+    let (mismatch, draft) = planner(faulty);
+    let draft = draft.unwrap();
+    assert_eq!(draft.arrays.len(), 8);
+    assert!(draft.rows.len() <= 3, "{mismatch}");
+}
+
+/// The plan is begun where there is room for one.
+#[test]
+fn a_byte_written_on_refusal() {
+    fn faulty(file: &[u8], out: &mut [u8]) -> Outcome {
+        let answer = plan::plan(file, out);
+        if answer.number == 21 && out.len() > 100 {
+            out[0] = b'H';
+        }
+        answer
+    }
+    let (mismatch, draft) = planner(faulty);
+    assert_eq!(mismatch.fault.difference, Difference::Refused(0));
+    let draft = draft.unwrap();
+    assert_eq!((draft.arrays.len(), draft.rows.len()), (1, 4), "{mismatch}");
+    assert_eq!(draft.edges.len(), 3, "{mismatch}");
+}
+
+#[test]
+fn the_wrong_place() {
+    fn faulty(file: &[u8], out: &mut [u8]) -> Outcome {
+        let mut answer = plan::plan(file, out);
+        if answer.number == 16 {
+            answer.first += 2;
+        }
+        answer
+    }
+    let (mismatch, draft) = planner(faulty);
+    assert_eq!(mismatch.fault.difference, Difference::Outcome);
+    let draft = draft.unwrap();
+    assert!(draft.rows.len() <= 4, "{mismatch}");
+    assert!(draft.edges.len() <= 2, "{mismatch}");
+}
+
+/// 13 checked before 12: files with both faults are tried.
+#[test]
+fn the_wrong_order_of_checks() {
+    fn faulty(file: &[u8], out: &mut [u8]) -> Outcome {
+        let answer = plan::plan(file, out);
+        if answer.number == 12 && file[6..8] != [18, 0] {
+            return Outcome {
+                number: 13,
+                first: 6,
+                second: 0,
+            };
+        }
+        answer
+    }
+    let (mismatch, _) = planner(faulty);
+    assert_eq!(mismatch.fault.difference, Difference::Outcome);
+    assert_eq!(mismatch.kind, "plan, several faults");
+    assert_eq!(mismatch.input.routine.len(), 18);
+}
+
+#[test]
+fn a_byte_beyond_the_length() {
+    fn faulty(file: &[u8], out: &mut [u8]) -> Outcome {
+        let answer = plan::plan(file, out);
+        let length = answer.first as usize;
+        if answer.number == 0 && out.len() > length {
+            out[length] ^= 1;
+        }
+        answer
+    }
+    let (mismatch, _) = planner(faulty);
+    assert!(matches!(mismatch.fault.difference, Difference::Beyond(_)));
+}
+
+#[test]
+fn an_exact_buffer_refused() {
+    fn faulty(file: &[u8], out: &mut [u8]) -> Outcome {
+        let room = out.len().saturating_sub(1);
+        plan::plan(file, &mut out[..room])
+    }
+    let (mismatch, _) = planner(faulty);
+    assert_eq!(mismatch.fault.difference, Difference::Outcome);
+    assert_eq!(mismatch.fault.expected.outcome.number, 0);
+    assert_eq!(mismatch.fault.found.outcome.number, 1);
+}
+
+/// A plan that is wrong with so many vertices and edges only.
+fn wrong_with<const VERTICES: usize, const EDGES: usize>(file: &[u8], out: &mut [u8]) -> Outcome {
+    let answer = plan::plan(file, out);
+    if answer.number == 0 {
+        let routine = Routine::parse(file).unwrap();
+        out[7] ^= u8::from(routine.vertex_count() == VERTICES && routine.edge_count() == EDGES);
+    }
+    answer
+}
+
+#[test]
+fn a_table_that_ends_too_early() {
+    for faulty in [
+        wrong_with::<32, 127>,
+        wrong_with::<32, 128>,
+        wrong_with::<32, 129>,
+        wrong_with::<33, 127>,
+        wrong_with::<33, 128>,
+        wrong_with::<33, 129>,
+        wrong_with::<128, 512>,
+        wrong_with::<129, 513>,
+    ] {
+        let (mismatch, _) = planner(faulty);
+        assert_eq!(mismatch.fault.difference, Difference::Written(7));
+        assert_eq!(mismatch.kind, "plan, limits");
+    }
+}
+
+/// 20 names the last in argument that its row changes, not the first.
+#[test]
+fn the_last_array_of_20() {
+    fn faulty(file: &[u8], out: &mut [u8]) -> Outcome {
+        let mut answer = plan::plan(file, out);
+        if answer.number == 20 {
+            let routine = Routine::parse(file).unwrap();
+            let is_changed = |array: &usize| {
+                let event = routine.event(answer.first as usize, *array);
+                let change = Event::Reference(Reference::Define);
+                routine.array(*array).kind == Kind::In
+                    && (event == change || event == Event::Reference(Reference::Modify))
+            };
+            let last = (0..routine.array_count()).rfind(is_changed);
+            answer.second = last.unwrap() as u64;
+        }
+        answer
+    }
+    let (mismatch, draft) = planner(faulty);
+    assert_eq!(mismatch.fault.difference, Difference::Outcome);
+    assert!(mismatch.index < 200, "{mismatch}");
+    let draft = draft.unwrap();
+    assert_eq!((draft.arrays.len(), draft.rows.len()), (2, 3), "{mismatch}");
+}
+
+/// A file with no vertices can be made smaller too.
+#[test]
+fn no_vertices() {
+    fn faulty(file: &[u8], out: &mut [u8]) -> Outcome {
+        let mut answer = plan::plan(file, out);
+        if answer.number == 12 && file[12..14] == [0, 0] && file.len() > 18 {
+            answer.first += 1;
+        }
+        answer
+    }
+    let (mismatch, draft) = planner(faulty);
+    assert_eq!(mismatch.fault.difference, Difference::Outcome);
+    assert_eq!(draft.unwrap().rows.len(), 0, "{mismatch}");
+}
+
+#[test]
+fn a_byte_after_the_buffer() {
+    fn faulty(file: &[u8], out: &mut [u8]) -> Outcome {
+        let answer = plan::plan(file, out);
+        if answer.number == 0 && answer.first as usize == out.len() {
+            // SAFETY: guard bytes stand after the buffer.
+            unsafe { *out.as_mut_ptr().add(out.len()) ^= 1 };
+        }
+        answer
+    }
+    let (mismatch, _) = planner(faulty);
+    assert_eq!(mismatch.fault.difference, Difference::Outside);
+}
+
+/// A library that is wrong once and right when it is asked again: its input is told all the same.
+#[test]
+fn a_fault_that_does_not_come_again() {
+    static CALLS: Mutex<u64> = Mutex::new(0);
+    fn faulty(file: &[u8], out: &mut [u8]) -> Outcome {
+        let mut calls = CALLS.lock().unwrap();
+        *calls += 1;
+        let mut answer = plan::plan(file, out);
+        answer.second += u64::from(*calls == 1000);
+        answer
+    }
+    let (mismatch, _) = planner(faulty);
+    assert_eq!(mismatch.fault.difference, Difference::Outcome);
+    assert_eq!(mismatch.fault.found.outcome.second, 1);
+}
