@@ -4,11 +4,15 @@
 type Edge = (usize, usize);
 
 /// So many edges may fall where they are taken by number.
-const FEW: usize = 8;
+const FEW: usize = 16;
 
-/// The edges in their order: by number if few of them fall, else as searches find them.
+/// More edges than these are taken by number, however many fall.
+const MANY: usize = 768;
+
+/// The edges in their order: by number if few of them fall or they are many, else as searches
+/// find them.
 pub fn ordered(edges: &[Edge], vertices: usize) -> Vec<Edge> {
-    if falling(edges) <= FEW {
+    if edges.len() > MANY || falling(edges) <= FEW {
         edges.to_vec()
     } else {
         by_search(edges, vertices)
