@@ -1,7 +1,6 @@
 -- `tables::arriving` meets its contract: both tables are filled and solved.
 -- Assumes nothing.
 use mathlib.Core.Path.{sym, _∙_}
-use borrow.Author.Needs.{needs}
 use Rattle.passes.proofs.Steps.{arrive-gives, arrive-passes, arriving-sets}
 use Rattle.passes.proofs.tables.arriving.Statement.{statement}
 use Rattle.passes.proofs.tables.arriving.Tie as tie
@@ -21,13 +20,13 @@ solve-requires c κs =
     (p .0, (p .1 .0, (arrive-gives well (q .0) (q .1 .0) (f .fill .ensures .0) .size, (arrive-passes well (q .0) (f .fill .ensures .1) .size, q .1 .1 .0))))
 
 same-length : tie.Need-same-length
-same-length c = search needs
+same-length c = c .before .before .solve .kept .1 .1 .1 .1 .1 .1 .0
 
 same-length-2 : tie.Need-same-length-2
-same-length-2 c = search needs
+same-length-2 c = c .before .before .before .before .before .before .before .before .before .before .fill .kept .1 .1 .0
 
 same-length-3 : tie.Need-same-length-3
-same-length-3 c = search needs
+same-length-3 c = c .before .before .before .before .before .before .before .before .before .before .fill .kept .1 .1 .1 .0
 
 returns : tie.Need-returns
 returns c =

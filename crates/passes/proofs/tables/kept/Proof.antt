@@ -1,7 +1,6 @@
 -- `tables::kept` meets its contract: both tables are filled and solved, and the leaving sets are joined.
 -- Assumes nothing.
 use mathlib.Core.Path.{sym, _∙_}
-use borrow.Author.Needs.{needs}
 use Rattle.passes.proofs.Steps.{kept-gives, kept-passes, kept-sets}
 use Rattle.passes.proofs.tables.kept.Statement.{statement}
 use Rattle.passes.proofs.tables.kept.Tie as tie
@@ -30,13 +29,13 @@ join-requires c κs =
     (q .1 .0 .size ∙ all, kept-gives (p .0 .well) (q .0) (q .1 .0) (f .fill .ensures .0) .size ∙ all)
 
 same-length : tie.Need-same-length
-same-length c = search needs
+same-length c = c .before .before .join .kept .1 .1 .0 ∙ c .before .before .before .before .before .before .before .solve .kept .1 .1 .1 .1 .1 .1 .0
 
 same-length-2 : tie.Need-same-length-2
-same-length-2 c = search needs
+same-length-2 c = c .before .before .before .before .before .before .before .before .before .before .before .before .before .before .before .fill .kept .1 .1 .0
 
 same-length-3 : tie.Need-same-length-3
-same-length-3 c = search needs
+same-length-3 c = c .before .before .before .before .before .before .before .before .before .before .before .before .before .before .before .fill .kept .1 .1 .1 .0
 
 returns : tie.Need-returns
 returns c =

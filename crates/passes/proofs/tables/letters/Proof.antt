@@ -1,7 +1,6 @@
 -- `tables::letters` meets its contract: the table is filled and solved, the letters are written, and those of the exit put in their place.
 -- Assumes nothing.
 use mathlib.Core.Path.{sym, ap, _∙_}
-use borrow.Author.Needs.{needs}
 use lib.ListN.{length}
 use Rattle.words.proofs.Tables.{table-length}
 use Rattle.passes.proofs.Steps.{letter-passes, letters-are}
@@ -28,13 +27,13 @@ leave-requires c κs =
     (v .before .before .before .before .before .before .before .before .before .before .before .before .before .pre .0, ap length (w .write .ensures) ∙ table-length _ _ ∙ v .solve .ensures .size)
 
 same-length : tie.Need-same-length
-same-length c = search needs
+same-length c = c .before .before .leave .kept .1 .1 .0 ∙ c .before .before .before .before .before .before .write .kept .1 .0
 
 same-length-2 : tie.Need-same-length-2
-same-length-2 c = search needs
+same-length-2 c = c .before .before .before .before .before .before .before .before .before .before .before .solve .kept .1 .1 .1 .1 .1 .1 .0
 
 same-length-3 : tie.Need-same-length-3
-same-length-3 c = search needs
+same-length-3 c = c .before .before .before .before .before .before .before .before .before .before .before .before .before .before .before .before .fill .kept .1 .0
 
 returns : tie.Need-returns
 returns c =

@@ -1,7 +1,6 @@
 -- `tables::reached` meets its contract: both tables are filled and solved.
 -- Assumes nothing.
 use mathlib.Core.Path.{sym, _∙_}
-use borrow.Author.Needs.{needs}
 use Rattle.passes.proofs.Steps.{reached-gives, reached-passes, reached-sets}
 use Rattle.passes.proofs.tables.reached.Statement.{statement}
 use Rattle.passes.proofs.tables.reached.Tie as tie
@@ -17,13 +16,13 @@ solve-requires c κs =
     (p .0, (p .1 .0, (reached-gives well (p .1 .1 .1 .0) (f .fill-reached .ensures .0) .size, (reached-passes well (p .1 .1 .1 .0) (f .fill-reached .ensures .1) .size, p .1 .1 .0))))
 
 same-length : tie.Need-same-length
-same-length c = search needs
+same-length c = c .before .before .solve .kept .1 .1 .1 .1 .1 .1 .0
 
 same-length-2 : tie.Need-same-length-2
-same-length-2 c = search needs
+same-length-2 c = c .before .before .before .before .before .before .before .before .before .before .fill-reached .kept .0
 
 same-length-3 : tie.Need-same-length-3
-same-length-3 c = search needs
+same-length-3 c = c .before .before .before .before .before .before .before .before .before .before .fill-reached .kept .1 .0
 
 returns : tie.Need-returns
 returns c =

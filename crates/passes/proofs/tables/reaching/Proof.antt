@@ -2,7 +2,6 @@
 -- Assumes nothing.
 use mathlib.Core.Path.{sym, ap, _∙_}
 use native.Mathlib.Omega.{arith}
-use borrow.Author.Needs.{needs}
 use lib.ListN.{length}
 use Rattle.words.proofs.Tables.{table-length}
 use Rattle.passes.proofs.Steps.{reach-gives, reach-passes, reaching-sets}
@@ -40,13 +39,13 @@ enter-requires c κs =
     (p .0, omega (arith, v .solve .ensures .size, p .0 .well .laid .limits .two-vertices))
 
 same-length : tie.Need-same-length
-same-length c = search needs
+same-length c = c .before .before .enter .kept .1 .1 .0 ∙ c .before .before .before .before .before .before .solve .kept .1 .1 .1 .1 .1 .1 .0
 
 same-length-2 : tie.Need-same-length-2
-same-length-2 c = search needs
+same-length-2 c = c .before .before .before .before .before .before .before .before .before .before .before .before .enter-gives .kept .1 .1 .1 .0 ∙ c .before .before .before .before .before .before .before .before .before .before .before .before .before .before .before .before .before .before .fill .kept .1 .1 .1 .0
 
 same-length-3 : tie.Need-same-length-3
-same-length-3 c = search needs
+same-length-3 c = c .before .before .before .before .before .before .before .before .before .before .before .before .before .before .before .before .before .before .fill .kept .1 .1 .1 .1 .0
 
 returns : tie.Need-returns
 returns c =
