@@ -1,13 +1,13 @@
 -- The ways out of the call `plan` once the routine is read: what the checks say, as the definition's answer.
 -- Assumes nothing.
-use mathlib.Core.Path.{_≡_, sym, _∙_}
+use mathlib.Core.Path.{_≡_, sym, ap, _∙_}
 use mathlib.Core.List.{List}
 use Prim.Native.Nat.{ℕ, _≤_, _<_}
 use native.Mathlib.Omega.{arith}
 use borrow.Author.Tests.{le-leb, lt-leb, leb-true}
 use lib.ListN.{length}
 use Rattle.labels.specs.Checks.{programmerCheck}
-use Rattle.plan.specs.Calls.{plannerCheck, PlannedRead}
+use Rattle.plan.specs.Calls.{plannerCheck, planInto, PlannedRead}
 use Rattle.planbytes.specs.Plan.{planBytes, planLength}
 use Rattle.planbytes.proofs.Sizes.{plan-length}
 use Rattle.refusal.specs.Replies.{written}
@@ -43,8 +43,12 @@ module _ (file : List ℕ) (size : ℕ) {v : Verdict} (is : v ≡ programmerChec
 -- ---- a plan of a routine that was read, from its reply
 
 module _ (file before : List ℕ) {reply : Reply} (is : reply ≡ written (plannerCheck file (length before)) (planLength file)) where
+  -- what the reply leaves in the buffer
+  left : {r : Reply} → reply ≡ r → planInto reply file before ≡ planInto r file before
+  left e = ap (λ (r : Reply). planInto r file before) e
+
   pub denied-planned : {r : Refusal} → reply ≡ Denied r → PlannedRead file before reply before
-  denied-planned e = record { answer = is; buffer = rw e }
+  denied-planned e = record { answer = is; buffer = sym (left e) }
 
   -- all checks have passed
   module _ {n : ℕ} (e : reply ≡ Written n) where
@@ -60,4 +64,4 @@ module _ (file before : List ℕ) {reply : Reply} (is : reply ≡ written (plann
     fits = omega (arith, plan-length file, leb-true (planLength file) (length before) (holds-true _ _ (passed-right (programmerCheck file) _ all-passed)))
 
     pub written-planned : {after : List ℕ} → after ≡ wrote before (planBytes file) → PlannedRead file before reply after
-    written-planned w = record { answer = is; buffer = rw e w }
+    written-planned w = record { answer = is; buffer = w ∙ sym (left e) }
