@@ -1,9 +1,9 @@
 -- What the checks 20 and 21 hold, row by row, and what they answer.
 -- Assumes nothing.
 use mathlib.Core.Path.{_≡_}
-use mathlib.Core.Bool.{Bool, false, _||_, cond}
+use mathlib.Core.Bool.{cond}
 use mathlib.Core.List.{List}
-use Prim.Native.Nat.{ℕ, zero, suc, _*_, _<_}
+use Prim.Native.Nat.{ℕ, _*_, _<_}
 use lib.ListN.{length, getD}
 use Rattle.labels.specs.Checks.{programmerCheck}
 use Rattle.routine.specs.Arrays.{kind, isIn}
@@ -11,11 +11,6 @@ use Rattle.passes.specs.Tables.{Reached}
 use Rattle.refusal.specs.declared.Verdict.{Verdict}
 use Rattle.refusal.specs.declared.Verdict.the-variants.{Passed}
 use Rattle.routine.specs.Layout.{arrays, vertices}
-
--- whether a test passes below n
-unfoldable pub anyBelow : (ℕ → Bool) → ℕ → Bool
-anyBelow test zero = false
-anyBelow test (suc n) = anyBelow test n || test n
 
 -- a mask for each array: of an in argument bit 3, which its writes give
 pub record InMasks (file masks : List ℕ) : Type 0 where

@@ -1,11 +1,11 @@
 -- One array along a whole path, for any sound plan: the run's records are the machine's, out and inout end home, and copies are no more
 -- than the machine counts.
 -- Assumes nothing.
-use mathlib.Core.Path.{_≡_, refl, sym, ap, subst, _∙_}
+use mathlib.Core.Path.{_≡_, refl, ap, subst, _∙_}
 use mathlib.Core.Bool.{Bool, true, not, _&&_, false≢true}
 use Prim.Native.Nat.{ℕ, zero, suc, _+_, _≤_, _<_}
 use native.Mathlib.Omega.{arith}
-use borrow.Author.Tests.{eqb-true, eq-eqb, ne-eqb, not-true, not-false}
+use borrow.Author.Tests.{eqb-true, eq-eqb, not-true, not-false}
 use lib.Dec.{T, eqb, lit≤}
 use lib.ListN.{getD, set, replicate, length-set}
 use lib.Seq.{getD-set-same}
@@ -17,9 +17,9 @@ use Rattle.labels.specs.declared.Use.the-variants.{W}
 use Rattle.routine.specs.Actions.{isReference}
 use Rattle.routine.specs.declared.action.Action.the-variants.{Remap}
 use Rattle.routine.specs.declared.array.ArrayRecord.{ArrayRecord}
-use Rattle.routine.proofs.Laws.{and-parts}
+use Rattle.words.proofs.Tests.{at-cond, and-left, and-right}
 use Rattle.sets.specs.Sets.{has}
-use Rattle.sets.proofs.Laws.{has-single, has-zero}
+use Rattle.sets.proofs.Laws.{has-single, single-is, has-zero}
 use Rattle.state.specs.declared.State.{State}
 use Rattle.state.specs.Fits.{Fits}
 use Rattle.demand.specs.Machine.{Machine, machineStart, machineStep}
@@ -28,10 +28,10 @@ use Rattle.state.specs.Exit.{left}
 use Rattle.state.specs.Moves.{isD}
 use Rattle.state.specs.References.{referenced}
 use Rattle.state.specs.Start.{started}
-use Rattle.state.specs.States.{nothing, hasCurrent, stampOf}
+use Rattle.state.specs.States.{stampOf}
 use Rattle.state.specs.Vertex.{labelled, visited}
-use Rattle.words.proofs.Cases.{at-cond}
 use Rattle.state.proofs.Fits.{started-fits, step-fits}
+use Rattle.state.proofs.States.{below-current}
 use Rattle.demand.proofs.Labels.{Ready, Labelled, labelled-does}
 use Rattle.demand.proofs.Invariant.{Plan, Sound, Holds, Before, label-holds, ready, used, below, visit, alike}
 
@@ -54,7 +54,7 @@ started-ready r below =
       sixteen = length-set (replicate 16 0) (r .initial) 65535;
       agree = λ k h.
           subst (λ (j : ℕ). getD (set (replicate 16 0) (r .initial) 65535) j 0 ≡ machineStart r .stamp)
-          (eqb-true (r .initial) k (sym (has-single (r .initial) k) ∙ h))
+          (single-is (r .initial) k h)
           (getD-set-same (replicate 16 0) (r .initial) 65535 0 below ∙ (cc));
       sits = record {
         lives = λ h. has-single (r .initial) (r .initial) ∙ eq-eqb (r .initial) (r .initial) refl;
@@ -77,7 +77,7 @@ labelled-home : {u : Use} {t keep : ℕ} {s : State} {m : Machine} → t < 16 �
     → (s .current ≡ t) × (stampOf s t ≡ m .stamp)
 labelled-home {t} {s} below e g =
     let c = g .current (ap isN e) in
-    let h : hasCurrent s ≡ true = ap not (ne-eqb (s .current) nothing (λ x. omega arith)) in
+    let h = below-current s (omega arith) in
     (c, g .agree (ap isD e) t (subst (λ (k : ℕ). has (s .live) k ≡ true) c (g .sits .lives h)))
 
 module _ {p : Plan} (sound : Sound p) {at : ℕ → ℕ} {n : ℕ} {run : ℕ → State} {machine : ℕ → Machine} (f : Follows p at n run machine) where
@@ -110,7 +110,7 @@ module _ {p : Plan} (sound : Sound p) {at : ℕ → ℕ} {n : ℕ} {run : ℕ �
   stays i h =
       f .run-step i
       ∙ at-cond (λ (s : State). s ≡ after i) (eqb (at i) (p .exit) && not (isArgument (p .array .kind)))
-      (λ b. absurd (sound .exit-ends (subst (λ (v : ℕ). Edge (p .edges) v (at (suc i))) (eqb-true (at i) (p .exit) (and-parts _ _ b .0)) (f .joined i h))))
+      (λ b. absurd (sound .exit-ends (subst (λ (v : ℕ). Edge (p .edges) v (at (suc i))) (eqb-true (at i) (p .exit) (and-left _ _ b)) (f .joined i h))))
       (λ b. refl)
 
   before : (i : ℕ) → suc i < n → After i → Before p (at (suc i)) (run (suc i)) (machine (suc i))
@@ -169,6 +169,6 @@ module _ {p : Plan} (sound : Sound p) {at : ℕ → ℕ} {n : ℕ} {run : ℕ �
       rw (f .run-step i, f .machine-step i, remaps)
       (at-cond (λ (s : State). (s .current ≡ t) × (stampOf s t ≡ machine i .stamp)) (eqb (at i) (p .exit) && not (isArgument (p .array .kind)))
       (λ b.
-      let local : not (isArgument (p .array .kind)) ≡ true = and-parts (eqb (at i) (p .exit)) _ b .1 in
+      let local : not (isArgument (p .array .kind)) ≡ true = and-right (eqb (at i) (p .exit)) _ b in
       absurd (omega (arith, eqb-true (p .array .kind) 0 (not-false _ (not-true _ local)))))
       (λ b. labelled-home initial-below (ap (p .letter) e ∙ sound .exit-letter k) g))

@@ -1,6 +1,6 @@
 -- Demand 3 for every accepted file and path: all arrays at once, along the whole path.
 -- Assumes nothing.
-use mathlib.Core.Path.{_≡_, refl, sym, ap, ap₂, _∙_}
+use mathlib.Core.Path.{_≡_, refl, sym, ap, _∙_}
 use mathlib.Core.Bool.{Bool, cond}
 use mathlib.Core.List.{List, [], _∷_, _++_}
 use mathlib.Core.Logic.{⊎-elim}
@@ -13,9 +13,8 @@ use Rattle.labels.specs.Events.{event, isLabel, version, versionOf}
 use Rattle.routine.specs.Arrays.{kind, initial, isInOrInout, isOutOrInout}
 use Rattle.labels.specs.Reaching.{orLast, lastVersion}
 use Rattle.labels.specs.declared.Use.{Use}
-use Rattle.flow.proofs.Tests.{or-iff}
+use Rattle.words.proofs.Tests.{or-iff, eqb-iff, at-cond}
 use Rattle.labels.proofs.Rules.Proper.{proper}
-use Rattle.labels.proofs.Rules.Tests.{eqb-iff}
 use Rattle.routine.specs.Actions.{isReference, isRemap}
 use Rattle.routine.specs.Layout.{arrays, exit}
 use Rattle.routine.specs.Reader.{WellFormed}
@@ -23,36 +22,21 @@ use Rattle.refusal.specs.declared.Verdict.the-variants.{Passed}
 use Rattle.routine.specs.declared.action.Action.{Action}
 use Rattle.routine.specs.declared.action.Action.the-variants.{Nothing, Reference, Remap, Unknown}
 use Rattle.routine.specs.declared.array.ArrayRecord.{ArrayRecord}
-use Rattle.report.specs.declared.record.Record.{Record}
 use Rattle.state.specs.declared.State.{State}
 use Rattle.demand.specs.Demand.{IsHome, Demand3}
 use Rattle.state.specs.Fits.{Fits}
 use Rattle.demand.specs.Machine.{Machine, machineStep, machineAfter, machineRecords}
 use Rattle.path.specs.Paths.{steps, vertexAt, pathCheck}
-use Rattle.report.specs.Records.{byArray, byStep}
 use Rattle.state.specs.Moves.{moves, copiesStamp}
 use Rattle.state.specs.References.{referenced}
 use Rattle.state.specs.Vertex.{labelled, visited}
 use Rattle.demand.specs.Run.{stateAfter, runRecords, copiedBy, copiedAt, stampsCopied}
 use Rattle.demand.proofs.Along.{Follows, left-copies, fits, begins, used-at, below-at, alike-at, few-at, home-at}
-use Rattle.words.proofs.Cases.{at-cond}
 use Rattle.demand.proofs.Invariant.{Sound}
 use Rattle.path.proofs.Paths.{Walk, walk}
 use Rattle.demand.proofs.Planned.{computedPlan, sound}
 use Rattle.words.specs.Tables.{table}
-
--- ---- records of two runs that agree at every step and array
-
-byArray-same : (f g : ℕ → List Record) (m : ℕ) → ((a : ℕ) → a < m → f a ≡ g a) → byArray f m ≡ byArray g m
-unfolding byArray
-byArray-same f g zero h = refl
-byArray-same f g (suc m) h = ap₂ _++_ (byArray-same f g m (λ a l. h a (omega arith))) (h m (omega arith))
-
-byStep-same : (f g : ℕ → ℕ → List Record) (m n : ℕ) → ((i a : ℕ) → i < n → a < m → f i a ≡ g i a) → byStep f m n ≡ byStep g m n
-unfolding byStep
-byStep-same f g m zero h = refl
-byStep-same f g m (suc n) h =
-    ap₂ _++_ (byStep-same f g m n (λ i a l. h i a (omega arith))) (byArray-same (f n) (g n) m (λ a. h n a (omega arith)))
+use Rattle.words.proofs.Tables.{rows-same}
 
 -- ---- the version of the last label before a vertex
 
@@ -149,7 +133,7 @@ module _ (file path : List ℕ) (w : WellFormed file) (accepted : pathCheck file
   unfolding runRecords machineRecords
   demand3 =
       record {
-        reads-alike = byStep-same _ _ (arrays file) (steps path) (λ i a h l. alike-at (plans a l) (follows walks a) i a h);
+        reads-alike = rows-same _ _ (steps path) (λ i h. rows-same _ _ (arrays file) (λ a l. alike-at (plans a l) (follows walks a) i a h));
         source-names = λ i a h l. names walks a (plans a l) i h;
         ends-home = λ a l e k. home walks a (plans a l) e (not-local-nor-in (kind file a) k);
         copies-counted = λ a l. counted walks a (steps path);

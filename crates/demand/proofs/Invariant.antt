@@ -1,13 +1,12 @@
 -- One array along a path, for any letters and kept sets with the few facts of `Sound`: the invariant of run and machine, kept from vertex
 -- to vertex.
 -- Assumes nothing.
-use mathlib.Core.Path.{_≡_, refl, sym, ap, subst, _∙_}
+use mathlib.Core.Path.{_≡_, refl, sym, subst, _∙_}
 use mathlib.Core.Bool.{true, false, not, _&&_}
 use mathlib.Core.List.{List}
 use mathlib.Core.Logic.{_⊎_, inl, inr, ⊎-elim}
 use Prim.Native.Nat.{ℕ, _≤_, _<_}
 use native.Mathlib.Omega.{arith}
-use borrow.Author.Tests.{ne-eqb}
 use lib.Dec.{T}
 use lib.ListN.{length, getD, set}
 use lib.Seq.{getD-set-same, set-getD}
@@ -28,9 +27,10 @@ use Rattle.demand.specs.Machine.{Machine, machineStep}
 use Rattle.report.specs.Records.{recordsAt}
 use Rattle.state.specs.Moves.{isD}
 use Rattle.state.specs.References.{referenced}
-use Rattle.state.specs.States.{nothing, hasCurrent, stampOf}
+use Rattle.state.specs.States.{hasCurrent, stampOf}
 use Rattle.state.specs.Vertex.{labelled, visited}
 use Rattle.state.proofs.Labels.{Agree, Sits}
+use Rattle.state.proofs.States.{below-current}
 use Rattle.demand.proofs.Labels.{Cheap, Ready, labelled-does}
 
 -- one array: the routine's edges, what each vertex does with the array, the letter and kept set of each label, the array's record, the exit
@@ -148,7 +148,7 @@ module _ {p : Plan} (sound : Sound p) where
       below = omega (arith, used, sound .below (i .held))
 
       current : hasCurrent s ≡ true
-      current = ap not (ne-eqb (s .current) nothing (λ e. omega (arith, below)))
+      current = below-current s below
 
       current-live : has (s .live) (s .current) ≡ true
       current-live = i .sits .lives current

@@ -11,16 +11,16 @@ use Rattle.labels.specs.declared.Use.{Use}
 use Rattle.labels.specs.Uses.{isN}
 use Rattle.routine.specs.declared.action.Action.the-variants.{Remap}
 use Rattle.routine.specs.declared.array.ArrayRecord.{ArrayRecord}
-use Rattle.routine.proofs.Laws.{and-parts}
+use Rattle.words.proofs.Tests.{at-cond, and-right, or-cases}
 use Rattle.sets.specs.Sets.{has}
 use Rattle.state.specs.declared.State.{State}
 use Rattle.state.specs.Cleaning.{callers}
 use Rattle.state.specs.Moves.{moves, copiesStamp, moved, isD}
 use Rattle.state.specs.States.{hasCurrent}
 use Rattle.state.specs.Vertex.{labelled}
+use Rattle.state.proofs.States.{copies-current}
 use Rattle.demand.specs.Machine.{Machine, machineStep}
-use Rattle.words.proofs.Cases.{at-cond, or-cases}
-use Rattle.state.proofs.Labels.{Agree, Sits, cleaned-has, cleaned-agree, cleaned-sits, copies-current, moved-agree, moved-sits, moved-current}
+use Rattle.state.proofs.Labels.{Agree, Sits, cleaned-has, cleaned-agree, cleaned-sits, moved-agree, moved-sits, moved-to}
 
 -- ---- the counts
 
@@ -39,7 +39,7 @@ moved-cheap u t step s m c =
       few =
           at-cond (λ (n : ℕ). s .copies + n ≤ m .count + cond (eqb t (m .held)) 0 1) (copiesStamp u t s)
           (λ g.
-          let other = eqb-false (s .current) t (not-true _ (and-parts (not (isN u)) _ h .1)) in
+          let other = eqb-false (s .current) t (not-true _ (and-right (not (isN u)) _ h)) in
           at-cond (λ (n : ℕ). s .copies + 1 ≤ m .count + n) (eqb t (m .held)) (λ e. omega (arith, c .fewer (copies-current u t s g) (away e other))) (λ e. omega arith))
           (λ g. omega arith);
       fewer = λ _ other. absurd (other refl);
@@ -73,12 +73,12 @@ labelled-does r u t keep step s m below y =
     let s' = moved u t s in
     let c = moved-cheap u t step s m (y .cheap) in
     record {
-      current = moved-current u t s;
+      current = moved-to u t s;
       agree = λ d. cleaned-agree (callers r) keep s' (moved-agree u t s (omega (arith, y .sixteen)) d (y .agree) (y .sits));
       alone = λ n f k h.
           or-cases (has keep k) (hasCurrent s' && eqb (s' .current) k) (f k)
-          (λ g. sym (eqb-true (s' .current) k (and-parts (hasCurrent s') (eqb (s' .current) k) g .1)) ∙ moved-current u t s n)
-          (and-parts (has (s' .live) k) _ (sym (cleaned-has (callers r) keep s' k) ∙ h) .1);
+          (λ g. sym (eqb-true (s' .current) k (and-right (hasCurrent s') (eqb (s' .current) k) g)) ∙ moved-to u t s n)
+          (and-right (has (s' .live) k) _ (sym (cleaned-has (callers r) keep s' k) ∙ h));
       sits = cleaned-sits (callers r) keep s' (moved-sits u t s below (y .sits));
       cheap = record { few = c .few; fewer = c .fewer };
     }

@@ -5,7 +5,7 @@ use mathlib.Core.Bool.{Bool, false, cond, or-true}
 use mathlib.Core.List.{List}
 use Prim.Native.Nat.{ℕ, _≤_}
 use native.Mathlib.Omega.{arith}
-use borrow.Author.Tests.{eqb-true, eq-eqb, ne-eqb}
+use borrow.Author.Tests.{eq-eqb, ne-eqb}
 use Rattle.labels.specs.Events.{edgeBytes, event, versionOf, version}
 use Rattle.routine.specs.Layout.{entry, exit}
 use Rattle.labels.specs.Kept.{isNOrR, keptOf}
@@ -19,7 +19,7 @@ use Rattle.labels.proofs.Rules.Uses.{exit-letter, n-segment, d-segment, r-segme
 use Rattle.routine.specs.Arrays.{arrayOf, kind, initial}
 use Rattle.routine.specs.declared.action.Action.the-variants.{Remap}
 use Rattle.sets.specs.Sets.{has}
-use Rattle.sets.proofs.Laws.{has-single}
+use Rattle.sets.proofs.Laws.{single-is}
 use Rattle.demand.proofs.Invariant.{Plan, Sound}
 
 -- the plan of array a
@@ -55,7 +55,7 @@ module _ {file : List ℕ} {a : ℕ} (proper : Proper file a) where
         only-read = λ {v} e. r-segment file a proper v;
         alone = λ {v} {k} e n c j h.
             let m = kept-alone file a v refl (rw (not-N-or-R (useOf file a v) n c) tt) (rw e tt) in
-            sym (eqb-true (version file a v) j (sym (has-single (version file a v) j) ∙ ap (λ (m : ℕ). has m j) (sym m) ∙ h)) ∙ labels v k e;
+            sym (single-is (version file a v) j (ap (λ (m : ℕ). has m j) (sym m) ∙ h)) ∙ labels v k e;
         below = λ {v} {k} e. omega (arith, version-fits file a proper v, labels v k e);
         entry-remaps = entry-remaps;
         exit-remaps = exit-remaps;

@@ -14,6 +14,7 @@ use Rattle.routine.specs.declared.array.ArrayRecord.{ArrayRecord}
 use Rattle.report.specs.declared.record.Record.{Record}
 use Rattle.path.specs.Paths.{steps, vertexAt}
 use Rattle.state.specs.Stamps.{stampAfter}
+use Rattle.words.specs.Tables.{rows}
 use Rattle.report.specs.Records.{recordsAt, byStep}
 
 -- for each array a held version, a stamp and a count
@@ -42,7 +43,7 @@ machineAfter file path a (suc i) = machineStep (event file a (vertexAt path i)) 
 
 -- its records: a read or modify sees the stamp that stood before the step
 unfoldable pub machineRecords : List ℕ → List ℕ → List Record
-unfolding machineAfter event byStep
+unfolding machineAfter event rows
 machineRecords file path =
     byStep (λ i a. recordsAt (event file a (vertexAt path i)) (i + 1) a (machineAfter file path a i .held) (machineAfter file path a i .stamp))
     (arrays file) (steps path)

@@ -21,6 +21,7 @@ use Rattle.state.specs.Vertex.{labelled, visited}
 use Rattle.state.specs.declared.State.{State}
 use Rattle.report.specs.declared.record.Record.{Record}
 use Rattle.path.specs.Paths.{steps, vertexAt}
+use Rattle.words.specs.Tables.{rows}
 use Rattle.report.specs.Records.{recordsAt, byStep}
 use Rattle.words.specs.Sums.{total, countOf}
 
@@ -35,7 +36,7 @@ stateAfter file path a (suc i) =
 
 -- the report's records
 unfoldable pub runRecords : List ℕ → List ℕ → List Record
-unfolding stateAfter event byStep
+unfolding stateAfter event rows
 runRecords file path =
     byStep
     (λ i a.

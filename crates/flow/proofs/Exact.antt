@@ -10,26 +10,22 @@ use Prim.Native.Nat.{ℕ, zero, suc, _+_, _-_, _^_, _≤_, _<_, zero-le, min, ma
 use native.Mathlib.Nat.{le-refl, lt-of-le-of-lt, le-of-lt, le-of-suc-le-suc, eq-or-lt-of-le, pow-suc}
 use native.Mathlib.Decide.{le-ind}
 use native.Mathlib.Omega.{arith}
-use lib.Dec.{T, eqb, eqb→eq}
+use lib.Dec.{T, eqb}
 use lib.Bits.{bitOr, or-add-and, and-le-l, and-le-r, or-lt}
 use lib.Pow.{pow-pos, pow-lt}
 use lib.ListN.{length, getD, set, replicate, length-replicate, length-set, List·getD-map}
 use lib.Seq.{map-set-same, set-getD, ext-getD}
 use Rattle.sets.specs.Sets.{bit, has}
 use Rattle.sets.proofs.Laws.{bit-lt, bit-or, bit-and, has-zero, same}
+use Rattle.words.proofs.Tables.{at-set, zeros-at}
 use Rattle.flow.specs.Order.{Order}
 use Rattle.flow.specs.Paths.{last, next, edgeCount}
 use Rattle.flow.specs.Solver.{Leads, Holds, near, far, turn, handed, relaxed, swept, rounds, solution, Ends}
-use Rattle.flow.proofs.Tests.{member-or, member-and}
+use Rattle.flow.proofs.Members.{member-iff, member-or, member-and}
 use Rattle.flow.proofs.Paths.{extend}
-use Rattle.flow.proofs.Rounds.{natural-order, turn-lt, when, when-lt, turn-when, near-lt, at-set, swept-keeps, rounds-keeps}
+use Rattle.flow.proofs.Rounds.{natural-order, turn-lt, when, when-lt, turn-when, near-lt, swept-keeps, rounds-keeps}
 
 -- ---- masks
-
--- k is a member exactly if bit k is 1
-member-iff : (m k : ℕ) → T (has m k) ↔ (bit m k ≡ 1)
-unfolding has
-member-iff m k = (λ h. eqb→eq (bit m k) 1 h, λ e. subst (λ (b : ℕ). T (eqb b 1)) (sym e) tt)
 
 -- a union's bit is 1 more where only the second mask has it
 or-gap : (a b k : ℕ) → bit (bitOr a b) k ≡ bit a k + (bit b k - bit a k)
@@ -67,12 +63,6 @@ alike a b to from =
     (λ k _. together (has a k) (has b k) (to k) (from k))
 
 -- ---- lists of masks
-
--- a cleared list has 0 everywhere
-pub cleared : (n v : ℕ) → _≡_ {A = ℕ} (getD (replicate n 0) v 0) 0
-cleared zero v = refl
-cleared (suc n) zero = refl
-cleared (suc n) (suc v) = cleared n v
 
 -- the number of masks that hold k
 abbrev ones : ℕ → List ℕ → ℕ
@@ -154,7 +144,7 @@ module _ (es : List ℕ) (along : Bool) (gives passes : List ℕ) {order : List 
   after-fits w n r small =
       rounds-keeps ord along (relaxed es along gives passes) (λ s. (u : ℕ) → getD s u 0 < 2 ^ w)
       (λ s i _ h u. at-set (λ v x. x < 2 ^ w) s _ _ u (or-lt w _ _ (h _) (or-lt w _ _ (small _) (lt-of-le-of-lt (and-le-l _ _) (h (far es along i))))) (h u))
-      (replicate n 0) (λ u. simp cleared (pow-pos w)) r
+      (replicate n 0) (λ u. simp zeros-at (pow-pos w)) r
 
   -- ---- soundness: every member has a path
 
@@ -174,7 +164,7 @@ module _ (es : List ℕ) (along : Bool) (gives passes : List ℕ) {order : List 
   sound n =
       rounds-keeps ord along (relaxed es along gives passes) Sound
       (λ s i l ih v k. at-set (λ u m. T (has m k) → Holds es along gives passes u k) s _ _ v (λ h. ⊎-elim (ih _ k) (sound-handed s ih i k l) (member-or _ _ k Iff·rfl Iff·rfl .0 h)) (ih v k))
-      (replicate n 0) (λ v k. simp (cleared, has-zero) (λ h. absurd h))
+      (replicate n 0) (λ v k. simp (zeros-at, has-zero) (λ h. absurd h))
 
   -- ---- lanes: each is closed after as many rounds as vertices
 

@@ -1,5 +1,5 @@
 pub mod Exact
+pub mod Members
 pub mod Paths
 pub mod Rounds
 pub mod Rows
-pub mod Tests

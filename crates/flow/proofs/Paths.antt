@@ -6,9 +6,10 @@ use mathlib.Core.List.{List, [], _∷_}
 use mathlib.Core.Logic.{_↔_, _⊎_, inl, inr, ⊎-elim}
 use Prim.Native.Nat.{ℕ, _<_}
 use lib.Dec.{T}
+use lib.Ieee.Fits.{and-i}
 use Rattle.flow.specs.Paths.{Edge, Path, last, next, Joined, AllPass, ListPath}
 use Rattle.flow.specs.Solver.{Ends}
-use Rattle.flow.proofs.Tests.{either, both}
+use Rattle.words.proofs.Tests.{either}
 
 -- ---- a path and a list of vertices are the same
 
@@ -62,7 +63,7 @@ pub split-last : {es : List ℕ} {p : ℕ → Bool} {v w : ℕ} (q : ℕ → Boo
 split-last q (last e) = inl (last e)
 split-last {p} q (next {u} e h t) =
     ⊎-elim
-    (λ s. ⊎-elim (λ m. inr (record { vertex = u; passes = h; meets = m; arrives = last e; leaves = s })) (λ m. inl (next e (both (p u) (not (q u)) h m) s)) (either (q u)))
+    (λ s. ⊎-elim (λ m. inr (record { vertex = u; passes = h; meets = m; arrives = last e; leaves = s })) (λ m. inl (next e (and-i (p u) (not (q u)) h m) s)) (either (q u)))
     (λ s. inr (ahead e h s))
     (split-last q t)
 
@@ -73,7 +74,7 @@ split-first q (last e) = inl (last e)
 split-first {p} q (next {u} e h t) =
     ⊎-elim
     (λ m. inr (record { vertex = u; passes = h; meets = m; arrives = last e; leaves = t }))
-    (λ m. let k = both (p u) (not (q u)) h m in ⊎-elim (λ s. inl (next e k s)) (λ s. inr (ahead e k s)) (split-first q t))
+    (λ m. let k = and-i (p u) (not (q u)) h m in ⊎-elim (λ s. inl (next e k s)) (λ s. inr (ahead e k s)) (split-first q t))
     (either (q u))
 
 -- ---- both ends of a path are among the vertices

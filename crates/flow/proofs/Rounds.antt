@@ -2,16 +2,17 @@
 -- Assumes nothing.
 use mathlib.Core.Path.{_≡_, refl, sym, ap, subst, _∙_}
 use mathlib.Core.Bool.{Bool, true, false, cond}
-use mathlib.Core.List.{List, [], _∷_}
+use mathlib.Core.List.{List}
 use Prim.Native.Nat.{ℕ, zero, suc, _+_, _-_, _*_, _≤_, _<_}
 use native.Mathlib.Nat.{le-refl, le-of-lt}
 use native.Mathlib.Omega.{arith}
-use lib.ListN.{length, getD, set}
+use lib.ListN.{length, getD}
 use Rattle.flow.specs.Order.{Order, natural}
 use Rattle.flow.specs.Paths.{edgeCount}
 use Rattle.flow.specs.Solver.{near, far, turn, swept, rounds, Ends}
 use Rattle.words.specs.Words.{word}
 use Rattle.words.proofs.Tables.{table-length, table-at}
+use Rattle.words.proofs.Tests.{at-cond}
 
 -- ---- turns
 
@@ -66,8 +67,7 @@ far-word es false i = ap (word es) (let e : 4 * i + 0 ≡ 4 * i = omega arith in
 
 -- one of two numbers that are at most n
 pub pick-le : (b : Bool) {x y n r : ℕ} → r ≡ cond b x y → x ≤ n → y ≤ n → r ≤ n
-pick-le true e h k = omega arith
-pick-le false e h k = omega arith
+pick-le b {x} {y} {n} e h k = subst (λ (z : ℕ). z ≤ n) (sym e) (at-cond (λ z. z ≤ n) b (λ _. h) (λ _. k))
 
 -- ---- what each step keeps, rounds keep
 
@@ -96,13 +96,3 @@ module _ {c : ℕ} {order : List ℕ} (ord : Order c order) (along : Bool) (step
   unfolding rounds
   rounds-both s t h zero = h
   rounds-both s t h (suc r) = swept-both _ _ (rounds-both s t h r) (length order) (le-refl (length order))
-
--- ---- lists
-
--- what holds of the stored element at its index, and of each old one, holds after a store
-pub at-set : (Q : ℕ → ℕ → Type 0) (s : List ℕ) (i m v : ℕ) → Q i m → Q v (getD s v 0) → Q v (getD (set s i m) v 0)
-at-set Q [] i m v new old = old
-at-set Q (x ∷ s) zero m zero new old = new
-at-set Q (x ∷ s) zero m (suc v) new old = old
-at-set Q (x ∷ s) (suc i) m zero new old = old
-at-set Q (x ∷ s) (suc i) m (suc v) new old = at-set (λ u. Q (suc u)) s i m v new old

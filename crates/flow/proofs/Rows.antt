@@ -18,12 +18,12 @@ use Rattle.sets.specs.Sets.{bit, minus}
 use Rattle.sets.proofs.Laws.{bit-none, bit-minus, or-none}
 use Rattle.words.specs.Tables.{withRow}
 use Rattle.words.proofs.Rows.{row-length, row-other, row-at, row-still}
-use Rattle.words.proofs.Tables.{table-length, table-at}
+use Rattle.words.proofs.Tables.{table-length, table-at, zeros-at}
 use Rattle.flow.specs.Order.{Order}
 use Rattle.flow.specs.Paths.{edgeCount}
 use Rattle.flow.specs.Solver.{near, far, turn, handed, relaxed, swept, rounds, solution, column, handedRow, grown, relaxedRow, roundsRow, Ends, Tables, noted, inAll, Altered, Advanced, Solved}
 use Rattle.flow.proofs.Rounds.{turn-lt, near-lt, far-lt, swept-keeps, rounds-keeps, rounds-both}
-use Rattle.flow.proofs.Exact.{or-le, or-subset, cleared, after, ends-alike}
+use Rattle.flow.proofs.Exact.{or-le, or-subset, after, ends-alike}
 
 -- ---- a row that grows
 
@@ -91,7 +91,7 @@ module _ (n a : ℕ) (col : a < 8) where
   column-cleared =
       ext-getD 0 _ _ (table-length _ n ∙ sym (length-replicate n 0))
       (λ v l. table-at (λ u. getD (replicate (8 * n) 0) (8 * u + a) 0) n v (subst (λ (x : ℕ). v < x) (table-length (λ u. getD (replicate (8 * n) 0) (8 * u + a) 0) n) l)
-      ∙ cleared (8 * n) (8 * v + a) ∙ sym (cleared n v))
+      ∙ zeros-at (8 * n) (8 * v + a) ∙ sym (zeros-at n v))
 
 -- the columns of a table make it up
 columns-all : (n : ℕ) (s t : List ℕ) → length s ≡ 8 * n → length t ≡ 8 * n → ((a : ℕ) → a < 8 → column s n a ≡ column t n a) → s ≡ t
@@ -109,8 +109,8 @@ pub record Notes (note before after : List ℕ) : Type 0 where
   pub none : ((a : ℕ) → a < 8 → getD note a 0 ≡ 0) → after ≡ before
   pub some : after ≡ before → (a : ℕ) → a < 8 → getD note a 0 ≡ 0
 
-pub notes-none : (s : List ℕ) → Notes (replicate 8 0) s s
-notes-none s = record { none = λ h. refl; some = λ e a l. cleared 8 a }
+notes-none : (s : List ℕ) → Notes (replicate 8 0) s s
+notes-none s = record { none = λ h. refl; some = λ e a l. zeros-at 8 a }
 
 -- what a set lacks, and what it grows by
 lacks-none : (a b : ℕ) → minus b a ≡ 0 → bitOr a b ≡ a
@@ -152,7 +152,7 @@ none-all note zero h = refl
 none-all note (suc m) h = ap₂ bitOr (none-all note m (λ a l. h a (omega arith))) (h m (le-refl (suc m)))
 
 -- a note tells whether a set was altered
-pub tells : (note s t : List ℕ) (b : Bool) → Notes note s t → b ≡ not (eqb (inAll note 8) 0) → Altered b s t
+tells : (note s t : List ℕ) (b : Bool) → Notes note s t → b ≡ not (eqb (inAll note 8) 0) → Altered b s t
 tells note s t b h e = subst (λ (x : Bool). Altered x s t) (sym e) (by (inAll note 8) refl)
   where
     by : (x : ℕ) → inAll note 8 ≡ x → Altered (not (eqb x 0)) s t
@@ -165,12 +165,26 @@ module _ (es : List ℕ) (along : Bool) (gives passes : List ℕ) where
   abbrev step : List ℕ → ℕ → List ℕ
   step s i = relaxedRow es along gives passes s i
 
+  step-length : (s : List ℕ) (i : ℕ) → length (step s i) ≡ length s
+  step-length s i = grown-length s (near es along i) (handedRow gives passes s (far es along i)) 8
+
+  -- a round at work: the first j edges of the order have been taken, and the note says what that added
+  pub record Sweeping (order old : List ℕ) (j : ℕ) (sets note : List ℕ) : Type 0 where
+    pub is : sets ≡ swept step order along old j
+    pub within : j ≤ length order
+    pub eight : length note ≡ 8
+    pub notes : Notes note old sets
+
+  pub sweeping-none : (order s : List ℕ) → Sweeping order s 0 s (replicate 8 0)
+  unfolding swept
+  sweeping-none order s = record { is = refl; within = zero-le; eight = refl; notes = notes-none s }
+
   module _ {order : List ℕ} (ord : Order (edgeCount es) order) where
-    pub swept-length : (s : List ℕ) (j : ℕ) → j ≤ length order → length (swept step order along s j) ≡ length s
-    swept-length s = swept-keeps ord along step (λ t. length t ≡ length s) (λ t i l e. grown-length t (near es along i) (handedRow gives passes t (far es along i)) 8 ∙ e) s refl
+    swept-length : (s : List ℕ) (j : ℕ) → j ≤ length order → length (swept step order along s j) ≡ length s
+    swept-length s = swept-keeps ord along step (λ t. length t ≡ length s) (λ t i l e. step-length t i ∙ e) s refl
 
     pub rounds-length : (s : List ℕ) (r : ℕ) → length (rounds step order along s r) ≡ length s
-    rounds-length s = rounds-keeps ord along step (λ t. length t ≡ length s) (λ t i l e. grown-length t (near es along i) (handedRow gives passes t (far es along i)) 8 ∙ e) s refl
+    rounds-length s = rounds-keeps ord along step (λ t. length t ≡ length s) (λ t i l e. step-length t i ∙ e) s refl
 
     -- the row of an edge's near end
     near-fits : (s t : List ℕ) (i : ℕ) → Tables es gives passes s → length t ≡ length s → i < edgeCount es → 8 * near es along i + 8 ≤ length t
@@ -179,24 +193,38 @@ module _ (es : List ℕ) (along : Bool) (gives passes : List ℕ) where
     swept-below : (s : List ℕ) → Tables es gives passes s → (j : ℕ) → j ≤ length order → (length (swept step order along s j) ≡ length s) × Below s (swept step order along s j)
     swept-below s h =
         swept-keeps ord along step (λ t. (length t ≡ length s) × Below s t)
-        (λ t i l b. (grown-length t (near es along i) (handedRow gives passes t (far es along i)) 8 ∙ b .0, λ x. le-trans (b .1 x) (below-grown t (near es along i) (handedRow gives passes t (far es along i)) 8 (near-fits s t i h (b .0) l) x)))
+        (λ t i l b. (step-length t i ∙ b .0, λ x. le-trans (b .1 x) (below-grown t (near es along i) (handedRow gives passes t (far es along i)) 8 (near-fits s t i h (b .0) l) x)))
         s (refl, λ x. le-refl _)
 
-    -- one more edge: t is what the first j made, and u what edge i makes of it
-    pub swept-more : (s t u note new : List ℕ) (i j : ℕ) → Tables es gives passes s → j < length order → t ≡ swept step order along s j → Notes note s t
-        → i ≡ turn order along j → u ≡ step t i → new ≡ noted note t (near es along i) (handedRow gives passes t (far es along i))
-        → (u ≡ swept step order along s (j + 1)) × (length new ≡ 8) × Notes new s u
-    unfolding swept
-    swept-more s t u note new i j h l e notes f made now =
-        let b = swept-below s h j (le-of-lt l) in
-        let listed : i < edgeCount es = subst (λ (x : ℕ). x < edgeCount es) (sym f) (turn-lt ord along j l) in
-        let size : length t ≡ length s = ap length e ∙ b .0 in (
-          made ∙ ap₂ step e f ∙ ap (swept step order along s) (sym (add-one j)),
-          ap length now ∙ table-length (λ a. bitOr (getD note a 0) (minus (getD (handedRow gives passes t (far es along i)) a 0) (getD t (8 * near es along i + a) 0))) 8,
-          subst (λ (q : List ℕ). Notes new s q) (sym made)
-              (subst (λ (q : List ℕ). Notes q s (step t i)) (sym now)
-              (notes-more note s t (near es along i) (handedRow gives passes t (far es along i)) (near-fits s t i h size listed) size (subst (Below s) (sym e) (b .1)) notes)),
-        )
+    module _ {s t note : List ℕ} {j : ℕ} (w : Sweeping order s j t note) where
+      pub sweeping-length : length t ≡ length s
+      sweeping-length = ap length (w .is) ∙ swept-length s j (w .within)
+
+      -- one more edge
+      pub sweeping-more : {u new : List ℕ} → Tables es gives passes s → j < length order → u ≡ step t (turn order along j)
+          → new ≡ noted note t (near es along (turn order along j)) (handedRow gives passes t (far es along (turn order along j)))
+          → Sweeping order s (j + 1) u new
+      unfolding swept
+      sweeping-more {u} {new} h l made now =
+          let i = turn order along j in
+          let row = handedRow gives passes t (far es along i) in
+          let b = swept-below s h j (le-of-lt l) in
+          record {
+            is = made ∙ ap (λ (q : List ℕ). step q i) (w .is) ∙ ap (swept step order along s) (sym (add-one j));
+            within = omega arith;
+            eight = ap length now ∙ table-length (λ a. bitOr (getD note a 0) (minus (getD row a 0) (getD t (8 * near es along i + a) 0))) 8;
+            notes =
+                subst (λ (q : List ℕ). Notes new s q) (sym made)
+                (subst (λ (q : List ℕ). Notes q s (step t i)) (sym now)
+                (notes-more note s t (near es along i) row (near-fits s t i h sweeping-length (turn-lt ord along j l)) sweeping-length (subst (Below s) (sym (w .is)) (b .1)) (w .notes)));
+          }
+
+      -- the whole round, and whether it altered a set
+      pub sweeping-done : {b : Bool} → length order ≤ j → b ≡ not (eqb (inAll note 8) 0) → Advanced (swept step order along s (length order)) s b t
+      sweeping-done {b} h e = record {
+        sets = w .is ∙ ap (swept step order along s) (le-antisymm (w .within) h);
+        told = tells note s t b (w .notes) e;
+      }
 
 -- tables for sets are tables for as many others
 pub tables : (es gives passes s t : List ℕ) → Tables es gives passes s → length t ≡ length s → Tables es gives passes t
@@ -240,7 +268,7 @@ module _ (es order : List ℕ) (along : Bool) (gives passes : List ℕ) (n : ℕ
         rounds-both ord along (relaxedRow es along gives passes) (relaxed es along (column gives n a) (column passes n a))
         (λ s t. (length s ≡ 8 * n) × (column s n a ≡ t))
         (λ s t i listed h. (
-          grown-length s (near es along i) (handedRow gives passes s (far es along i)) 8 ∙ h .0,
+          step-length es along gives passes s i ∙ h .0,
           column-relaxed n a l es along gives passes s i ends listed (h .0) ∙ ap (λ (c : List ℕ). relaxed es along (column gives n a) (column passes n a) c i) (h .1),
         ))
         (replicate (8 * n) 0) (replicate n 0) (length-replicate (8 * n) 0, column-cleared n a l) r .1

@@ -7,6 +7,5 @@ pub mod Kept
 pub mod Proper
 pub mod Reaching
 pub mod Tables
-pub mod Tests
 pub mod Uses
 pub mod Versions

@@ -1,61 +1,29 @@
 -- Laws of orders: a swap leaves every edge a place, and a place is a turn.
 -- Assumes nothing.
-use mathlib.Core.Bool.{Bool, true, false}
-use mathlib.Core.Path.{_≡_, refl, sym, ap, subst, _∙_}
-use mathlib.Core.Logic.{_⊎_, inl, inr, ⊎-elim}
+use mathlib.Core.Path.{_≡_, sym, ap, subst, _∙_}
 use mathlib.Core.List.{List}
-use Prim.Native.Nat.{ℕ, _+_, _≤_, _<_}
+use Prim.Native.Nat.{ℕ, _≤_, _<_}
+use native.Mathlib.Decide.{ℕ-discrete}
 use native.Mathlib.Nat.{lt-of-lt-of-le}
 use native.Mathlib.Omega.{arith}
-use borrow.Author.Count.{below-more}
-use borrow.Author.Tests.{eqb-true, eqb-false}
-use lib.Dec.{eqb}
 use lib.ListN.{length, getD, set, length-set}
 use lib.Seq.{getD-set-same, getD-set-other}
-use Rattle.flow.specs.Order.{Order}
-use Rattle.order.specs.Places.{Identity, Placed}
+use Rattle.words.proofs.Tables.{table-length, table-at, at-set}
+use Rattle.flow.specs.Order.{Order, natural}
+use Rattle.flow.proofs.Rounds.{natural-order}
+use Rattle.order.specs.Places.{Placed}
 
--- two numbers are equal or not
-equal : (j k : ℕ) → (j ≡ k) ⊎ (j ≡ k → ⊥)
-equal j k = go (eqb j k) refl
-  where
-    go : (b : Bool) → eqb j k ≡ b → (j ≡ k) ⊎ (j ≡ k → ⊥)
-    go true e = inl (eqb-true j k e)
-    go false e = inr (eqb-false j k e)
+-- ---- the edges by their numbers
 
--- a store of a number below c among numbers below c
-set-within : (t : List ℕ) (k v c : ℕ) → k < length t → v < c → ((j : ℕ) → j < c → getD t j 0 < c) → (j : ℕ) → j < c → getD (set t k v) j 0 < c
-set-within t k v c room small all j h =
-    ⊎-elim
-    (λ e. subst (λ (x : ℕ). x < c) (sym (ap (λ (x : ℕ). getD (set t k v) x 0) e ∙ getD-set-same t k v 0 room)) small)
-    (λ n. subst (λ (x : ℕ). x < c) (sym (getD-set-other t k j v 0 n)) (all j h))
-    (equal j k)
-
--- ---- the identity
-
--- one more number at its own place
-pub identity-more : (t : List ℕ) (n : ℕ) → n < length t → ((j : ℕ) → j < n → getD t j 0 ≡ j) → (j : ℕ) → j < n + 1 → getD (set t n n) j 0 ≡ j
-identity-more t n room before =
-    below-more (λ (j : ℕ). getD (set t n n) j 0 ≡ j) n (λ j h. getD-set-other t n j n 0 (λ e. omega arith) ∙ before j h) (getD-set-same t n n 0 room)
-
-pub identity-order : (c : ℕ) (order : List ℕ) → Identity c order → Order c order
-identity-order c order e =
-    record {
-      all = e .all;
-      within = λ j h. subst (λ (x : ℕ). x < c) (sym (e .same j h)) h;
-      turn = λ i h. (i, h, e .same i h);
-    }
-
-pub identity-placed : (c : ℕ) (order place : List ℕ) → c ≤ 1024 → Identity c order → Identity 1024 place → Placed c order place
-identity-placed c order place most o p =
-    record {
-      all = o .all;
-      most = most;
-      room = p .all;
-      within = identity-order c order o .within;
-      known = λ i h. subst (λ (x : ℕ). x < c) (sym (p .same i (lt-of-lt-of-le h most))) h;
-      stands = λ i h. ap (λ (x : ℕ). getD order x 0) (p .same i (lt-of-lt-of-le h most)) ∙ o .same i h;
-    }
+pub natural-placed : (c m : ℕ) (order place : List ℕ) → c ≤ m → m ≡ 1024 → order ≡ natural c → place ≡ natural m → Placed c order place
+natural-placed c m order place most size e f = rw (e, f) (record {
+  all = table-length (λ i. i) c;
+  most = omega arith;
+  room = table-length (λ i. i) m ∙ size;
+  within = natural-order c .within;
+  known = λ i h. subst (λ (x : ℕ). x < c) (sym (table-at (λ i. i) m i (lt-of-lt-of-le h most))) h;
+  stands = λ i h. ap (λ (x : ℕ). getD (natural c) x 0) (table-at (λ i. i) m i (lt-of-lt-of-le h most)) ∙ table-at (λ i. i) c i h;
+})
 
 -- ---- places
 
@@ -80,8 +48,8 @@ module _ (c : ℕ) (order place : List ℕ) (p : Placed c order place) (slot i :
         all = simp length-set (p .all);
         most = p .most;
         room = simp length-set (p .room);
-        within = set-within (set order at other) slot i c slot-room e (set-within order at other c at-room (p .within slot s) (p .within));
-        known = set-within (set place other at) i slot c i-room s (set-within place other at c other-room (p .known i e) (p .known));
+        within = λ j h. at-set (λ _ x. x < c) (set order at other) slot i j e (at-set (λ _ x. x < c) order at other j (p .within slot s) (p .within j h));
+        known = λ j h. at-set (λ _ x. x < c) (set place other at) i slot j s (at-set (λ _ x. x < c) place other at j (p .known i e) (p .known j h));
         stands = stand;
       }
     where
@@ -122,14 +90,14 @@ module _ (c : ℕ) (order place : List ℕ) (p : Placed c order place) (slot i :
 
       rest : (k : ℕ) → k < c → (k ≡ i → ⊥) → getD order′ (getD (set place other at) k 0) 0 ≡ k
       rest k h n =
-          ⊎-elim
-          (λ q. subst (λ (x : ℕ). getD order′ (getD (set place other at) x 0) 0 ≡ x) (sym q) (second (λ r. n (q ∙ r))))
-          (λ m. ap (λ (x : ℕ). getD order′ x 0) (getD-set-other place other k at 0 m) ∙ third k h n m)
-          (equal k other)
+          elim (ℕ-discrete k other) [
+            | yes q ↦ subst (λ (x : ℕ). getD order′ (getD (set place other at) x 0) 0 ≡ x) (sym q) (second (λ r. n (q ∙ r)))
+            | no m ↦ ap (λ (x : ℕ). getD order′ x 0) (getD-set-other place other k at 0 m) ∙ third k h n m
+          ]
 
       stand : (k : ℕ) → k < c → getD order′ (getD (set (set place other at) i slot) k 0) 0 ≡ k
       stand k h =
-          ⊎-elim
-          (λ q. subst (λ (x : ℕ). getD order′ (getD (set (set place other at) i slot) x 0) 0 ≡ x) (sym q) first)
-          (λ n. ap (λ (x : ℕ). getD order′ x 0) (getD-set-other (set place other at) i k slot 0 n) ∙ rest k h n)
-          (equal k i)
+          elim (ℕ-discrete k i) [
+            | yes q ↦ subst (λ (x : ℕ). getD order′ (getD (set (set place other at) i slot) x 0) 0 ≡ x) (sym q) first
+            | no n ↦ ap (λ (x : ℕ). getD order′ x 0) (getD-set-other (set place other at) i k slot 0 n) ∙ rest k h n
+          ]

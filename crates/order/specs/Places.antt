@@ -1,14 +1,9 @@
--- The numbers at their own places, and the places of the edges in an order.
+-- The places of the edges in an order.
 -- Assumes nothing.
 use mathlib.Core.Path.{_≡_}
 use mathlib.Core.List.{List}
 use Prim.Native.Nat.{ℕ, _≤_, _<_}
 use lib.ListN.{length, getD}
-
--- each number stands at its own place
-pub record Identity (n : ℕ) (t : List ℕ) : Type 0 where
-  pub all : length t ≡ n
-  pub same : (j : ℕ) → j < n → getD t j 0 ≡ j
 
 -- `place` says where each edge stands in the order
 pub record Placed (c : ℕ) (order place : List ℕ) : Type 0 where

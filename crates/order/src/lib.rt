@@ -7,14 +7,13 @@ mod search;
 ghost use mathlib.Core.Path.{_≡_};
 ghost use Prim.Native.Nat.{_≤_, _<_};
 ghost use lib.ListN.{length};
-ghost use Rattle.flow.specs.Order.{Order};
+ghost use Rattle.flow.specs.Order.{Order, natural};
 ghost use Rattle.flow.specs.Paths.{edgeCount};
-ghost use Rattle.order.specs.Places.{Identity};
 
 // Puts each number at its own place.
 fn identity(t: &mut [u16])
     requires { ⌜ length (now t) ≤ 1024 ⌝ }
-    ensures { λ r. ⌜ Identity (length (now (t .entry))) (now (t .exit)) ⌝ }
+    ensures { λ r. ⌜ now (t .exit) ≡ natural (length (now (t .entry))) ⌝ }
 {
     for j in 0..t.len() {
         t[j] = j as u16;
@@ -31,7 +30,7 @@ fn index(v: u8) -> usize
 // Puts the edges into the order that searches find.
 fn by_search(edges: &[u8], order: &mut [u16])
     requires { ⌜ edgeCount (now edges) ≤ 1024 ⌝ }
-    requires { ⌜ Identity (edgeCount (now edges)) (now order) ⌝ }
+    requires { ⌜ now order ≡ natural (edgeCount (now edges)) ⌝ }
     ensures { λ r. ⌜ Order (edgeCount (now (edges .entry))) (now (order .exit)) ⌝ }
 {
     let mut place = [0u16; 1024];

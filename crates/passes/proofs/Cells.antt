@@ -1,33 +1,36 @@
--- Laws of tables of eight columns: the cell of vertex v and array a stands at 8 v + a.
+-- Laws of tables of eight columns, the cell of vertex v and array a at 8 v + a; and the part of a file that holds its edges.
 -- Assumes nothing.
 use mathlib.Core.Path.{_≡_, sym, ap, ap₂, subst, _∙_}
 use mathlib.Core.Bool.{Bool, cond}
 use mathlib.Core.List.{List}
-use Prim.Native.Nat.{ℕ, _+_, _*_, _/_, _%_, _<_}
+use Prim.Native.Nat.{ℕ, _+_, _*_, _/_, _%_, _≤_, _<_}
 use native.Mathlib.Decide.{ℕ-discrete}
 use native.Mathlib.Omega.{arith}
-use borrow.Author.Tests.{lt-ltb}
+use borrow.Author.Tests.{lt-ltb, ltb-true}
 use lib.Dec.{ltb}
-use lib.ListN.{length, getD}
-use Rattle.flow.specs.Solver.{column, solution}
-use Rattle.routine.specs.Layout.{arrays, vertices}
+use lib.ListN.{length, getD, drop}
+use Rattle.flow.specs.Solver.{solution}
+use Rattle.routine.specs.Layout.{arrays, vertices, edgesAt}
 use Rattle.routine.specs.Reader.{WellFormed}
 use Rattle.routine.specs.declared.action.Action.the-variants.{Nothing}
 use Rattle.routine.specs.declared.header.Header.{Header}
 use Rattle.words.specs.Tables.{table, withRow}
-use Rattle.words.proofs.Fills.{table-ext}
+use Rattle.words.proofs.Tests.{at-cond}
+use Rattle.words.proofs.Written.{partFrom, part-is}
 use Rattle.words.proofs.Rows.{row-length, row-other, row-at}
-use Rattle.words.proofs.Tables.{table-length, table-at}
-use Rattle.labels.specs.Events.{edgeBytes, event}
+use Rattle.words.proofs.Tables.{table-length, table-at, table-ext}
+use Rattle.labels.specs.Events.{edgeBytes, event, version, versionOf}
 use Rattle.labels.specs.Routines.{ReadAs}
+use Rattle.labels.proofs.Rules.Events.{version-fits}
+use Rattle.labels.proofs.Rules.Proper.{proper}
 use Rattle.passes.specs.Tables.{Cells, cellEvent, Pass}
 
 -- ---- places
 
-pub row-of : (v a : ℕ) → a < 8 → (8 * v + a) / 8 ≡ v
+row-of : (v a : ℕ) → a < 8 → (8 * v + a) / 8 ≡ v
 row-of v a h = omega arith
 
-pub column-of : (v a : ℕ) → a < 8 → (8 * v + a) % 8 ≡ a
+column-of : (v a : ℕ) → a < 8 → (8 * v + a) % 8 ≡ a
 column-of v a h = omega arith
 
 module _ {file : List ℕ} (well : WellFormed file) where
@@ -44,6 +47,13 @@ module _ {file : List ℕ} (well : WellFormed file) where
   cell-event {a} v h =
       ap₂ (λ (x y : ℕ). cond (ltb x (arrays file)) (event file x y) Nothing) (column-of v a (in-eight h)) (row-of v a (in-eight h))
       ∙ ap (λ (b : Bool). cond b (event file a v) Nothing) (lt-ltb a (arrays file) h)
+
+  -- its version is below 16
+  pub cell-below : (i : ℕ) → versionOf (cellEvent file i) < 16
+  unfolding cellEvent version
+  cell-below i =
+      at-cond (λ x. versionOf x < 16) (ltb (i % 8) (arrays file))
+      (λ e. version-fits file (i % 8) (proper file well (i % 8) (ltb-true (i % 8) (arrays file) e)) (i / 8)) (λ _. omega arith)
 
   -- a table that was filled cell by cell
   pub cells-table : (F : ℕ → ℕ) {f : ℕ → ℕ → ℕ} {s : List ℕ} {n : ℕ} → n ≡ 8 * vertices file → s ≡ table F n
@@ -90,3 +100,15 @@ module _ {file : List ℕ} {h : Header} (is : ReadAs file h) {a v : ℕ} (in-a :
   -- the cell is in a table of all vertices
   pub in-table : (s : List ℕ) → length s ≡ 8 * vertices file → 8 * v + a < length s
   in-table s e = omega (arith, e, in-cells (is .well) in-a in-v)
+
+-- ---- what is lent of a file from the edges on is the bytes of its edges
+
+module _ {file : List ℕ} {h : Header} (is : ReadAs file h) {at : ℕ} (e : at ≡ 18 + 4 * h .arrays + h .vertices * h .arrays) where
+  at-edges : at ≡ edgesAt file
+  at-edges = e ∙ ap₂ (λ (m n : ℕ). 18 + 4 * m + n * m) (is .heads .arrays-are) (is .heads .vertices-are)
+
+  pub edges-inside : at ≤ length file
+  edges-inside = omega (arith, at-edges, is .well .laid .ends)
+
+  pub edges-part : partFrom file at ≡ edgeBytes file
+  edges-part = part-is file at ∙ ap (λ (n : ℕ). drop n file) at-edges

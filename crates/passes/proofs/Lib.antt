@@ -1,4 +1,2 @@
-pub mod Bounds
 pub mod Cells
-pub mod Edges
 pub mod Steps

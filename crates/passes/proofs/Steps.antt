@@ -1,7 +1,7 @@
 -- What the tables of each pass say, cell by cell.
 -- Assumes nothing.
 use mathlib.Core.Path.{_≡_, refl, sym, ap, ap₂, subst, _∙_}
-use mathlib.Core.Bool.{Bool, true, false, not, _&&_, _||_, cond}
+use mathlib.Core.Bool.{Bool, true, false, not, _&&_, _||_, cond, and-comm, or-false}
 use mathlib.Core.List.{List}
 use Prim.Native.Nat.{ℕ, zero, suc, _+_, _*_, _<_, _^_}
 use native.Mathlib.Omega.{arith}
@@ -10,16 +10,13 @@ use lib.Bits.{bitOr}
 use lib.Dec.{eqb, ltb, eqb·suc-zero}
 use lib.ListN.{length, getD}
 use lib.Pow.{pow-pos}
-use Rattle.routine.specs.Actions.{isReference}
 use Rattle.routine.specs.Layout.{arrays, vertices, entry, exit}
 use Rattle.routine.specs.Reader.{WellFormed}
-use Rattle.routine.specs.declared.action.Access.the-variants.{Read, Define, Modify}
 use Rattle.routine.specs.declared.action.Action.{Action}
-use Rattle.routine.specs.declared.action.Action.the-variants.{Nothing, Reference, Remap, Unknown}
 use Rattle.sets.specs.Sets.{has}
 use Rattle.words.specs.Tables.{table, withRow}
 use Rattle.labels.specs.Ambiguity.{arriveGives, arrivePasses, arrivingSets}
-use Rattle.labels.specs.Events.{everyVersion, event, isLabel, versionOf, version, isWrite}
+use Rattle.labels.specs.Events.{everyVersion, event, isLabel, versionOf, version}
 use Rattle.routine.specs.Arrays.{kind, initial, isInOrInout}
 use Rattle.labels.specs.Kept.{isNOrR, passesKept, leavingSet, keptSets, keptOf}
 use Rattle.labels.specs.Letters.{letterByte, useOfByte}
@@ -27,37 +24,15 @@ use Rattle.labels.specs.Reaching.{reachedSets, isReached, reachGives, reachPass
 use Rattle.passes.specs.Tables.{Cells, reachedCell, Versions, UseGives, Reached, Letters, Pass}
 use Rattle.labels.specs.Uses.{useGives, usePasses, passesBy, useSets, letterOf, exitUse, useOf, isN, isKept}
 use Rattle.labels.specs.declared.Use.{Use}
-use Rattle.labels.proofs.Rules.Versions.{all-but}
+use Rattle.labels.proofs.Rules.Events.{by-event}
+use Rattle.words.proofs.Tests.{cond-not}
 use Rattle.passes.proofs.Cells.{in-eight, cells-table, cells-row, cells-solved}
 use Rattle.labels.proofs.Letters.{letter-use}
 
 -- ---- use
 
-pub use-reference : (x : Action) → has (useGives x) 0 ≡ isReference x
-unfolding has
-use-reference Nothing = refl
-use-reference (Reference Read) = refl
-use-reference (Reference Define) = refl
-use-reference (Reference Modify) = refl
-use-reference (Remap k) = refl
-use-reference Unknown = refl
-
-pub use-write : (x : Action) → has (useGives x) 3 ≡ isWrite x
-unfolding has
-use-write Nothing = refl
-use-write (Reference Read) = refl
-use-write (Reference Define) = refl
-use-write (Reference Modify) = refl
-use-write (Remap k) = refl
-use-write Unknown = refl
-
 pub use-passes : (x : Action) → passesBy (useGives x) ≡ usePasses x
-use-passes Nothing = refl
-use-passes (Reference Read) = refl
-use-passes (Reference Define) = refl
-use-passes (Reference Modify) = refl
-use-passes (Remap k) = refl
-use-passes Unknown = refl
+use-passes = by-event (λ x. passesBy (useGives x) ≡ usePasses x) refl refl refl refl (λ k. refl) refl
 
 -- ---- cells and tests
 
@@ -71,20 +46,10 @@ cond-and : (b c : Bool) (x : ℕ) → cond b (cond c x 0) 0 ≡ cond (b && c) x 
 cond-and true c x = refl
 cond-and false c x = refl
 
-cond-swap : (b c : Bool) (x : ℕ) → cond b (cond c x 0) 0 ≡ cond (c && b) x 0
-cond-swap true true x = refl
-cond-swap true false x = refl
-cond-swap false true x = refl
-cond-swap false false x = refl
-
 -- a set of one version is not empty
-single-none : (b : Bool) (k : ℕ) → eqb (cond b (2 ^ k) 0) 0 ≡ not b
+pub single-none : (b : Bool) (k : ℕ) → eqb (cond b (2 ^ k) 0) 0 ≡ not b
 single-none true k = ne-eqb (2 ^ k) 0 (λ e. omega (arith, pow-pos k))
 single-none false k = refl
-
-or-none : (b : Bool) → (b || false) ≡ b
-or-none true = refl
-or-none false = refl
 
 module _ {file : List ℕ} (well : WellFormed file) where
   -- ---- reached vertices
@@ -123,7 +88,7 @@ module _ {file : List ℕ} (well : WellFormed file) where
         cells-table well (λ i. cond (eqb (getD versions i 0) 0) everyVersion 0) (vs .size) e
         (λ a v in-a in-v.
         ap (λ (x : ℕ). cond (eqb x 0) everyVersion 0) (vs .cells a v in-a in-v)
-        ∙ ap (λ (b : Bool). cond b everyVersion 0) (single-none (isLabel file a v) (versionOf (event file a v))) ∙ sym (all-but (isLabel file a v)))
+        ∙ ap (λ (b : Bool). cond b everyVersion 0) (single-none (isLabel file a v) (versionOf (event file a v))) ∙ sym (cond-not (isLabel file a v) 0 everyVersion))
 
   pub arriving-sets : {gives passes sets : List ℕ} → Cells file (arriveGives file) gives → Cells file (arrivePasses file) passes
       → Pass file false gives passes sets → Cells file (λ a v. getD (arrivingSets file a) v 0) sets
@@ -174,12 +139,13 @@ module _ {file : List ℕ} (well : WellFormed file) where
     unfolding isKept version
     leaving-at a v in-a in-v =
         ap₂ (λ (u : Use) (x : ℕ). cond (not (isN u)) x 0) (use-at a v in-a in-v) (vs .cells a v in-a in-v)
-        ∙ cond-swap (not (isN (useOf file a v))) (isLabel file a v) (2 ^ versionOf (event file a v))
+        ∙ cond-and (not (isN (useOf file a v))) (isLabel file a v) (2 ^ versionOf (event file a v))
+        ∙ ap (λ (b : Bool). cond b (2 ^ versionOf (event file a v)) 0) (and-comm (not (isN (useOf file a v))) (isLabel file a v))
 
     leaving-none : (a v : ℕ) → a < arrays file → v < vertices file → cond (eqb (leaving (8 * v + a)) 0) everyVersion 0 ≡ cond (isKept file a v) 0 everyVersion
     leaving-none a v in-a in-v =
         ap (λ (x : ℕ). cond (eqb x 0) everyVersion 0) (leaving-at a v in-a in-v)
-        ∙ ap (λ (b : Bool). cond b everyVersion 0) (single-none (isKept file a v) (version file a v)) ∙ sym (all-but (isKept file a v))
+        ∙ ap (λ (b : Bool). cond b everyVersion 0) (single-none (isKept file a v) (version file a v)) ∙ sym (cond-not (isKept file a v) 0 everyVersion)
 
     -- ---- reaching sets
 
@@ -188,7 +154,7 @@ module _ {file : List ℕ} (well : WellFormed file) where
     unfolding reachGives
     reach-elsewhere a v h =
         ap (λ (b : Bool). cond (isReached file v && b) (2 ^ version file a v) 0)
-        (sym (or-none (isKept file a v)) ∙ ap (λ (b : Bool). isKept file a v || (b && isInOrInout (kind file a))) (sym (ne-eqb v entry h)))
+        (sym (or-false (isKept file a v)) ∙ ap (λ (b : Bool). isKept file a v || (b && isInOrInout (kind file a))) (sym (ne-eqb v entry h)))
 
     reach-entry : (a : ℕ) → a < arrays file
         → cond (not (isN (useOfByte (getD letters a 0))) || isInOrInout (kind file a)) (2 ^ initial file a) 0 ≡ reachGives file a entry

@@ -9,7 +9,7 @@ use native.Mathlib.Omega.{arith}
 use borrow.Author.Tests.{ltb-true, ltb-false, eqb-true, eqb-false, eq-eqb, ne-eqb}
 use lib.Bits.{bitOr}
 use lib.Dec.{ltb, eqb}
-use lib.ListN.{length, getD, set, replicate, length-set, length-replicate, getD-replicate}
+use lib.ListN.{length, getD, set, replicate, length-set, length-replicate}
 use lib.Seq.{getD-set-same, getD-set-other}
 use Rattle.routine.specs.Edges.{edgeOf}
 use Rattle.routine.specs.Layout.{edges}
@@ -17,10 +17,13 @@ use Rattle.routine.specs.Reader.{WellFormed}
 use Rattle.routine.specs.declared.edge.Edge.{Edge}
 use Rattle.routine.proofs.WellFormed.{edge-limits}
 use Rattle.sets.specs.Sets.{has}
-use Rattle.sets.proofs.Laws.{has-or, has-single, has-zero}
+use Rattle.sets.proofs.Laws.{has-with, has-zero}
 use Rattle.path.specs.EdgeTable.{wordAt, withEdge, edgeTable, hasEdge, arrivalBy}
-use Rattle.words.proofs.Cases.{by-test}
-use Rattle.path.specs.Paths.{vertexAt, edgeAmong, isEdge, arrivalCheck}
+use Rattle.words.specs.Sums.{anyBelow}
+use Rattle.words.proofs.Sums.{none-below}
+use Rattle.words.proofs.Tables.{zeros-at}
+use Rattle.words.proofs.Tests.{by-test}
+use Rattle.path.specs.Paths.{vertexAt, leads, isEdge, arrivalCheck}
 
 pub with-edge-length : (table : List ℕ) (e : Edge) → length (withEdge table e) ≡ length table
 unfolding withEdge
@@ -79,8 +82,8 @@ module _ (e : Edge) (v w : ℕ) (from-small : e .from < 256) (to-small : e .to <
       let same = eqb-true at (wordAt v w) g in
       ap (λ (k : ℕ). has (getD (set table at new) k 0) (w % 16)) (sym same)
       ∙ ap (λ (x : ℕ). has x (w % 16)) (getD-set-same table at new 0 (omega arith))
-      ∙ has-or (getD table at 0) (2 ^ (e .to % 16)) (w % 16)
-      ∙ ap₂ _||_ (ap (λ (k : ℕ). has (getD table k 0) (w % 16)) same) (has-single (e .to % 16) (w % 16) ∙ same-word same))
+      ∙ has-with (getD table at 0) (e .to % 16) (w % 16)
+      ∙ ap₂ _||_ (ap (λ (k : ℕ). has (getD table k 0) (w % 16)) same) (same-word same))
       (λ g.
       let other = eqb-false at (wordAt v w) g in
       ap (λ (x : ℕ). has x (w % 16)) (getD-set-other table at (wordAt v w) new 0 (λ h. other (sym h)))
@@ -95,25 +98,20 @@ module _ {file : List ℕ} (well : WellFormed file) where
       let few = well .laid .limits .few-vertices in
       (omega (arith, e .from-below), omega (arith, e .to-below))
 
-  inside : (v w : ℕ) → v < 256 → w < 256 → (n : ℕ) → n ≤ edges file → has (getD (edgeTable file n) (wordAt v w) 0) (w % 16) ≡ edgeAmong file v w n
-  unfolding edgeTable edgeAmong
-  inside v w hv hw zero h = ap (λ (x : ℕ). has x (w % 16)) (getD-replicate 4096 (wordAt v w) 0 0 (omega arith)) ∙ has-zero (w % 16)
+  inside : (v w : ℕ) → v < 256 → w < 256 → (n : ℕ) → n ≤ edges file → has (getD (edgeTable file n) (wordAt v w) 0) (w % 16) ≡ anyBelow (leads file v w) n
+  unfolding edgeTable anyBelow
+  inside v w hv hw zero h = ap (λ (x : ℕ). has x (w % 16)) (zeros-at 4096 (wordAt v w)) ∙ has-zero (w % 16)
   inside v w hv hw (suc n) h =
       let small = edge-small n (omega arith) in
       one-more-edge (edgeOf file n) v w (small .0) (small .1) hv hw (edgeTable file n) (edge-table-length file n)
-      ∙ ap (λ (b : Bool). b || (eqb (edgeOf file n .from) v && eqb (edgeOf file n .to) w)) (inside v w hv hw n (omega arith))
+      ∙ ap (λ (b : Bool). b || leads file v w n) (inside v w hv hw n (omega arith))
 
-  outside-from : (v w : ℕ) → 256 ≤ v → (n : ℕ) → n ≤ edges file → edgeAmong file v w n ≡ false
-  unfolding edgeAmong
-  outside-from v w hv zero h = refl
-  outside-from v w hv (suc n) h =
-      rw (outside-from v w hv n (omega arith), ne-eqb (edgeOf file n .from) v (λ e. omega (arith, edge-small n (omega arith))))
+  -- a vertex from 256 on has no edge
+  outside-from : (v w : ℕ) → 256 ≤ v → anyBelow (leads file v w) (edges file) ≡ false
+  outside-from v w hv = none-below (leads file v w) (edges file) (λ n h. rw (ne-eqb (edgeOf file n .from) v (λ e. omega (arith, edge-small n h))))
 
-  outside-to : (v w : ℕ) → 256 ≤ w → (n : ℕ) → n ≤ edges file → edgeAmong file v w n ≡ false
-  unfolding edgeAmong
-  outside-to v w hw zero h = refl
-  outside-to v w hw (suc n) h =
-      rw (outside-to v w hw n (omega arith), ne-eqb (edgeOf file n .to) w (λ e. omega (arith, edge-small n (omega arith))), and-false)
+  outside-to : (v w : ℕ) → 256 ≤ w → anyBelow (leads file v w) (edges file) ≡ false
+  outside-to v w hw = none-below (leads file v w) (edges file) (λ n h. rw (ne-eqb (edgeOf file n .to) w (λ e. omega (arith, edge-small n h)), and-false))
 
   edges-are : (v w : ℕ) → hasEdge (edgeTable file (edges file)) v w ≡ isEdge file v w
   unfolding isEdge
@@ -121,8 +119,8 @@ module _ {file : List ℕ} (well : WellFormed file) where
       by-test (ltb v 256)
       (λ e. by-test (ltb w 256)
       (λ f. rw (e, f) (inside v w (ltb-true v 256 e) (ltb-true w 256 f) (edges file) (omega arith)))
-      (λ f. rw (e, f) (sym (outside-to v w (ltb-false w 256 f) (edges file) (omega arith)))))
-      (λ e. rw e (sym (outside-from v w (ltb-false v 256 e) (edges file) (omega arith))))
+      (λ f. rw (e, f) (sym (outside-to v w (ltb-false w 256 f)))))
+      (λ e. rw e (sym (outside-from v w (ltb-false v 256 e))))
 
   pub arrivals-are : (path : List ℕ) (i : ℕ) → arrivalBy (edgeTable file (edges file)) path i ≡ arrivalCheck file path i
   unfolding arrivalBy arrivalCheck

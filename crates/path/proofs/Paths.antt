@@ -1,7 +1,7 @@
 -- An accepted path: 1 to 4,096 vertices of the routine from the entry on, each joined to the next by an edge.
 -- Assumes nothing.
-use mathlib.Core.Path.{_≡_, ap₂, _∙_}
-use mathlib.Core.Bool.{true, false, _&&_, false≢true}
+use mathlib.Core.Path.{_≡_, sym, ap₂, _∙_}
+use mathlib.Core.Bool.{true, false≢true, and-eq-true-iff}
 use mathlib.Core.List.{List}
 use Prim.Native.Nat.{ℕ, zero, suc, _+_, _-_, _≤_, _<_}
 use native.Mathlib.Omega.{arith}
@@ -11,23 +11,25 @@ use Rattle.flow.specs.Paths.{Edge}
 use Rattle.labels.specs.Events.{edgeBytes}
 use Rattle.labels.proofs.Rules.Proper.{edge-count, edge-from, edge-to}
 use Rattle.routine.specs.Edges.{edgeOf}
-use Rattle.routine.specs.Layout.{vertices, edges, within, entry}
+use Rattle.routine.specs.Layout.{vertices, edges, entry}
 use Rattle.routine.specs.Reader.{WellFormed}
+use Rattle.refusal.specs.Checks.{firstFailed}
 use Rattle.refusal.specs.declared.Verdict.the-variants.{Passed}
-use Rattle.routine.proofs.Laws.{holds-true, allowed, and-parts, within-limits, scan-passed}
 use Rattle.routine.proofs.WellFormed.{edge-limits}
-use Rattle.words.proofs.Cases.{or-cases}
-use Rattle.path.specs.Paths.{steps, vertexAt, edgeAmong, isEdge, arrivalCheck, check32, pathCheck}
+use Rattle.refusal.proofs.Checks.{holds-true, parts, shift, each-passed}
+use Rattle.words.specs.Sums.{anyBelow}
+use Rattle.words.proofs.Tests.{or-cases}
+use Rattle.path.specs.Paths.{steps, vertexAt, leads, isEdge, arrivalCheck, check32, pathCheck}
 
 module _ {file : List ℕ} (w : WellFormed file) where
-  edge-there : (u v n : ℕ) → n ≤ edges file → edgeAmong file u v n ≡ true → Edge (edgeBytes file) u v
-  unfolding edgeAmong
+  edge-there : (u v n : ℕ) → n ≤ edges file → anyBelow (leads file u v) n ≡ true → Edge (edgeBytes file) u v
+  unfolding anyBelow
   edge-there u v zero h e = absurd (false≢true e)
   edge-there u v (suc n) h e =
-      or-cases (edgeAmong file u v n) (eqb (edgeOf file n .from) u && eqb (edgeOf file n .to) v)
+      or-cases (anyBelow (leads file u v) n) (leads file u v n)
       (edge-there u v n (omega arith))
       (λ g.
-      let q = and-parts (eqb (edgeOf file n .from) u) _ g in
+      let q = and-eq-true-iff (eqb (edgeOf file n .from) u) _ .0 g in
       record {
         place = n;
         listed = omega (arith, edge-count file (w .laid));
@@ -43,25 +45,28 @@ pub record Walk (file path : List ℕ) : Type 0 where
   pub begins : vertexAt path 0 ≡ entry
   pub joined : (i : ℕ) → suc i < steps path → Edge (edgeBytes file) (vertexAt path i) (vertexAt path (suc i))
 
-arrives : (file path : List ℕ) (i : ℕ) → arrivalCheck file path (1 + i) ≡ Passed → isEdge file (vertexAt path i) (vertexAt path (suc i)) ≡ true
+-- 32 as a scan from the first arrival on
+pub arrivals : (file path : List ℕ) → firstFailed (λ i. arrivalCheck file path (i + 1)) 0 (steps path - 1) ≡ check32 file path
+unfolding check32
+arrivals file path = sym (shift (arrivalCheck file path) 0 (steps path - 1))
+
+arrives : (file path : List ℕ) (i : ℕ) → arrivalCheck file path (i + 1) ≡ Passed → isEdge file (vertexAt path i) (vertexAt path (suc i)) ≡ true
 unfolding arrivalCheck
 arrives file path i e =
-    let here : i ≡ 1 + i - 1 = omega arith in
-    let there : suc i ≡ 1 + i = omega arith in
+    let here : i ≡ i + 1 - 1 = omega arith in
+    let there : suc i ≡ i + 1 = omega arith in
     ap₂ (λ (j k : ℕ). isEdge file (vertexAt path j) (vertexAt path k)) here there ∙ holds-true _ _ e
 
 pub walk : {file path : List ℕ} → WellFormed file → pathCheck file path ≡ Passed → Walk file path
-unfolding pathCheck check32 isEdge
+unfolding pathCheck isEdge
 walk {file} {path} w e =
-    let p = allowed (within 1 4096 (steps path)) _ _ e in
-    let n = within-limits 1 4096 (steps path) (p .0) in
-    let q = allowed (eqb (vertexAt path 0) entry) _ _ (p .1) in
     record {
-      some = n .0;
-      short = n .1;
-      begins = eqb-true (vertexAt path 0) entry (q .0);
+      some = search parts;
+      short = search parts;
+      begins = search parts;
       joined = λ i h.
-          let passed = scan-passed (arrivalCheck file path) 1 (steps path - 1) (q .1) i (omega arith) in
+          let all : check32 file path ≡ Passed = search parts in
+          let passed = each-passed (λ i. arrivalCheck file path (i + 1)) (steps path - 1) (arrivals file path ∙ all) i (omega arith) in
           edge-there w (vertexAt path i) (vertexAt path (suc i)) (edges file) (omega arith) (arrives file path i passed);
     }
 

@@ -1,8 +1,8 @@
 -- Document 01, "Who can cause a refusal", the path's writer: a path is 16-bit vertices; an odd last byte is ignored.
 -- Assumes nothing.
-use mathlib.Core.Bool.{Bool, false, _&&_, _||_}
+use mathlib.Core.Bool.{Bool, _&&_}
 use mathlib.Core.List.{List}
-use Prim.Native.Nat.{ℕ, zero, suc, _-_, _*_, _/_}
+use Prim.Native.Nat.{ℕ, _-_, _*_, _/_}
 use lib.Dec.{eqb}
 use lib.ListN.{length}
 use Rattle.refusal.specs.Checks.{_andThen_, holds, firstFailed}
@@ -10,6 +10,7 @@ use Rattle.routine.specs.Edges.{edgeOf}
 use Rattle.routine.specs.Layout.{edges, within, entry}
 use Rattle.refusal.specs.declared.Refusal.the-variants.{PathLengthOutsideLimits, WrongStart, NoSuchEdge}
 use Rattle.refusal.specs.declared.Verdict.{Verdict}
+use Rattle.words.specs.Sums.{anyBelow}
 use Rattle.words.specs.Words.{word}
 
 -- how many vertices the path has, and the vertex at an index
@@ -19,15 +20,14 @@ steps path = length path / 2
 abbrev pub vertexAt : List ℕ → ℕ → ℕ
 vertexAt path i = word path (2 * i)
 
--- an edge of the routine from v to w among the first n
-unfoldable pub edgeAmong : List ℕ → ℕ → ℕ → ℕ → Bool
-edgeAmong file v w zero = false
-edgeAmong file v w (suc n) = edgeAmong file v w n || (eqb (edgeOf file n .from) v && eqb (edgeOf file n .to) w)
+-- edge n leads from v to w
+abbrev pub leads : List ℕ → ℕ → ℕ → ℕ → Bool
+leads file v w n = eqb (edgeOf file n .from) v && eqb (edgeOf file n .to) w
 
--- an edge leads from v to w
+-- an edge of the routine leads from v to w
 unfoldable pub isEdge : List ℕ → ℕ → ℕ → Bool
-unfolding edgeAmong
-isEdge file v w = edgeAmong file v w (edges file)
+unfolding anyBelow
+isEdge file v w = anyBelow (leads file v w) (edges file)
 
 -- 30: length 0 or above 4,096
 abbrev pub check30 : List ℕ → Verdict

@@ -56,7 +56,7 @@ module _ (file : List ℕ) where
   first-at : {n : ℕ} {old new : List ℕ} {v : ℕ} → Filling (labelsBefore file) n old new v → (u : ℕ) → u < v → getD new u 0 ≡ labelsBefore file u
   first-at {n} {old} {new} {v} t u l =
       ap (λ (s : List ℕ). getD s u 0) (t .is)
-      ∙ List·getD-append (table (labelsBefore file) v) (drop v old) 0 u (omega (arith, table-length (labelsBefore file) v)) ∙ table-at (labelsBefore file) v u l
+      ∙ List·getD-append (table (labelsBefore file) v) (drop (length (table (labelsBefore file) v)) old) 0 u (omega (arith, table-length (labelsBefore file) v)) ∙ table-at (labelsBefore file) v u l
 
   -- the last entry: how many labels there are
   pub firsts-done : {old new : List ℕ} {v n count : ℕ} → Filling (labelsBefore file) (8 * vertices file) old new v → v ≡ n → n ≡ vertices file → 2 ≤ vertices file → count ≡ labelsBefore file v

@@ -1,11 +1,12 @@
 -- Document 01, "Plan and report": one record for each reference on the path. Run and machine build them alike.
 -- Assumes nothing.
-use mathlib.Core.List.{List, [], _∷_, _++_}
-use Prim.Native.Nat.{ℕ, zero, suc}
+use mathlib.Core.List.{List, [], _∷_}
+use Prim.Native.Nat.{ℕ}
 use Rattle.routine.specs.declared.action.Access.{Access}
 use Rattle.routine.specs.declared.action.Access.the-variants.{Read, Define, Modify}
 use Rattle.routine.specs.declared.action.Action.{Action}
 use Rattle.routine.specs.declared.action.Action.the-variants.{Nothing, Reference, Remap, Unknown}
+use Rattle.words.specs.Tables.{rows}
 use Rattle.report.specs.declared.record.Record.{Record}
 
 -- kind: 1 read, 2 define, 3 modify
@@ -39,11 +40,5 @@ recordsAt (Remap k) step array version stamp = []
 recordsAt Unknown step array version stamp = []
 
 -- the records of n steps with m arrays each, by step, then array: `at i a` are those of array a at index i of the path
-unfoldable pub byArray : (ℕ → List Record) → ℕ → List Record
-byArray at zero = []
-byArray at (suc m) = byArray at m ++ at m
-
-unfoldable pub byStep : (ℕ → ℕ → List Record) → ℕ → ℕ → List Record
-unfolding byArray
-byStep at m zero = []
-byStep at m (suc n) = byStep at m n ++ byArray (at n) m
+abbrev pub byStep : (ℕ → ℕ → List Record) → ℕ → ℕ → List Record
+byStep at m n = rows (λ i. rows (at i) m) n

@@ -8,7 +8,7 @@ use Rattle.routine.specs.declared.reader.Answer.{Answer}
 use Rattle.routine.specs.declared.reader.Answer.the-variants.{Routine, Refused}
 use Rattle.refusal.specs.declared.Refusal.{Refusal}
 use Rattle.refusal.specs.declared.Reply.{Reply}
-use Rattle.refusal.specs.declared.Reply.the-variants.{Written, Denied}
+use Rattle.refusal.specs.declared.Reply.the-variants.{Denied}
 use Rattle.refusal.specs.declared.Verdict.{Verdict}
 use Rattle.refusal.specs.declared.Verdict.the-variants.{Passed, Failed}
 use Rattle.routine.specs.Actions.{actionCheck, rowCheck, check15}
@@ -19,7 +19,7 @@ use Rattle.routine.specs.Layout.{arrays, vertices, edges, headerOf}
 use Rattle.refusal.specs.Replies.{written, filledBy}
 use Rattle.routine.specs.Reader.{Laid, formCheck, bodyCheck, readCheck, answered, readOf, deniedOf, WellFormed, Heads}
 use Rattle.routine.proofs.Form.{laid, heads}
-use Rattle.routine.proofs.Laws.{goes-on, parts, each-passed, all-passed}
+use Rattle.refusal.proofs.Checks.{parts, each-passed, all-passed}
 
 -- ---- checks 14 to 16
 
@@ -36,9 +36,10 @@ bodies-passed file l e =
 passed-bodies : (file : List ℕ) → WellFormed file → bodyCheck file ≡ Passed
 unfolding bodyCheck check14 check15 check16
 passed-bodies file w =
-    goes-on (all-passed (arrayCheck file) (arrays file) (w .arrays-pass))
-    (goes-on (all-passed (rowCheck file) (vertices file) (λ v in-v. all-passed (actionCheck file v) (arrays file) (λ a in-a. w .actions-pass v a in-v in-a)))
-    (all-passed (edgeCheck file) (edges file) (w .edges-pass)))
+    rw (
+      all-passed (arrayCheck file) (arrays file) (w .arrays-pass),
+      all-passed (rowCheck file) (vertices file) (λ v in-v. all-passed (actionCheck file v) (arrays file) (λ a in-a. w .actions-pass v a in-v in-a)),
+    ) (all-passed (edgeCheck file) (edges file) (w .edges-pass))
 
 -- ---- the reader's answer
 
@@ -60,7 +61,7 @@ accepted file {h} e =
 
 pub accepts : (file : List ℕ) → formCheck file ≡ Passed → WellFormed file → readOf file ≡ Routine (headerOf file)
 unfolding readOf readCheck
-accepts file f w = ap (λ (v : Verdict). answered v (headerOf file)) (goes-on f (passed-bodies file w))
+accepts file f w = rw (f, passed-bodies file w)
 
 -- ---- a call that reads the file first, then checks the rest
 
@@ -76,11 +77,6 @@ module _ (file : List ℕ) {a : Answer} (is : a ≡ readOf file) (rest : Verdict
   pub read-way : {h : Header} → a ≡ Routine h → written rest n ≡ written (readCheck file andThen rest) n
   unfolding readOf
   read-way {h} e = rw (answered-passed (readCheck file) (headerOf file) h (sym is ∙ e) .0)
-
--- a call that writes has passed its checks
-pub written-passed : (v : Verdict) (m : ℕ) {n : ℕ} → written v m ≡ Written n → v ≡ Passed
-written-passed Passed m e = refl
-written-passed (Failed r) m e = cc
 
 -- ---- a refusal handed on leaves the buffer as it was
 pub unwritten : {reply : Reply} {a : Answer} {r : Refusal} (bytes before : List ℕ) → reply ≡ deniedOf a → a ≡ Refused r → before ≡ filledBy reply bytes before

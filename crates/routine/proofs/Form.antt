@@ -1,13 +1,16 @@
--- What checks 10 to 13 leave when they pass.
+-- What checks 10 to 13 leave when they pass; where the bodies stand, by a header and by its file, and that every place is inside the file.
 -- Assumes nothing.
-use mathlib.Core.Path.{_≡_}
+use mathlib.Core.Path.{_≡_, ap, ap₂}
 use mathlib.Core.List.{List}
-use Prim.Native.Nat.{ℕ, _≤_}
+use Prim.Native.Nat.{ℕ, _+_, _*_, _≤_, _<_}
+use native.Mathlib.Nat.{mul-le-mul, mul-le-mul-right}
+use native.Mathlib.Omega.{arith}
 use lib.ListN.{length}
 use Rattle.refusal.specs.declared.Verdict.the-variants.{Passed}
-use Rattle.routine.specs.Layout.{endAt, headerOf, check10, check12, check13}
+use Rattle.routine.specs.declared.header.Header.{Header}
+use Rattle.routine.specs.Layout.{arrays, vertices, edges, actionAt, edgeAt, endAt, headerOf, check10, check12, check13}
 use Rattle.routine.specs.Reader.{formCheck, Limits, Laid, Heads}
-use Rattle.routine.proofs.Laws.{parts}
+use Rattle.refusal.proofs.Checks.{parts}
 
 module _ (file : List ℕ) where
   pub long-enough : check10 file ≡ Passed → 18 ≤ length file
@@ -28,3 +31,33 @@ module _ (file : List ℕ) where
 
   pub heads : Laid file → Heads (headerOf file) file
   heads l = search
+
+-- ---- by the header
+
+-- a file's own header is within the limits
+pub header-limits : {h : Header} {file : List ℕ} → Heads h file → Limits h
+header-limits is = record {
+  some-array = omega (arith, is .arrays-are, is .laid .limits .some-array);
+  few-arrays = omega (arith, is .arrays-are, is .laid .limits .few-arrays);
+  two-vertices = omega (arith, is .vertices-are, is .laid .limits .two-vertices);
+  few-vertices = omega (arith, is .vertices-are, is .laid .limits .few-vertices);
+  few-edges = omega (arith, is .edges-are, is .laid .limits .few-edges);
+}
+
+-- at most 256 vertices of 8 arrays
+pub few-actions : {h : Header} → Limits h → h .vertices * h .arrays ≤ 2048
+few-actions l = mul-le-mul (l .few-vertices) (l .few-arrays)
+
+module _ {h : Header} {file : List ℕ} (is : Heads h file) where
+  pub action-place : {v a : ℕ} → v < vertices file → a < arrays file →
+      (18 + 4 * h .arrays + v * h .arrays + a ≡ actionAt file v a) × (actionAt file v a < length file)
+  action-place {v} {a} in-v in-a =
+      omega (
+        arith,
+        ap (λ (n : ℕ). v * n) (is .arrays-are),
+        mul-le-mul-right (arrays file) in-v,
+      )
+
+  pub edge-place : {i : ℕ} → i < edges file →
+      (18 + 4 * h .arrays + h .vertices * h .arrays + 4 * i ≡ edgeAt file i) × (edgeAt file i + 3 < length file)
+  edge-place in-i = omega (arith, ap₂ _*_ (is .vertices-are) (is .arrays-are))

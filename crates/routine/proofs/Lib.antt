@@ -1,5 +1,3 @@
-pub mod Laws
-pub mod Places
 pub mod Form
 pub mod Accepted
 pub mod WellFormed

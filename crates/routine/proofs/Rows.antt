@@ -3,10 +3,10 @@
 use mathlib.Core.Path.{_≡_, refl, ap, ap₂, _∙_}
 use mathlib.Core.Bool.{Bool, true, false, not, _&&_, _||_, cond, and-true, and-false, and-comm, or-false}
 use mathlib.Core.List.{List}
-use Prim.Native.Nat.{ℕ, zero, suc, _+_}
+use Prim.Native.Nat.{ℕ, zero, suc}
 use native.Mathlib.Nat.{zero-add}
-use native.Mathlib.Numerals.{add-one}
 use lib.Dec.{eqb}
+use Rattle.words.specs.Sums.{anyBelow}
 use Rattle.routine.specs.declared.action.Action.{Action}
 use Rattle.routine.specs.declared.action.Action.the-variants.{Nothing, Reference, Remap, Unknown}
 use Rattle.refusal.specs.declared.Refusal.the-variants.{WrongActionByte}
@@ -15,20 +15,11 @@ use Rattle.routine.specs.Arrays.{arrayOf}
 use Rattle.refusal.specs.Checks.{_andThen_, firstFailed}
 use Rattle.routine.specs.Layout.{actionAt}
 use Rattle.routine.specs.Rows.{isNothing, isMixed, isWrong}
-use Rattle.routine.proofs.Laws.{either, first-last}
+use Rattle.refusal.proofs.Checks.{holds-or, first-last}
 
 -- one of the first n actions of vertex v passes the test
-unfoldable pub among : (Action → Bool) → List ℕ → ℕ → ℕ → Bool
-among test file v zero = false
-among test file v (suc n) = among test file v n || test (action file v n)
-
-pub among-none : (test : Action → Bool) (file : List ℕ) (v : ℕ) → among test file v 0 ≡ false
-unfolding among
-among-none test file v = refl
-
-pub among-more : (test : Action → Bool) (file : List ℕ) (v n : ℕ) → among test file v (n + 1) ≡ (among test file v n || test (action file v n))
-unfolding among
-among-more test file v n = ap (among test file v) (add-one n)
+abbrev pub among : (Action → Bool) → List ℕ → ℕ → ℕ → Bool
+among test file v n = anyBelow (λ a. test (action file v a)) n
 
 -- ---- only the byte 0 is nothing
 
@@ -69,7 +60,7 @@ mixed-more Unknown y references remaps = neither-sort (isReference y) (isRemap y
 
 module _ (file : List ℕ) (v a : ℕ) where
   mixed-among : (n : ℕ) → firstFailed (mixedCheck file v a) 0 n ≡ wrong file v a (isMixed (action file v a) (among isReference file v n) (among isRemap file v n))
-  unfolding firstFailed mixedCheck among
+  unfolding firstFailed mixedCheck anyBelow
   mixed-among zero = rw (neither-sort (isReference (action file v a)) (isRemap (action file v a)))
   mixed-among (suc n) =
       let x = action file v a in
@@ -78,7 +69,7 @@ module _ (file : List ℕ) (v a : ℕ) where
       let remaps = among isRemap file v n in
       first-last (mixedCheck file v a) 0 n
       ∙ ap₂ _andThen_ (mixed-among n) (ap (mixedCheck file v a) (zero-add n))
-      ∙ either (isMixed x references remaps) (mixes y x) (WrongActionByte (actionAt file v a))
+      ∙ holds-or (isMixed x references remaps) (mixes y x) (WrongActionByte (actionAt file v a))
       ∙ ap (wrong file v a) (mixed-more x y references remaps)
 
   -- four faults, one refusal
@@ -92,4 +83,4 @@ module _ (file : List ℕ) (v a : ℕ) where
       actionCheck file v a ≡ wrong file v a bad
   unfolding actionCheck
   one-test is e f g h i =
-      rw (is, e, f, g, h, i) (simp (mixed-among a, nothing-zero file v a, and-comm (isEntryOrExit file v) (not (eqb (actionByte file v a) 0)), either))
+      rw (is, e, f, g, h, i) (simp (mixed-among a, nothing-zero file v a, and-comm (isEntryOrExit file v) (not (eqb (actionByte file v a) 0)), holds-or))

@@ -19,7 +19,7 @@ use Rattle.routine.specs.Arrays.{arrayOf, arrayCheck}
 use Rattle.routine.specs.Edges.{edgeOf, before, rises, edgeCheck}
 use Rattle.routine.specs.Layout.{arrays, vertices, edges}
 use Rattle.routine.specs.Reader.{WellFormed}
-use Rattle.routine.proofs.Laws.{parts, each-passed}
+use Rattle.refusal.proofs.Checks.{parts, each-passed}
 
 pub record InLimits (r : ArrayRecord) : Type 0 where
   pub kind-known : r .kind ≤ 3

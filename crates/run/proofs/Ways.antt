@@ -20,8 +20,7 @@ use Rattle.refusal.specs.declared.Reply.{Reply}
 use Rattle.refusal.specs.declared.Reply.the-variants.{Written, Denied}
 use Rattle.refusal.specs.declared.Verdict.{Verdict}
 use Rattle.refusal.specs.declared.Verdict.the-variants.{Passed, Failed}
-use Rattle.routine.proofs.Accepted.{written-passed}
-use Rattle.routine.proofs.Laws.{passed-left, passed-right, holds-true}
+use Rattle.refusal.proofs.Checks.{written-passed, passed-left, passed-right, holds-true}
 use Rattle.run.specs.Calls.{runnerCheck, DemandMet, RanRead}
 use Rattle.path.specs.Paths.{pathCheck}
 use Rattle.walk.specs.Report.{reportBytes, reportLength}

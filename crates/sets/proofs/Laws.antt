@@ -1,15 +1,15 @@
 -- Laws of masks as sets, for any width: a width enters as a number, and only where a complement, a shift or an upper bound does.
 -- Assumes nothing.
 use mathlib.Core.Path.{_≡_, refl, sym, ap, ap₂, _∙_}
-use mathlib.Core.Bool.{true, false, not, _&&_, _||_, true≢false}
+use mathlib.Core.Bool.{Bool, true, false, not, _&&_, _||_, cond, true≢false}
 use mathlib.Core.Logic.{⊎-elim}
 use Prim.Native.Nat.{ℕ, zero, suc, _+_, _-_, _*_, _/_, _%_, _^_, _≤_, _<_, suc-le-suc, min, max}
-use native.Mathlib.Nat.{eq-or-lt-of-le, div-eq-of-lt, div-one, one-mul, lt-of-lt-of-le, mod-lt, pow-suc, zero-lt-suc, suc-inj}
+use native.Mathlib.Nat.{eq-zero-or-pos, eq-or-lt-of-le, le-of-suc-le-suc, div-eq-of-lt, div-one, one-mul, lt-of-lt-of-le, mod-lt, pow-suc, zero-lt-suc, suc-inj}
 use native.Mathlib.Omega.{arith}
 use borrow.Author.Tests.{eqb-true, ltb-true, lt-ltb, eq-eqb}
 use lib.Dec.{eqb, lit<, eqb·zero-suc, eqb·suc-zero, eqb·suc-suc}
-use lib.Bits.{bitAnd, bitOr, and-step, or-step, and-shr, or-shr, and-le-l, and-comm, and-mask, or-add-and}
-use lib.Pow.{pow-mono, shr-shr, shl-exact}
+use lib.Bits.{bitAnd, bitOr, and-step, or-step, and-shr, or-shr, and-le-l, and-comm, and-mask, and-zero-r, or-add-and}
+use lib.Pow.{pow-mono, pow-pos, shr-shr, shl-exact}
 use lib.Count.{ones, ones-step, ones-le, trailingZeros, under, trailing-le}
 use Rattle.sets.specs.Sets.{bit, has, minus, Two, several}
 
@@ -70,39 +70,40 @@ minus-step a b = omega (arith, and-step a b, and-le-l (a / 2) (b / 2))
 minus-half : (a b : ℕ) → minus a b / 2 ≡ minus (a / 2) (b / 2)
 minus-half a b = omega (arith, minus-step a b)
 
+-- the empty set in a difference
+pub minus-none : (a : ℕ) → minus a 0 ≡ a
+unfolding minus
+minus-none a = omega (arith, and-zero-r a)
+
+pub none-minus : (b : ℕ) → minus 0 b ≡ 0
+unfolding minus
+none-minus b = omega arith
+
 pub bit-minus : (a b k : ℕ) → bit (minus a b) k ≡ bit a k - min (bit a k) (bit b k)
 bit-minus a b zero = simp bit-zero (omega (arith, minus-step a b))
 bit-minus a b (suc k) =
     bit-suc (minus a b) k ∙ ap (λ (n : ℕ). bit n k) (minus-half a b) ∙ bit-minus (a / 2) (b / 2) k
     ∙ ap₂ (λ (x y : ℕ). x - min x y) (sym (bit-suc a k)) (sym (bit-suc b k))
 
--- Bool from bits: each test is settled at the values 0 and 1
+-- what holds of the digits 0 and 1 holds of two digits
+by-digits : (P : ℕ → ℕ → Type 0) → P 0 0 → P 0 1 → P 1 0 → P 1 1 → (x y : ℕ) → x < 2 → y < 2 → P x y
+by-digits P a b c d zero zero hx hy = a
+by-digits P a b c d zero (suc zero) hx hy = b
+by-digits P a b c d (suc zero) zero hx hy = c
+by-digits P a b c d (suc zero) (suc zero) hx hy = d
+by-digits P a b c d zero (suc (suc y)) hx hy = absurd (omega arith)
+by-digits P a b c d (suc zero) (suc (suc y)) hx hy = absurd (omega arith)
+by-digits P a b c d (suc (suc x)) y hx hy = absurd (omega arith)
+
+-- tests of digits
 max-or : (x y : ℕ) → x < 2 → y < 2 → eqb (max x y) 1 ≡ (eqb x 1 || eqb y 1)
-max-or zero zero hx hy = refl
-max-or zero (suc zero) hx hy = refl
-max-or (suc zero) zero hx hy = refl
-max-or (suc zero) (suc zero) hx hy = refl
-max-or zero (suc (suc y)) hx hy = absurd (omega arith)
-max-or (suc zero) (suc (suc y)) hx hy = absurd (omega arith)
-max-or (suc (suc x)) y hx hy = absurd (omega arith)
+max-or = by-digits (λ x y. eqb (max x y) 1 ≡ (eqb x 1 || eqb y 1)) refl refl refl refl
 
 min-and : (x y : ℕ) → x < 2 → y < 2 → eqb (min x y) 1 ≡ (eqb x 1 && eqb y 1)
-min-and zero zero hx hy = refl
-min-and zero (suc zero) hx hy = refl
-min-and (suc zero) zero hx hy = refl
-min-and (suc zero) (suc zero) hx hy = refl
-min-and zero (suc (suc y)) hx hy = absurd (omega arith)
-min-and (suc zero) (suc (suc y)) hx hy = absurd (omega arith)
-min-and (suc (suc x)) y hx hy = absurd (omega arith)
+min-and = by-digits (λ x y. eqb (min x y) 1 ≡ (eqb x 1 && eqb y 1)) refl refl refl refl
 
 sub-not : (x y : ℕ) → x < 2 → y < 2 → eqb (x - min x y) 1 ≡ (eqb x 1 && not (eqb y 1))
-sub-not zero zero hx hy = refl
-sub-not zero (suc zero) hx hy = refl
-sub-not (suc zero) zero hx hy = refl
-sub-not (suc zero) (suc zero) hx hy = refl
-sub-not zero (suc (suc y)) hx hy = absurd (omega arith)
-sub-not (suc zero) (suc (suc y)) hx hy = absurd (omega arith)
-sub-not (suc (suc x)) y hx hy = absurd (omega arith)
+sub-not = by-digits (λ x y. eqb (x - min x y) 1 ≡ (eqb x 1 && not (eqb y 1))) refl refl refl refl
 
 pub has-or : (a b k : ℕ) → has (bitOr a b) k ≡ (has a k || has b k)
 unfolding has
@@ -116,7 +117,7 @@ pub has-minus : (a b k : ℕ) → has (minus a b) k ≡ (has a k && not (has b k
 unfolding has
 has-minus a b k = ap (λ (n : ℕ). eqb n 1) (bit-minus a b k) ∙ sub-not (bit a k) (bit b k) (bit-lt a k) (bit-lt b k)
 
--- ---- members of zero and of a singleton; what lies outside a width
+-- ---- members of the empty set, of sets made of one member or by a test, of a full set; what lies outside a width
 
 pub bit-none : (k : ℕ) → bit 0 k ≡ 0
 unfolding bit
@@ -140,6 +141,27 @@ has-single (suc j) zero =
 has-single (suc j) (suc k) =
     has-suc (2 ^ suc j) k ∙ ap (λ (n : ℕ). has n k) (half-pow j) ∙ has-single j k ∙ sym (eqb·suc-suc j k)
 
+-- of a set of one member
+pub single-is : (j k : ℕ) → has (2 ^ j) k ≡ true → j ≡ k
+single-is j k h = eqb-true j k (sym (has-single j k) ∙ h)
+
+-- of a set with one more member
+pub has-with : (m t k : ℕ) → has (bitOr m (2 ^ t)) k ≡ (has m k || eqb t k)
+has-with m t k = simp (has-or, has-single)
+
+-- of a set that is there where a test passes, and empty elsewhere
+pub has-cond : (b : Bool) (m k : ℕ) → has (cond b m 0) k ≡ (b && has m k)
+has-cond true m k = refl
+has-cond false m k = has-zero k
+
+-- of a full set
+pub has-full : (w k : ℕ) → k < w → has (2 ^ w - 1) k ≡ true
+has-full zero k h = absurd (omega arith)
+has-full (suc w) zero h = bit-has _ 0 (omega (arith, bit-zero (2 ^ suc w - 1), pow-suc 2 w, pow-pos w))
+has-full (suc w) (suc k) h =
+    let e : (2 ^ suc w - 1) / 2 ≡ 2 ^ w - 1 = omega (arith, pow-suc 2 w) in
+    has-suc _ k ∙ ap (λ (m : ℕ). has m k) e ∙ has-full w k (le-of-suc-le-suc h)
+
 pub has-out : (w m k : ℕ) → m < 2 ^ w → w ≤ k → has m k ≡ false
 unfolding has bit
 has-out w m k h le =
@@ -162,13 +184,7 @@ same (suc w) a b ha hb e =
     has-low h = ap (λ (n : ℕ). eqb n 1) (sym (bit-zero a)) ∙ h ∙ ap (λ (n : ℕ). eqb n 1) (bit-zero b)
 
     digit : (x y : ℕ) → x < 2 → y < 2 → eqb x 1 ≡ eqb y 1 → x ≡ y
-    digit zero zero hx hy h = refl
-    digit zero (suc zero) hx hy h = absurd (true≢false (sym h))
-    digit (suc zero) zero hx hy h = absurd (true≢false h)
-    digit (suc zero) (suc zero) hx hy h = refl
-    digit zero (suc (suc y)) hx hy h = absurd (omega arith)
-    digit (suc zero) (suc (suc y)) hx hy h = absurd (omega arith)
-    digit (suc (suc x)) y hx hy h = absurd (omega arith)
+    digit = by-digits (λ x y. eqb x 1 ≡ eqb y 1 → x ≡ y) (λ h. refl) (λ h. absurd (true≢false (sym h))) (λ h. absurd (true≢false h)) (λ h. refl)
 
 -- ---- what the machine's operations give
 
@@ -201,6 +217,23 @@ test-shift m k = and-mask (m / 2 ^ k) 1
 pub one-shl : (w k : ℕ) → k < w → (1 * 2 ^ k) % 2 ^ w ≡ 2 ^ k
 one-shl w k h = shl-exact 1 k w (lit< tt) (omega arith) ∙ one-mul (2 ^ k)
 
+-- ---- the lowest member
+
+-- of a set that is not empty
+pub lowest-has : (w m : ℕ) → 0 < m → m < 2 ^ w → has m (trailingZeros w m) ≡ true
+unfolding trailingZeros
+lowest-has zero m some fits = absurd (omega arith)
+lowest-has (suc w) m some fits = go (m % 2) refl (λ half. lowest-has w (m / 2) half (omega (arith, pow-suc 2 w)))
+  where
+    go : (d : ℕ) → m % 2 ≡ d → (0 < m / 2 → has (m / 2) (trailingZeros w (m / 2)) ≡ true) → has m (under d (trailingZeros w (m / 2))) ≡ true
+    go zero e half = has-suc m (trailingZeros w (m / 2)) ∙ half (omega arith)
+    go (suc d) e half = bit-has m 0 (omega (arith, bit-zero m))
+
+pub lowest-below : (w m : ℕ) → 0 < m → m < 2 ^ w → trailingZeros w m < w
+lowest-below w m some fits =
+    ⊎-elim (λ (e : trailingZeros w m ≡ w). absurd (true≢false (sym (lowest-has w m some fits) ∙ has-out w m (trailingZeros w m) fits (omega arith)))) (λ h. h)
+    (eq-or-lt-of-le (trailing-le w m))
+
 -- ---- counting members
 
 pub count-one : (m k : ℕ) → has m k ≡ true → 1 ≤ ones m
@@ -214,16 +247,10 @@ count-two m (suc j) zero n hj hk = omega (arith, ones-step m, bit-zero m, has-bi
 count-two m (suc j) (suc k) n hj hk =
     omega (arith, ones-step m, count-two (m / 2) j k (λ e. n (ap suc e)) (sym (has-suc m j) ∙ hj) (sym (has-suc m k) ∙ hk))
 
--- a member, the lowest digit or one of the half
 find-one : (w m : ℕ) → m < 2 ^ w → 1 ≤ ones m → (k : ℕ) × (has m k ≡ true)
-find-one zero m h c = absurd (omega (arith, ones-le 0 m h))
-find-one (suc w) m h c = go (m % 2) refl (λ few. find-one w (m / 2) (half-fits w m h) few)
-  where
-    go : (d : ℕ) → m % 2 ≡ d → (1 ≤ ones (m / 2) → (k : ℕ) × (has (m / 2) k ≡ true)) → (k : ℕ) × (has m k ≡ true)
-    go zero e half =
-        let r = half (omega (arith, ones-step m)) in
-        (suc (r .0), has-suc m (r .0) ∙ r .1)
-    go (suc d) e half = (0, bit-has m 0 (omega (arith, bit-zero m, mod-lt m {m = 2} (lit< tt))))
+find-one w m h c =
+    let some : 0 < m = ⊎-elim (λ (e : m ≡ 0). absurd (omega (arith, c, ones-le 0 m (omega arith)))) (λ s. s) (eq-zero-or-pos m) in
+    (trailingZeros w m, lowest-has w m some h)
 
 find-two : (w m : ℕ) → m < 2 ^ w → 2 ≤ ones m → Two m
 find-two zero m h c = absurd (omega (arith, ones-le 0 m h))
@@ -255,18 +282,3 @@ several-two w m h c = find-two w m h (ltb-true 1 (ones m) c)
 
 pub two-several : (m : ℕ) → Two m → several m ≡ true
 two-several m t = lt-ltb 1 (ones m) (count-two m (t .first) (t .second) (t .differ) (t .has-first) (t .has-second))
-
--- the lowest member of a set that is not empty
-pub lowest-has : (w m : ℕ) → 0 < m → m < 2 ^ w → has m (trailingZeros w m) ≡ true
-unfolding trailingZeros
-lowest-has zero m some fits = absurd (omega arith)
-lowest-has (suc w) m some fits = go (m % 2) refl (λ half. lowest-has w (m / 2) half (omega (arith, pow-suc 2 w)))
-  where
-    go : (d : ℕ) → m % 2 ≡ d → (0 < m / 2 → has (m / 2) (trailingZeros w (m / 2)) ≡ true) → has m (under d (trailingZeros w (m / 2))) ≡ true
-    go zero e half = has-suc m (trailingZeros w (m / 2)) ∙ half (omega arith)
-    go (suc d) e half = bit-has m 0 (omega (arith, bit-zero m))
-
-pub lowest-below : (w m : ℕ) → 0 < m → m < 2 ^ w → trailingZeros w m < w
-lowest-below w m some fits =
-    ⊎-elim (λ (e : trailingZeros w m ≡ w). absurd (true≢false (sym (lowest-has w m some fits) ∙ has-out w m (trailingZeros w m) fits (omega arith)))) (λ h. h)
-    (eq-or-lt-of-le (trailing-le w m))

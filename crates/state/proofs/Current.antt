@@ -1,12 +1,11 @@
 -- Laws of the stamp that is held beside a state.
 -- Assumes nothing.
-use mathlib.Core.Path.{_≡_, refl, sym, ap, subst, _∙_}
+use mathlib.Core.Path.{_≡_, refl, sym, ap, _∙_}
 use mathlib.Core.Bool.{Bool, true, false, not, _&&_, true≢false}
-use mathlib.Core.Logic.{_⊎_, inr}
+use mathlib.Core.Logic.{inr}
 use mathlib.Core.List.{List}
 use Prim.Native.Nat.{ℕ, _<_}
 use native.Mathlib.Omega.{arith}
-use borrow.Author.Tests.{ne-eqb}
 use lib.Dec.{T}
 use lib.ListN.{length, getD, set, length-set}
 use lib.Seq.{set-set, set-getD, getD-set-same}
@@ -23,10 +22,10 @@ use Rattle.state.specs.Exit.{left}
 use Rattle.state.specs.Current.{currentStamp, stampBy, settled}
 use Rattle.state.specs.References.{referenced}
 use Rattle.state.specs.Stamps.{stampAfter}
-use Rattle.state.specs.States.{nothing, hasCurrent, stampOf, Current}
+use Rattle.state.specs.States.{hasCurrent, stampOf, Current}
 use Rattle.state.specs.Vertex.{labelled, visited, relabelled, Visits}
-use Rattle.words.proofs.Cases.{at-cond, by-test}
-use Rattle.state.proofs.States.{moved-current}
+use Rattle.words.proofs.Tests.{at-cond, by-test}
+use Rattle.state.proofs.States.{below-current, current-as, moved-current}
 
 module _ (stamp : ℕ) (s : State) where
   -- the other fields stay
@@ -50,7 +49,7 @@ settled-own s =
 
 module _ (stamp : ℕ) (s : State) (sixteen : length (settled stamp s .stamps) ≡ 16) (below : settled stamp s .current < 16) where
   has-one : hasCurrent s ≡ true
-  has-one = ap not (ne-eqb (s .current) nothing (λ e. omega (arith, settled-current stamp s)))
+  has-one = below-current s (omega (arith, settled-current stamp s))
 
   inside : s .current < length (s .stamps)
   inside = omega (arith, settled-current stamp s, settled-length stamp s)
@@ -85,7 +84,7 @@ module _ (r : ArrayRecord) (u : Use) (keep step stamp : ℕ) (s : State) where
 -- ---- a version or none stays current
 
 pub settled-before : (stamp : ℕ) (s : State) → Current (settled stamp s) → Current s
-settled-before stamp s h = subst (λ (k : ℕ). (k < 16) ⊎ (k ≡ nothing)) (settled-current stamp s) h
+settled-before stamp s h = current-as (settled stamp s) s (settled-current stamp s) h
 
 module _ (r : ArrayRecord) (u : Use) (keep : ℕ) (s : State) where
   -- without a label nothing changes

@@ -2,13 +2,13 @@
 -- Assumes nothing.
 use mathlib.Core.Path.{_≡_, refl, _∙_}
 use mathlib.Core.Bool.{Bool, not, _&&_}
-use mathlib.Core.List.{List, [], _∷_}
+use mathlib.Core.List.{List}
 use mathlib.Core.Logic.{inl, inr}
 use Prim.Native.Nat.{ℕ, zero, suc, _+_, _≤_, _<_, _^_}
 use native.Mathlib.Omega.{arith}
 use lib.Bits.{or-lt}
 use lib.Dec.{lit<, lit≤}
-use lib.ListN.{getD, set, replicate, length-set}
+use lib.ListN.{set, replicate, length-set}
 use lib.Pow.{pow-lt}
 use Rattle.routine.specs.Arrays.{isArgument, isInOrInout}
 use Rattle.labels.specs.declared.Use.{Use}
@@ -28,27 +28,16 @@ use Rattle.state.specs.References.{referenced}
 use Rattle.state.specs.Start.{started}
 use Rattle.state.specs.States.{stampOf, emptied}
 use Rattle.state.specs.Vertex.{labelled, visited}
-use Rattle.words.proofs.Cases.{at-cond}
+use Rattle.words.proofs.Tables.{at-set, zeros-at}
+use Rattle.words.proofs.Tests.{at-cond}
 
 -- ---- lists of stamps
 
-set-small : (l : List ℕ) (i x : ℕ) → ((k : ℕ) → getD l k 0 ≤ 65535) → x ≤ 65535 → (k : ℕ) → getD (set l i x) k 0 ≤ 65535
-set-small [] i x h g k = h k
-set-small (y ∷ l) zero x h g zero = g
-set-small (y ∷ l) zero x h g (suc k) = h (suc k)
-set-small (y ∷ l) (suc i) x h g zero = h 0
-set-small (y ∷ l) (suc i) x h g (suc k) = set-small l i x (λ j. h (suc j)) g k
-
 set-stamps : (l : List ℕ) (i x : ℕ) → Stamps l → x ≤ 65535 → Stamps (set l i x)
-set-stamps l i x h g = record { sixteen = length-set l i x ∙ h .sixteen; small = set-small l i x (h .small) g }
-
-zeros-small : (n k : ℕ) → getD (replicate n 0) k 0 ≤ 65535
-zeros-small zero k = lit≤ tt
-zeros-small (suc n) zero = lit≤ tt
-zeros-small (suc n) (suc k) = zeros-small n k
+set-stamps l i x h g = record { sixteen = length-set l i x ∙ h .sixteen; small = λ k. at-set (λ _ y. y ≤ 65535) l i x k g (h .small k) }
 
 zeros : Stamps (replicate 16 0)
-zeros = record { sixteen = refl; small = zeros-small 16 }
+zeros = record { sixteen = refl; small = λ k. rw zeros-at (lit≤ tt) }
 
 cleared-stamps : (dead : ℕ) (l : List ℕ) (n : ℕ) → Stamps l → Stamps (cleared dead l n)
 unfolding cleared

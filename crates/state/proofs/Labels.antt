@@ -1,25 +1,24 @@
 -- What a label does to the live versions and their stamps.
 -- Assumes nothing.
-use mathlib.Core.Path.{_≡_, refl, sym, subst, _∙_}
+use mathlib.Core.Path.{_≡_, refl, sym, ap, subst, _∙_}
 use mathlib.Core.Bool.{Bool, true, false, not, _&&_, _||_, true≢false, or-true, or-false}
 use mathlib.Core.List.{List}
 use Prim.Native.Nat.{ℕ, zero, suc, _<_, _^_}
 use native.Mathlib.Omega.{arith}
 use borrow.Author.Tests.{eqb-true, eqb-false, eq-eqb, not-false}
-use lib.Bits.{bitOr}
 use lib.Dec.{eqb}
 use lib.ListN.{length, getD, set}
 use lib.Seq.{getD-set-same, getD-set-other}
 use Rattle.labels.specs.declared.Use.{Use}
 use Rattle.labels.specs.Uses.{isN}
-use Rattle.routine.proofs.Laws.{and-parts}
+use Rattle.words.proofs.Tests.{at-cond, by-test, and-left}
+use Rattle.state.proofs.States.{copies-current}
 use Rattle.sets.specs.Sets.{has, minus}
-use Rattle.sets.proofs.Laws.{has-or, has-minus, has-single, has-zero}
+use Rattle.sets.proofs.Laws.{has-or, has-minus, has-single, has-with, has-cond}
 use Rattle.state.specs.declared.State.{State}
 use Rattle.state.specs.Cleaning.{currentSet, dying, cleared, cleaned}
 use Rattle.state.specs.Moves.{moves, copiesStamp, moved, isD, targetStamp}
 use Rattle.state.specs.States.{hasCurrent, stampOf}
-use Rattle.words.proofs.Cases.{at-cond, by-test}
 
 -- every live version has the stamp x
 abbrev pub Agree : State → ℕ → Type 0
@@ -43,10 +42,7 @@ cleared-keeps dead stamps (suc n) k h =
     (λ d. other)
 
 current-has : (s : State) (k : ℕ) → has (currentSet s) k ≡ (hasCurrent s && eqb (s .current) k)
-current-has s k =
-    at-cond (λ (m : ℕ). has m k ≡ (hasCurrent s && eqb (s .current) k)) (hasCurrent s)
-    (λ h. has-single (s .current) k ∙ (cc))
-    (λ h. has-zero k ∙ (cc))
+current-has s k = has-cond (hasCurrent s) (2 ^ s .current) k ∙ ap (λ (b : Bool). hasCurrent s && b) (has-single (s .current) k)
 
 -- k is in the kept set, or current
 abbrev spares : ℕ → State → ℕ → Bool
@@ -75,20 +71,13 @@ module _ (own keep : ℕ) (s : State) where
       (simp (has-minus, has-or, current-has) (spared (has (s .live) k) (spares keep s k) (has own k) (sym (cleaned-has k) ∙ h)))
 
   pub cleaned-agree : {x : ℕ} → Agree s x → Agree (cleaned own keep s) x
-  cleaned-agree a k h = cleaned-stamp k h ∙ a k (and-parts _ _ (sym (cleaned-has k) ∙ h) .0)
+  cleaned-agree a k h = cleaned-stamp k h ∙ a k (and-left _ _ (sym (cleaned-has k) ∙ h))
 
   pub cleaned-sits : {x : ℕ} → Sits s x → Sits (cleaned own keep s) x
   unfolding cleaned
   cleaned-sits c = record { lives = λ (h : hasCurrent s ≡ true). cleaned-has (s .current) ∙ simp (c .lives h, h, eq-eqb, or-true); bare = c .bare }
 
 -- ---- the move
-
-joined-has : (m t k : ℕ) → has (bitOr m (2 ^ t)) k ≡ (has m k || eqb t k)
-joined-has m t k = simp (has-or, has-single)
-
-pub copies-current : (u : Use) (t : ℕ) (s : State) → copiesStamp u t s ≡ true → hasCurrent s ≡ true
-unfolding copiesStamp
-copies-current u t s h = and-parts (not (isD u)) _ (and-parts (not (has (s .live) t)) _ (and-parts (moves u t s) _ h .1) .1) .1
 
 module _ (u : Use) (t : ℕ) (s : State) where
   taken-stamp : {x : ℕ} → isD u ≡ false → moves u t s ≡ true → Agree s x → Sits s x → targetStamp u t s ≡ x
@@ -106,7 +95,7 @@ module _ (u : Use) (t : ℕ) (s : State) where
       let y = targetStamp u t s in
       by-test (eqb t k)
       (λ e. subst (λ (j : ℕ). getD (set (s .stamps) t y) j 0 ≡ x) (eqb-true t k e) (getD-set-same (s .stamps) t y 0 f ∙ taken-stamp d m a c))
-      (λ e. getD-set-other (s .stamps) t k y 0 (λ g. eqb-false t k e (sym g)) ∙ a k (cc (joined-has (s .live) t k, or-false (has (s .live) k)))))
+      (λ e. getD-set-other (s .stamps) t k y 0 (λ g. eqb-false t k e (sym g)) ∙ a k (cc (has-with (s .live) t k, or-false (has (s .live) k)))))
       (λ m. a)
 
   pub moved-sits : {x : ℕ} → t < 16 → Sits s x → Sits (moved u t s) x
@@ -114,11 +103,11 @@ module _ (u : Use) (t : ℕ) (s : State) where
   moved-sits {x} f c =
       at-cond (λ (s' : State). Sits s' x) (moves u t s)
       (λ m. record {
-        lives = λ _. cc (joined-has (s .live) t t, eq-eqb t t refl, or-true (has (s .live) t));
+        lives = λ _. cc (has-with (s .live) t t, eq-eqb t t refl, or-true (has (s .live) t));
         bare = λ h. absurd (omega (arith, eqb-true t 255 (not-false _ h)));
       })
       (λ m. c)
 
-  pub moved-current : isN u ≡ false → moved u t s .current ≡ t
+  pub moved-to : isN u ≡ false → moved u t s .current ≡ t
   unfolding moved
-  moved-current n = at-cond (λ (s' : State). s' .current ≡ t) (moves u t s) (λ m. refl) (λ m. eqb-true (s .current) t (not-false _ (cc)))
+  moved-to n = at-cond (λ (s' : State). s' .current ≡ t) (moves u t s) (λ m. refl) (λ m. eqb-true (s .current) t (not-false _ (cc)))

@@ -1,37 +1,47 @@
 -- Laws of the run rules, as the functions over a state use them.
 -- Assumes nothing.
-use mathlib.Core.Path.{_≡_, refl, sym, ap, ap₂, _∙_}
+use mathlib.Core.Path.{_≡_, refl, sym, ap, ap₂, subst, _∙_}
 use mathlib.Core.Bool.{Bool, true, false, not, _&&_, cond, true≢false, and-true, and-false}
 use mathlib.Core.List.{List}
-use mathlib.Core.Logic.{inl, inr, ⊎-elim}
+use mathlib.Core.Logic.{_⊎_, inl, inr, ⊎-elim}
 use Prim.Native.Nat.{ℕ, zero, suc, _+_, _^_, _≤_, _<_}
 use native.Mathlib.Nat.{eq-or-lt-of-le}
 use native.Mathlib.Omega.{arith}
-use lib.Bits.{bitOr, and-zero-r}
+use lib.Bits.{bitOr}
 use borrow.Author.Tests.{lt-ltb, le-ltb, eqb-true, eqb-false, eq-eqb, ne-eqb}
 use lib.Dec.{eqb, ltb}
 use lib.ListN.{getD, set}
 use lib.Seq.{set-comm, set-getD}
 use Rattle.labels.specs.declared.Use.{Use}
-use Rattle.routine.proofs.Laws.{and-parts}
-use Rattle.sets.proofs.Laws.{has-minus, has-single, has-zero}
+use Rattle.words.proofs.Tests.{at-cond, by-test, and-right, one-more}
+use Rattle.sets.proofs.Laws.{has-minus, has-single, has-zero, minus-none, none-minus}
 use Rattle.sets.specs.Sets.{has, minus}
 use Rattle.state.specs.declared.State.{State}
 use Rattle.state.specs.States.{Current, nothing, hasCurrent, stampOf}
 use Rattle.state.specs.Cleaning.{currentSet, dying, cleared, cleaned}
 use Rattle.state.specs.Moves.{moves, isD, copiesStamp, targetStamp, moved}
-use Rattle.words.proofs.Cases.{at-cond, by-test, one-more}
 
 -- a current copy is a version
 pub current-below : (s : State) → Current s → hasCurrent s ≡ true → s .current < 16
 current-below s (inl h) e = h
 current-below s (inr n) e = absurd (true≢false (sym e ∙ ap (λ (k : ℕ). not (eqb k nothing)) n))
 
+-- and a version that is current is a copy
+pub below-current : (s : State) → s .current < 16 → hasCurrent s ≡ true
+below-current s h = ap not (ne-eqb (s .current) nothing (λ e. omega arith))
+
+-- a version or none stays current
+pub current-as : (s t : State) → s .current ≡ t .current → Current s → Current t
+current-as s t e h = subst (λ (k : ℕ). (k < 16) ⊎ (k ≡ nothing)) e h
+
+-- a stamp is copied from a current copy
+pub copies-current : (u : Use) (t : ℕ) (s : State) → copiesStamp u t s ≡ true → hasCurrent s ≡ true
+unfolding copiesStamp
+copies-current u t s h = and-right (not (isD u)) _ (and-right (not (has (s .live) t)) _ (and-right (moves u t s) _ h))
+
 module _ (u : Use) (t : ℕ) (s : State) where
   pub copied-below : Current s → copiesStamp u t s ≡ true → s .current < 16
-  unfolding copiesStamp
-  copied-below current h =
-      current-below s current (and-parts (not (isD u)) _ (and-parts (not (has (s .live) t)) _ (and-parts (moves u t s) _ h .1) .1) .1)
+  copied-below current h = current-below s current (copies-current u t s h)
 
   pub target-is : (copied live : Bool) → copied ≡ copiesStamp u t s → live ≡ has (s .live) t
       → cond copied (stampOf s (s .current)) (cond live (stampOf s t) 0) ≡ targetStamp u t s
@@ -124,14 +134,6 @@ pub cleared-none : (stamps : List ℕ) (n : ℕ) → cleared 0 stamps n ≡ stam
 unfolding cleared
 cleared-none stamps zero = refl
 cleared-none stamps (suc n) = rw has-zero (cleared-none stamps n)
-
-minus-none : (a : ℕ) → minus a 0 ≡ a
-unfolding minus
-minus-none a = omega (arith, and-zero-r a)
-
-none-minus : (b : ℕ) → minus 0 b ≡ 0
-unfolding minus
-none-minus b = omega arith
 
 module _ (own keep : ℕ) (s : State) (current dead : ℕ) (e : current ≡ currentSet s) (f : dead ≡ minus (s .live) (bitOr keep current)) where
   dies : dead ≡ dying keep s

@@ -1,23 +1,19 @@
 -- The digits that `io::decimal` and `io::hex` make are the texts that the contracts name.
 -- Assumes nothing.
 use mathlib.Core.Path.{_≡_, refl, sym, ap, _∙_}
-use mathlib.Core.Bool.{Bool, true, false, cond}
+use mathlib.Core.Bool.{Bool, cond}
 use mathlib.Core.List.{List, [], _∷_, _++_}
 use Prim.Native.Nat.{ℕ, zero, suc, _+_, _-_, _/_, _%_, _^_, _≤_, _<_}
-use native.Mathlib.Nat.{le-refl, le-antisymm, pow-zero, pow-suc, mul-le-mul-left}
+use native.Mathlib.Nat.{le-antisymm, pow-suc, one-le-pow, pow-le-pow-right}
 use native.Mathlib.Omega.{arith}
 use borrow.Author.Tests.{lt-ltb, le-ltb, leb-true, leb-false}
 use lib.Dec.{leb}
 use lib.ListN.{length, take, drop, length-append}
-use lib.Seq.{take-all}
-use lib.Pow.{pow-add}
+use lib.Seq.{take-length}
 use Rattle.io.specs.Digits.{glyph, digits, Fewest}
 use Rattle.words.specs.Tables.{wrote}
+use Rattle.words.proofs.Tests.{by-test}
 use Rattle.text.specs.Text.{decimalIn, decimal, mask}
-
-pow-pos : (b k : ℕ) → 0 < b → 1 ≤ b ^ k
-pow-pos b zero h = omega (arith, pow-zero b)
-pow-pos b (suc k) h = omega (arith, pow-suc b k, mul-le-mul-left (b ^ k) h, pow-pos b k h)
 
 pow-pred : (b k : ℕ) → b ^ (suc k - 1) ≡ b ^ k
 pow-pred b k = ap (λ (j : ℕ). b ^ j) (let e : suc k - 1 ≡ k = omega arith in e)
@@ -38,21 +34,13 @@ decimal-is (suc f) (suc (suc j)) n few h =
     (omega arith, omega (arith, few .1, pow-suc 10 (suc j)), λ (more : 1 < suc j). omega (arith, big, pow-suc 10 j, pow-pred 10 j))
     (omega arith) in
     ap (λ (l : List ℕ). l ++ (glyph (n % 10) ∷ [])) front
-    ∙ ap (λ (b : Bool). cond b [] (decimalIn f (n / 10)) ++ (glyph (n % 10) ∷ [])) (sym (le-ltb n 10 (omega (arith, big, pow-suc 10 j, pow-pos 10 j (omega arith)))))
-
-pow-mono : (b i j : ℕ) → 0 < b → i ≤ j → b ^ i ≤ b ^ j
-pow-mono b i j pos h = grows (j - i) (omega arith)
-  where
-    grows : (d : ℕ) → j ≡ i + d → b ^ i ≤ b ^ j
-    grows d e = omega (arith, ap (λ (k : ℕ). b ^ k) e, pow-add b i d, mul-le-mul-left (b ^ i) (pow-pos b d pos))
+    ∙ ap (λ (b : Bool). cond b [] (decimalIn f (n / 10)) ++ (glyph (n % 10) ∷ [])) (sym (le-ltb n 10 (omega (arith, big, pow-suc 10 j, one-le-pow j 10 (omega arith)))))
 
 -- no more than d digits, if d hold n and no more were asked for
 pub fewest-le : (b least d n k : ℕ) → 0 < b → least ≤ d → Fewest b least n k → n < b ^ d → k ≤ d
-fewest-le b least d n k pos l few h = by (leb k d) refl
-  where
-    by : (t : Bool) → leb k d ≡ t → k ≤ d
-    by true e = leb-true k d e
-    by false e = absurd (omega (arith, leb-false k d e, few .2 (omega (arith, leb-false k d e)), pow-mono b d (k - 1) pos (omega (arith, leb-false k d e))))
+fewest-le b least d n k pos l few h =
+    by-test (leb k d) (leb-true k d)
+    (λ e. absurd (omega (arith, leb-false k d e, few .2 (omega (arith, leb-false k d e)), pow-le-pow-right {n = b} pos {i = d} {j = k - 1} (omega (arith, leb-false k d e)))))
 
 pub digits-length : (b k n : ℕ) → length (digits b k n) ≡ k
 digits-length b zero n = refl
@@ -63,7 +51,7 @@ digits-length b (suc k) n =
 -- ---- what `bytes::copy` leaves of a text
 
 pub copied : {src text : List ℕ} (old : List ℕ) → src ≡ text → take (length src) src ++ drop (length src) old ≡ wrote old text
-copied {src} {text} old e = ap (λ (l : List ℕ). l ++ drop (length src) old) (take-all (length src) src (le-refl (length src))) ∙ ap (wrote old) e
+copied {src} {text} old e = ap (λ (l : List ℕ). l ++ drop (length src) old) (take-length src) ∙ ap (wrote old) e
 
 -- ---- the two forms, as the callers use them
 

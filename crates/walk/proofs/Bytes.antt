@@ -1,9 +1,9 @@
--- The report's bytes, entry by entry and record by record, and their number.
+-- The report's bytes, entry by entry and record by record, and their number; references on a path.
 -- Assumes nothing.
-use mathlib.Core.Path.{_≡_, refl, ap, ap₂}
+use mathlib.Core.Path.{_≡_, ap}
 use mathlib.Core.Bool.{cond}
-use mathlib.Core.List.{List, _++_}
-use Prim.Native.Nat.{ℕ, zero, suc, _+_, _*_, _<_}
+use mathlib.Core.List.{List}
+use Prim.Native.Nat.{ℕ, _+_, _*_, _≤_, _<_}
 use native.Mathlib.Omega.{arith}
 use lib.ListN.{length, length-append}
 use Rattle.demand.specs.Run.{stateAfter, runRecords}
@@ -19,14 +19,10 @@ use Rattle.state.specs.States.{stampOf}
 use Rattle.state.specs.declared.State.{State}
 use Rattle.walk.specs.Report.{entries, reportBytes, referencesOn, reportLength}
 use Rattle.words.specs.Tables.{rows}
-use Rattle.words.proofs.Sums.{rows-total}
+use Rattle.words.proofs.Sums.{total-none, total-more, total-few, count-few, rows-total}
+use Rattle.words.proofs.Tables.{rows-same}
 
 -- ---- entries
-
-pub rows-same : (f g : ℕ → List ℕ) (n : ℕ) → ((i : ℕ) → i < n → f i ≡ g i) → rows f n ≡ rows g n
-unfolding rows
-rows-same f g zero same = refl
-rows-same f g (suc n) same = ap₂ _++_ (rows-same f g n (λ i h. same i (omega arith))) (same n (omega arith))
 
 pub entries-of :
     (file path : List ℕ) (states : List State) → ((a : ℕ) → a < arrays file → stateOf states a ≡ stateAfter file path a (steps path))
@@ -61,6 +57,22 @@ module _ (file path : List ℕ) where
   on-path : (n : ℕ) → length (rows (λ i. rows (recordBytesAt file path i) (arrays file)) n) ≡ 10 * referencesOn file path n
   unfolding referencesOn
   on-path = rows-total (λ i. rows (recordBytesAt file path i) (arrays file)) (λ i. referencesAt file (vertexAt path i)) 10 at-step
+
+  -- references on a path, counted vertex by vertex; they are few
+  pub on-none : 0 ≡ referencesOn file path 0
+  unfolding referencesOn
+  on-none = total-none (λ i. referencesAt file (vertexAt path i))
+
+  pub on-more : {count more : ℕ} (i : ℕ) → count ≡ referencesOn file path i → more ≡ referencesAt file (vertexAt path i) → count + more ≡ referencesOn file path (i + 1)
+  unfolding referencesOn
+  on-more i e f = total-more (λ i. referencesAt file (vertexAt path i)) i e f
+
+  pub on-few : arrays file ≤ 8 → (n : ℕ) → referencesOn file path n ≤ 8 * n
+  unfolding referencesOn
+  on-few few n =
+      total-few (λ i. referencesAt file (vertexAt path i)) 8
+      (λ i. omega (arith, few, count-few (λ a. isReference (event file a (vertexAt path i))) (arrays file)))
+      n
 
   pub report-length : length (reportBytes file path) ≡ reportLength file path
   unfolding reportBytes entries reportLength

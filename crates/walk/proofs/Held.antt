@@ -1,12 +1,11 @@
 -- The arrays' states as they are held along the path: one more is filled in, and the references of one more array are made.
 -- Assumes nothing.
 use mathlib.Core.Path.{_≡_, refl, sym, ap, ap₂, subst, _∙_}
-use mathlib.Core.Bool.{Bool, true, false, _||_, true≢false}
+use mathlib.Core.Bool.{Bool, false, _||_}
 use mathlib.Core.List.{List, _++_}
 use Prim.Native.Nat.{ℕ, _+_, _-_, _≤_, _<_}
 use native.Mathlib.Omega.{arith}
-use borrow.Author.Tests.{eqb-true, eqb-false}
-use lib.Dec.{eqb}
+use borrow.Author.Count.{below-more}
 use lib.ListN.{length, getD, set, take, drop, length-append, length-set}
 use lib.Seq.{getD-set-same, getD-set-other}
 use Rattle.labels.specs.Events.{event}
@@ -19,7 +18,8 @@ use Rattle.report.specs.Records.{recordsAt}
 use Rattle.report.specs.Bytes.{stateOf, recordsBytes}
 use Rattle.walk.specs.Walks.{Stands, Held, rowBytes, Referred}
 use Rattle.words.specs.Tables.{wrote}
-use Rattle.words.proofs.Tables.{rows-fit, rows-more}
+use Rattle.words.proofs.Tables.{entries-next, rows-fit, rows-more}
+use Rattle.words.proofs.Tests.{neither}
 use Rattle.words.proofs.Written.{partFrom, write-more}
 
 -- ---- states
@@ -44,22 +44,16 @@ hold-more {want} {a} {stamp} {states} {versions} {stamps} {s} h in-a is own = re
   states-sized = length-set states a s ∙ h .states-sized;
   versions-sized = length-set versions a (s .current) ∙ h .versions-sized;
   stamps-sized = length-set stamps a stamp ∙ h .stamps-sized;
-  stand = λ b in-b. go b in-b (eqb b a) refl;
+  stand =
+      below-more (λ b. Stands (want b) (stateOf (set states a s) b) (getD (set versions a (s .current)) b 0) (getD (set stamps a stamp) b 0)) a
+      (λ b in-b. let ne : b ≡ a → ⊥ = λ e. omega arith in
+      stands-as (getD-set-other states a b s _ ne) (getD-set-other versions a b (s .current) 0 ne) (getD-set-other stamps a b stamp 0 ne) (h .stand b in-b))
+      (stands-as (getD-set-same states a s _ (omega (arith, h .states-sized))) (getD-set-same versions a (s .current) 0 (omega (arith, h .versions-sized)))
+      (getD-set-same stamps a stamp 0 (omega (arith, h .stamps-sized))) new);
 }
   where
     new : Stands (want a) s (s .current) stamp
     new = record { is = ap (λ (x : ℕ). settled x s) own ∙ settled-own s ∙ is; version-is = refl }
-
-    go : (b : ℕ) → b < a + 1 → (t : Bool) → eqb b a ≡ t
-        → Stands (want b) (stateOf (set states a s) b) (getD (set versions a (s .current)) b 0) (getD (set stamps a stamp) b 0)
-    go b in-b true e =
-        rw (eqb-true b a e)
-        (stands-as (getD-set-same states a s _ (omega (arith, h .states-sized))) (getD-set-same versions a (s .current) 0 (omega (arith, h .versions-sized)))
-        (getD-set-same stamps a stamp 0 (omega (arith, h .stamps-sized))) new)
-    go b in-b false e =
-        let ne = eqb-false b a e in
-        stands-as (getD-set-other states a b s _ ne) (getD-set-other versions a b (s .current) 0 ne) (getD-set-other stamps a b stamp 0 ne)
-        (h .stand b (omega (arith, ne)))
 
 -- the states and stamps from array a on are as they were
 pub record Untouched (a : ℕ) (states₀ : List State) (stamps₀ : List ℕ) (states : List State) (stamps : List ℕ) : Type 0 where
@@ -83,17 +77,9 @@ pub settling-more : {stamps : List ℕ} {old new : List State} {a : ℕ} {s : St
     → s ≡ settled (getD stamps a 0) (stateOf new a) → Settling stamps old (a + 1) (set new a s)
 settling-more {stamps} {old} {new} {a} {s} h in-a is = record {
   sized = length-set new a s ∙ h .sized;
-  done = λ b in-b. go b in-b (eqb b a) refl;
+  done = entries-next _ (λ b. settled (getD stamps b 0) (stateOf old b)) new a (omega (arith, h .sized)) (h .done) (is ∙ ap (settled (getD stamps a 0)) (h .rest a (omega arith)));
   rest = λ b over. getD-set-other new a b s _ (λ e. omega arith) ∙ h .rest b (omega arith);
 }
-  where
-    go : (b : ℕ) → b < a + 1 → (t : Bool) → eqb b a ≡ t → stateOf (set new a s) b ≡ settled (getD stamps b 0) (stateOf old b)
-    go b in-b true e =
-        rw (eqb-true b a e)
-        (getD-set-same new a s _ (omega (arith, h .sized)) ∙ is ∙ ap (settled (getD stamps a 0)) (h .rest a (omega arith)))
-    go b in-b false e =
-        let ne = eqb-false b a e in
-        getD-set-other new a b s _ ne ∙ h .done b (omega (arith, ne))
 
 -- ---- references
 
@@ -114,10 +100,6 @@ pub row-fits : (file : List ℕ) (v step : ℕ) (versions before : List ℕ) {m 
     ≤ length (rowBytes file v step versions before n)
 unfolding rowBytes
 row-fits file v step versions before {m} {n} h = rows-fit _ n m h
-
-pub neither : (a b : Bool) → (a || b) ≡ false → (a ≡ false) × (b ≡ false)
-neither true b e = absurd (true≢false e)
-neither false b e = (refl, e)
 
 module _ {file : List ℕ} {v step : ℕ} {versions before old : List ℕ} {m bytes : ℕ} {labels : Bool} {after new : List ℕ}
     (r : Referred file v step versions before old m bytes labels after new) where
@@ -144,19 +126,11 @@ module _ {file : List ℕ} {v step : ℕ} {versions before old : List ℕ} {m by
           write-more old (rowBytes file v step versions before m) new (row m) ys bytes (r .length-is) (r .out-is) (written ∙ ap (wrote (partFrom new bytes)) bytes-are)
           ∙ ap (wrote old) row-more;
       sized = length-set after m stamp ∙ r .sized;
-      served = λ b h. serve b h (eqb b m) refl;
+      served =
+          entries-next 0 (λ b. stampBy (event file b v) step (getD before b 0)) after m (omega (arith, r .sized)) (r .served)
+          (given ∙ ap₂ (λ (y : Action) (s : ℕ). stampBy y step s) is (r .others m (omega arith)));
       others = λ b h. getD-set-other after m b stamp 0 (λ e. omega arith) ∙ r .others b (omega arith);
-      no-label = λ e b h. none (neither labels label e) b h (eqb b m) refl;
+      no-label = λ e.
+          let p = neither labels label e in
+          below-more (λ b. isRemap (event file b v) ≡ false) m (r .no-label (p .0)) (ap isRemap (sym is) ∙ sym labelled ∙ p .1);
     }
-      where
-        serve : (b : ℕ) → b < m + 1 → (t : Bool) → eqb b m ≡ t → getD (set after m stamp) b 0 ≡ stampBy (event file b v) step (getD before b 0)
-        serve b h true e =
-            rw (eqb-true b m e)
-            (getD-set-same after m stamp 0 (omega (arith, r .sized)) ∙ given ∙ ap₂ (λ (y : Action) (s : ℕ). stampBy y step s) is (r .others m (omega arith)))
-        serve b h false e =
-            let ne = eqb-false b m e in
-            getD-set-other after m b stamp 0 ne ∙ r .served b (omega (arith, ne))
-
-        none : (labels ≡ false) × (label ≡ false) → (b : ℕ) → b < m + 1 → (t : Bool) → eqb b m ≡ t → isRemap (event file b v) ≡ false
-        none p b h true e = rw (eqb-true b m e) (ap isRemap (sym is) ∙ sym labelled ∙ p .1)
-        none p b h false e = r .no-label (p .0) b (omega (arith, eqb-false b m e))

@@ -3,17 +3,17 @@
 use mathlib.Core.Path.{_≡_, refl, sym, ap, ap₂, subst, _∙_}
 use mathlib.Core.Bool.{Bool, false}
 use mathlib.Core.List.{List, _++_}
-use mathlib.Core.Logic.{_⊎_}
 use Prim.Native.Nat.{ℕ, _+_, _-_, _≤_, _<_}
 use native.Mathlib.Numerals.{add-one}
 use native.Mathlib.Omega.{arith}
 use lib.Dec.{T, eqb}
 use lib.ListN.{length, getD, take, drop, length-append}
-use Rattle.labels.specs.Events.{event, versionOf}
+use Rattle.labels.specs.Events.{event, versionOf, version}
 use Rattle.labels.specs.Kept.{keptOf}
 use Rattle.labels.specs.Letters.{letterByte, useOfByte}
 use Rattle.labels.specs.Uses.{useOf}
-use Rattle.passes.proofs.Bounds.{event-below}
+use Rattle.labels.proofs.Rules.Events.{version-fits}
+use Rattle.labels.proofs.Rules.Proper.{proper}
 use Rattle.labels.proofs.Letters.{letter-use}
 use Rattle.routine.specs.Actions.{isReference}
 use Rattle.routine.specs.Arrays.{arrayOf}
@@ -27,20 +27,21 @@ use Rattle.state.specs.Current.{settled}
 use Rattle.state.specs.Exit.{left}
 use Rattle.state.specs.Fits.{Fits}
 use Rattle.state.specs.Start.{started}
-use Rattle.state.specs.States.{nothing, stampOf, Current}
+use Rattle.state.specs.States.{stampOf, Current}
 use Rattle.state.specs.Vertex.{labelled, visited, relabelled, Visits}
 use Rattle.state.specs.declared.State.{State}
+use Rattle.state.proofs.States.{current-as}
 use Rattle.state.proofs.Current.{settled-current, settled-copies, settled-before, seen-is, visited-is, no-label}
 use Rattle.path.specs.Paths.{steps, vertexAt, pathCheck}
 use Rattle.report.specs.Records.{recordsAt}
 use Rattle.report.specs.Bytes.{stateOf, recordsBytes}
 use Rattle.demand.specs.Run.{stateAfter, runRecords}
 use Rattle.walk.specs.Walks.{Held, rowBytes, Referred, relabelledAt}
-use Rattle.walk.proofs.Bytes.{recordBytesAt, records-bytes, rows-same}
+use Rattle.walk.proofs.Bytes.{recordBytesAt, records-bytes}
 use Rattle.walk.proofs.Held.{held-as}
 use Rattle.demand.proofs.Demand.{state-fits, reference-below}
 use Rattle.words.specs.Tables.{rows, wrote}
-use Rattle.words.proofs.Tables.{rows-fit, rows-more}
+use Rattle.words.proofs.Tables.{rows-fit, rows-more, rows-same}
 use Rattle.words.proofs.Written.{partFrom, write-more}
 
 -- the records of the first i vertices
@@ -134,10 +135,11 @@ module _ (file path : List ℕ) (well : WellFormed file) (accepted : pathCheck f
       copies-same = settled-copies (getD after b 0) (stateOf states b) ∙ sym (settled-copies (getD stamps b 0) (stateOf states b)) ∙ ap (λ (s : State). s .copies) (is b in-b)
 
       pub visits-after : Visits (event file b v) after-b
+      unfolding version
       visits-after = record {
-        current = subst (λ (k : ℕ). (k < 16) ⊎ (k ≡ nothing)) (sym current-same) (fits b in-b .current);
+        current = current-as (stateAfter file path b i) after-b (sym current-same) (fits b in-b .current);
         few-copies = omega (arith, copies-same, fits b in-b .copies);
-        at-remap = λ t g. subst (λ (x : Action). versionOf x < 16) g (event-below well in-b v);
+        at-remap = λ t g. subst (λ (x : Action). versionOf x < 16) g (version-fits file b (proper file well b in-b) v);
       }
 
       relabelled-next : relabelledAt file b v after-b ≡ stateAfter file path b (i + 1)

@@ -16,16 +16,13 @@ pub record Front (old done out : List ℕ) : Type 0 where
   pub is : out ≡ wrote old done
 
 module _ {old done out : List ℕ} (f : Front old done out) where
-  long : length done ≤ length old → length out ≡ length old
-  long h = ap length (f .is) ∙ wrote-length old done h
-
   -- the part behind it
   module _ {at : ℕ} (here : at ≡ length done) where
     pub starts : at ≤ length old → at ≤ length out
-    starts room = omega (arith, long (omega arith))
+    starts room = omega (arith, wrote-length old done (f .is) (omega arith))
 
     pub lends : {m : ℕ} → at + m ≤ length old → m ≤ length (partFrom out at)
-    lends room = simp (length-take, length-drop) (omega (arith, long (omega arith)))
+    lends room = simp (length-take, length-drop) (omega (arith, wrote-length old done (f .is) (omega arith)))
 
     pub more : (r : List ℕ) {ys : List ℕ} → ys ≡ wrote (partFrom out at) r
         → Front old (done ++ r) (take at out ++ (ys ++ drop (length out - at) (drop at out)))
@@ -44,7 +41,7 @@ begin row n old room = record { within = omega arith; room = room; front = recor
 module _ {row : ℕ → List ℕ} {n : ℕ} {old : List ℕ} {i : ℕ} {out : List ℕ} (f : Filled row n old i out) where
   pub same : length out ≡ length old
   same =
-      long (f .front) (⊎-elim
+      wrote-length old (rows row i) (f .front .is) (⊎-elim
       (λ (e : i ≡ n). omega (arith, ap (λ (j : ℕ). length (rows row j)) e, f .room))
       (λ (l : i < n). omega (arith, rows-fit row n i l, f .room))
       (eq-or-lt-of-le (f .within)))

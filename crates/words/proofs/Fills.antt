@@ -1,14 +1,28 @@
 -- Laws of the loops that fill a table from the front.
 -- Assumes nothing.
-use mathlib.Core.Path.{_≡_, refl, ap, ap₂, _∙_}
-use mathlib.Core.List.{List, [], _∷_, _++_}
-use Prim.Native.Nat.{ℕ, zero, suc, _+_, _≤_, _<_}
+use mathlib.Core.Path.{_≡_, refl, sym, ap, _∙_}
+use mathlib.Core.List.{List, _++_, append-nil}
+use Prim.Native.Nat.{ℕ, _+_, _≤_, _<_}
 use native.Mathlib.Nat.{le-antisymm}
+use native.Mathlib.Numerals.{add-one}
 use native.Mathlib.Omega.{arith}
-use lib.ListN.{length, getD, set, length-set}
+use lib.ListN.{length, getD, set, length-set, drop-of-length-le}
 use lib.Seq.{getD-at, drop-cons}
-use Rattle.words.proofs.Tables.{filled, fill-none, fill-more, fill-all, table-length}
-use Rattle.words.specs.Tables.{table}
+use Rattle.words.specs.Tables.{table, wrote}
+use Rattle.words.proofs.Tables.{table-length}
+use Rattle.words.proofs.Written.{write-one}
+
+-- ---- the first i entries filled, the rest as it was
+
+abbrev pub filled : (ℕ → ℕ) → List ℕ → ℕ → List ℕ
+filled f old i = wrote old (table f i)
+
+fill-more : (f : ℕ → ℕ) (old : List ℕ) (i : ℕ) → i < length old → set (filled f old i) i (f i) ≡ filled f old (i + 1)
+fill-more f old i h = write-one old (table f i) (f i) i (sym (table-length f i)) h ∙ ap (filled f old) (sym (add-one i))
+
+fill-all : (f : ℕ → ℕ) (old : List ℕ) (n : ℕ) → length old ≡ n → filled f old n ≡ table f n
+fill-all f old n h =
+    ap (λ (l : List ℕ). table f n ++ l) (drop-of-length-le old {i = length (table f n)} (omega (arith, table-length f n))) ∙ append-nil (table f n)
 
 -- ---- a table of n entries, of which the first v have been filled in
 
@@ -19,7 +33,7 @@ pub record Filling (f : ℕ → ℕ) (n : ℕ) (old new : List ℕ) (v : ℕ) : 
   pub is : new ≡ filled f old v
 
 pub begin : (f : ℕ → ℕ) {n : ℕ} {old : List ℕ} → length old ≡ n → Filling f n old old 0
-begin f {n} {old} e = record { within = omega arith; whole = e; sized = e; is = fill-none f old }
+begin f {n} {old} e = record { within = omega arith; whole = e; sized = e; is = refl }
 
 module _ {f : ℕ → ℕ} {n : ℕ} {old new : List ℕ} {v : ℕ} (t : Filling f n old new v) where
   -- the next entry
@@ -34,13 +48,8 @@ module _ {f : ℕ → ℕ} {n : ℕ} {old new : List ℕ} {v : ℕ} (t : Filling
   -- the entries behind are as they were
   pub still : v < n → getD new v 0 ≡ getD old v 0
   still h =
-      ap (λ (l : List ℕ). getD l v 0) (t .is ∙ ap (λ (l : List ℕ). table f v ++ l) (drop-cons old v 0 (omega arith)))
-      ∙ getD-at (table f v) (getD old v 0) _ 0 v (table-length f v)
+      ap (λ (l : List ℕ). getD l v 0) (t .is ∙ ap (λ (l : List ℕ). table f v ++ l) (drop-cons old (length (table f v)) 0 (omega (arith, table-length f v))))
+      ∙ getD-at (table f v) (getD old (length (table f v)) 0) _ 0 v (table-length f v) ∙ ap (λ (i : ℕ). getD old i 0) (table-length f v)
 
   pub finish : n ≤ v → new ≡ table f n
   finish h = t .is ∙ ap (filled f old) (le-antisymm (t .within) h) ∙ fill-all f old n (t .whole)
-
--- tables of equal entries are equal
-pub table-ext : {f g : ℕ → ℕ} (n : ℕ) → ((v : ℕ) → v < n → f v ≡ g v) → table f n ≡ table g n
-table-ext zero h = refl
-table-ext (suc n) h = ap₂ (λ (l : List ℕ) (x : ℕ). l ++ (x ∷ [])) (table-ext n (λ v l. h v (omega arith))) (h n (omega arith))

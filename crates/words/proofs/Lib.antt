@@ -1,7 +1,7 @@
 pub mod Fills
 pub mod Filling
-pub mod Cases
 pub mod Rows
 pub mod Sums
 pub mod Tables
+pub mod Tests
 pub mod Written

@@ -1,12 +1,12 @@
 -- Laws of a row that is replaced in a table of eight columns.
 -- Assumes nothing.
-use mathlib.Core.Path.{_≡_, refl, sym, ap, ap₂, subst, _∙_}
+use mathlib.Core.Path.{_≡_, refl, sym, ap, ap₂, _∙_}
 use mathlib.Core.List.{List}
-use mathlib.Core.Logic.{⊎-elim}
 use Prim.Native.Nat.{ℕ, zero, suc, _+_, _*_, _≤_, _<_}
-use native.Mathlib.Nat.{le-refl, le-of-suc-le-suc, eq-or-lt-of-le}
+use native.Mathlib.Nat.{le-refl}
 use native.Mathlib.Numerals.{add-one}
 use native.Mathlib.Omega.{arith}
+use borrow.Author.Count.{below-more}
 use lib.ListN.{length, getD, set, length-set}
 use lib.Seq.{set-getD, getD-set-same, getD-set-other}
 use Rattle.words.specs.Tables.{withRow}
@@ -33,11 +33,10 @@ module _ (s : List ℕ) (v : ℕ) (f : ℕ → ℕ) where
   unfolding withRow
   row-at zero a h l = absurd (omega arith)
   row-at (suc m) a h l =
-      ⊎-elim
-      (λ (e : a ≡ m). subst (λ (x : ℕ). getD (withRow s v f (suc m)) (8 * v + x) 0 ≡ f x) (sym e)
-      (getD-set-same (withRow s v f m) (8 * v + m) _ 0 (omega (arith, row-length m))))
-      (λ (b : a < m). getD-set-other (withRow s v f m) (8 * v + m) (8 * v + a) _ 0 (λ e. omega arith) ∙ row-at m a b (omega arith))
-      (eq-or-lt-of-le (le-of-suc-le-suc h))
+      below-more (λ x. getD (withRow s v f (suc m)) (8 * v + x) 0 ≡ f x) m
+      (λ x b. getD-set-other (withRow s v f m) (8 * v + m) (8 * v + x) _ 0 (λ e. omega arith) ∙ row-at m x b (omega arith))
+      (getD-set-same (withRow s v f m) (8 * v + m) _ 0 (omega (arith, row-length m)))
+      a (omega arith)
 
   -- entries replaced by themselves
   pub row-still : (m : ℕ) → ((a : ℕ) → a < m → f a ≡ getD s (8 * v + a) 0) → withRow s v f m ≡ s

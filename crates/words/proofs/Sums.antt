@@ -1,14 +1,17 @@
--- Laws of sums: one more, bounds, and the length of rows.
+-- Laws of sums: one more, bounds, and the length of rows; and of tests below a number.
 -- Assumes nothing.
 use mathlib.Core.Path.{_≡_, refl, sym, ap, ap₂, _∙_}
-use mathlib.Core.Bool.{Bool, true, false, cond}
+use mathlib.Core.Bool.{Bool, false, _||_, cond}
 use mathlib.Core.List.{List}
-use Prim.Native.Nat.{ℕ, zero, suc, _+_, _*_, _≤_}
+use Prim.Native.Nat.{ℕ, zero, suc, _+_, _*_, _≤_, _<_}
+use native.Mathlib.Nat.{le-refl}
 use native.Mathlib.Numerals.{add-one}
 use native.Mathlib.Omega.{arith}
+use borrow.Author.Count.{below-more}
 use lib.ListN.{length, length-append}
-use Rattle.words.specs.Sums.{total, countOf}
+use Rattle.words.specs.Sums.{total, countOf, anyBelow}
 use Rattle.words.specs.Tables.{rows}
+use Rattle.words.proofs.Tests.{at-cond, neither}
 
 pub total-none : (size : ℕ → ℕ) → 0 ≡ total size 0
 unfolding total
@@ -25,8 +28,7 @@ total-few size k few (suc n) = omega (arith, few n, total-few size k few n)
 
 -- a test counts for at most one
 pub at-most-one : (t : Bool) → cond t 1 0 ≤ 1
-at-most-one true = omega arith
-at-most-one false = omega arith
+at-most-one t = at-cond (λ n. n ≤ 1) t (λ _. omega arith) (λ _. omega arith)
 
 pub count-few : (test : ℕ → Bool) (n : ℕ) → countOf test n ≤ n
 count-few test n = omega (arith, total-few (λ i. cond (test i) 1 0) 1 (λ i. at-most-one (test i)) n)
@@ -36,3 +38,26 @@ pub rows-total : (row : ℕ → List ℕ) (size : ℕ → ℕ) (k : ℕ) → ((i
 unfolding rows total
 rows-total row size k wide zero = omega arith
 rows-total row size k wide (suc n) = omega (arith, length-append (rows row n) (row n), wide n, rows-total row size k wide n)
+
+-- ---- a test below n
+
+pub any-none : (test : ℕ → Bool) → anyBelow test 0 ≡ false
+unfolding anyBelow
+any-none test = refl
+
+pub any-next : (test : ℕ → Bool) (n : ℕ) {b c : Bool} → b ≡ anyBelow test n → c ≡ test n → (b || c) ≡ anyBelow test (n + 1)
+unfolding anyBelow
+any-next test n e f = ap₂ _||_ e f ∙ ap (anyBelow test) (sym (add-one n))
+
+-- where it passes nowhere, each test fails, and the other way round
+pub each-fails : (test : ℕ → Bool) (n : ℕ) → anyBelow test n ≡ false → (i : ℕ) → i < n → test i ≡ false
+unfolding anyBelow
+each-fails test zero e i h = absurd (omega arith)
+each-fails test (suc n) e i h =
+    let p = neither (anyBelow test n) (test n) e in
+    below-more (λ i. test i ≡ false) n (each-fails test n (p .0)) (p .1) i (omega arith)
+
+pub none-below : (test : ℕ → Bool) (n : ℕ) → ((i : ℕ) → i < n → test i ≡ false) → anyBelow test n ≡ false
+unfolding anyBelow
+none-below test zero h = refl
+none-below test (suc n) h = rw (none-below test n (λ i l. h i (omega arith)), h n (le-refl (suc n)))

@@ -1,14 +1,14 @@
--- Laws of lists built by counting, and of the loops that fill them.
+-- Laws of lists built by counting, and of stores in lists.
 -- Assumes nothing.
-use mathlib.Core.Path.{_≡_, refl, sym, ap, _∙_}
-use mathlib.Core.List.{List, [], _∷_, _++_, append-assoc, append-nil}
-use mathlib.Core.Logic.{⊎-elim}
+use mathlib.Core.Path.{_≡_, refl, sym, ap, ap₂, _∙_}
+use mathlib.Core.List.{List, [], _∷_, _++_}
 use Prim.Native.Nat.{ℕ, zero, suc, _+_, _*_, _≤_, _<_, zero-le}
-use native.Mathlib.Nat.{zero-mul, eq-or-lt-of-le, le-of-suc-le-suc}
+use native.Mathlib.Nat.{zero-mul}
 use native.Mathlib.Numerals.{add-one}
 use native.Mathlib.Omega.{arith}
-use lib.ListN.{length, getD, set, drop, length-append, length-drop, List·getD-append, drop-of-length-le}
-use lib.Seq.{set-at, getD-at, drop-cons}
+use borrow.Author.Count.{below-more}
+use lib.ListN.{length, getD, set, replicate, length-append, List·getD-append}
+use lib.Seq.{getD-at, getD-set-same, getD-set-other}
 use Rattle.words.specs.Tables.{table, rows}
 
 -- ---- tables of numbers
@@ -21,31 +21,37 @@ table-length f (suc n) =
 pub table-at : (f : ℕ → ℕ) (n v : ℕ) → v < n → getD (table f n) v 0 ≡ f v
 table-at f zero v h = absurd (omega arith)
 table-at f (suc n) v h =
-    ⊎-elim
-    (λ (e : v ≡ n). getD-at (table f n) (f n) [] 0 v (table-length f n ∙ sym e) ∙ ap f (sym e))
-    (λ (l : v < n). List·getD-append (table f n) (f n ∷ []) 0 v (omega (arith, table-length f n)) ∙ table-at f n v l)
-    (eq-or-lt-of-le (le-of-suc-le-suc h))
+    below-more (λ u. getD (table f (suc n)) u 0 ≡ f u) n
+    (λ u l. List·getD-append (table f n) (f n ∷ []) 0 u (omega (arith, table-length f n)) ∙ table-at f n u l)
+    (getD-at (table f n) (f n) [] 0 n (table-length f n))
+    v (omega arith)
 
--- the first i entries filled, the rest as it was
-abbrev pub filled : (ℕ → ℕ) → List ℕ → ℕ → List ℕ
-filled f old i = table f i ++ drop i old
+-- tables of equal entries are equal
+pub table-ext : {f g : ℕ → ℕ} (n : ℕ) → ((v : ℕ) → v < n → f v ≡ g v) → table f n ≡ table g n
+table-ext zero h = refl
+table-ext (suc n) h = ap₂ (λ (l : List ℕ) (x : ℕ). l ++ (x ∷ [])) (table-ext n (λ v l. h v (omega arith))) (h n (omega arith))
 
-pub fill-none : (f : ℕ → ℕ) (old : List ℕ) → old ≡ filled f old 0
-fill-none f old = refl
+-- ---- stores
 
-pub filled-length : (f : ℕ → ℕ) (old : List ℕ) (i : ℕ) → i ≤ length old → length (filled f old i) ≡ length old
-filled-length f old i h =
-    length-append (table f i) (drop i old)
-    ∙ (let e : length (table f i) + length (drop i old) ≡ length old = omega (arith, table-length f i, length-drop i old) in e)
+-- what holds of the stored element at its index, and of each old one, holds after a store
+pub at-set : (Q : ℕ → ℕ → Type 0) (s : List ℕ) (i m v : ℕ) → Q i m → Q v (getD s v 0) → Q v (getD (set s i m) v 0)
+at-set Q [] i m v new old = old
+at-set Q (x ∷ s) zero m zero new old = new
+at-set Q (x ∷ s) zero m (suc v) new old = old
+at-set Q (x ∷ s) (suc i) m zero new old = old
+at-set Q (x ∷ s) (suc i) m (suc v) new old = at-set (λ u. Q (suc u)) s i m v new old
 
-pub fill-more : (f : ℕ → ℕ) (old : List ℕ) (i : ℕ) → i < length old → set (filled f old i) i (f i) ≡ filled f old (i + 1)
-fill-more f old i h =
-    ap (λ (l : List ℕ). set (table f i ++ l) i (f i)) (drop-cons old i 0 h)
-    ∙ set-at (table f i) (getD old i 0) (drop (suc i) old) (f i) i (table-length f i)
-    ∙ sym (append-assoc (table f i) (f i ∷ []) (drop (suc i) old)) ∙ ap (λ (j : ℕ). filled f old j) (sym (add-one i))
+-- the first entries are as they should be, and a store makes it one more
+pub entries-next : {A : Type 0} (d : A) (f : ℕ → A) (s : List A) (a : ℕ) {x : A} → a < length s → ((b : ℕ) → b < a → getD s b d ≡ f b) → x ≡ f a
+    → (b : ℕ) → b < a + 1 → getD (set s a x) b d ≡ f b
+entries-next d f s a {x} room first e =
+    below-more (λ b. getD (set s a x) b d ≡ f b) a (λ b h. getD-set-other s a b x d (λ q. omega arith) ∙ first b h) (getD-set-same s a x d room ∙ e)
 
-pub fill-all : (f : ℕ → ℕ) (old : List ℕ) (n : ℕ) → length old ≡ n → filled f old n ≡ table f n
-fill-all f old n h = ap (λ (l : List ℕ). table f n ++ l) (drop-of-length-le old {i = n} (omega arith)) ∙ append-nil (table f n)
+-- a list of zeros has 0 everywhere
+pub zeros-at : (n v : ℕ) → _≡_ {A = ℕ} (getD (replicate n 0) v 0) 0
+zeros-at zero v = refl
+zeros-at (suc n) zero = refl
+zeros-at (suc n) (suc v) = zeros-at n v
 
 -- ---- rows
 
@@ -54,10 +60,16 @@ pub rows-fit : (row : ℕ → List ℕ) (n i : ℕ) → i < n → length (rows r
 unfolding rows
 rows-fit row zero i h = absurd (omega arith)
 rows-fit row (suc n) i h =
-    ⊎-elim
-    (λ (e : i ≡ n). omega (arith, length-append (rows row n) (row n), ap (λ (j : ℕ). length (rows row j) + length (row j)) e))
-    (λ (l : i < n). omega (arith, length-append (rows row n) (row n), rows-fit row n i l))
-    (eq-or-lt-of-le (le-of-suc-le-suc h))
+    below-more (λ j. length (rows row j) + length (row j) ≤ length (rows row (suc n))) n
+    (λ j l. omega (arith, length-append (rows row n) (row n), rows-fit row n j l))
+    (omega (arith, length-append (rows row n) (row n)))
+    i (omega arith)
+
+-- rows of equal lists are equal
+pub rows-same : {A : Type 0} (f g : ℕ → List A) (n : ℕ) → ((i : ℕ) → i < n → f i ≡ g i) → rows f n ≡ rows g n
+unfolding rows
+rows-same f g zero same = refl
+rows-same f g (suc n) same = ap₂ _++_ (rows-same f g n (λ i h. same i (omega arith))) (same n (omega arith))
 
 pub rows-more : (row : ℕ → List ℕ) (i : ℕ) → rows row i ++ row i ≡ rows row (i + 1)
 unfolding rows

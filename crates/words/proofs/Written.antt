@@ -8,9 +8,10 @@ use lib.ListN.{length, getD, set, take, drop, length-append, length-take, length
 use lib.Seq.{set-at, drop-cons, take-at, drop-at, drop-drop, take-all, length-take-le}
 use Rattle.words.specs.Tables.{wrote}
 
-pub wrote-length : (old done : List ℕ) → length done ≤ length old → length (wrote old done) ≡ length old
-wrote-length old done h =
-    length-append done (drop (length done) old)
+-- a buffer keeps its length
+pub wrote-length : (old done : List ℕ) {out : List ℕ} → out ≡ wrote old done → length done ≤ length old → length out ≡ length old
+wrote-length old done e h =
+    ap length e ∙ length-append done (drop (length done) old)
     ∙ (let e : length done + length (drop (length done) old) ≡ length old = omega (arith, length-drop (length done) old) in e)
 
 -- one more byte behind what has been written
@@ -21,25 +22,17 @@ write-one old done b at here room =
     ∙ sym (append-assoc done (b ∷ []) (drop (suc (length done)) old))
     ∙ ap (λ (n : ℕ). (done ++ (b ∷ [])) ++ drop n old) (let e : suc (length done) ≡ length (done ++ (b ∷ [])) = omega (arith, length-append done (b ∷ [])) in e)
 
--- ---- a slice whose first n entries are lent
-
-pub front-length : (n : ℕ) {size : ℕ} (xs : List ℕ) → length xs ≡ size → n ≤ size → length (take n xs) ≡ n
-front-length n xs e h = length-take-le n xs (omega arith)
-
--- it keeps its length if the part does
-pub put-back : (old new : List ℕ) (n : ℕ) → length new ≡ length (take n old) → length (new ++ drop n old) ≡ length old
-put-back old new n e =
-    length-append new (drop n old)
-    ∙ (let all : length new + length (drop n old) ≡ length old = omega (arith, length-take n old, length-drop n old) in all)
-
 -- ---- a slice whose part behind what has been written is lent
 
 -- what a callee sees of `&mut xs[at..]`
 abbrev pub partFrom : List ℕ → ℕ → List ℕ
 partFrom xs at = take (length xs - at) (drop at xs)
 
+pub part-is : (xs : List ℕ) (at : ℕ) → partFrom xs at ≡ drop at xs
+part-is xs at = take-all (length xs - at) (drop at xs) (omega (arith, length-drop at xs))
+
 pub part-length : (xs : List ℕ) (at : ℕ) → length (partFrom xs at) ≡ length xs - at
-part-length xs at = omega (arith, length-take (length xs - at) (drop at xs), length-drop at xs)
+part-length xs at = ap length (part-is xs at) ∙ length-drop at xs
 
 -- what comes back of it is as long
 pub lent-length : (xs ys : List ℕ) (at : ℕ) → at ≤ length xs → length ys ≡ length (partFrom xs at)
@@ -50,9 +43,8 @@ lent-length xs ys at fits e =
 -- what comes back of it, if its first bytes were written
 lent-back : (xs r ys : List ℕ) (at : ℕ) → ys ≡ r ++ drop (length r) (partFrom xs at) → ys ++ drop (length xs - at) (drop at xs) ≡ r ++ drop (length r) (drop at xs)
 lent-back xs r ys at e =
-    let short : length (drop at xs) ≤ length xs - at = omega (arith, length-drop at xs) in
-    ap (λ (l : List ℕ). ys ++ l) (drop-of-length-le (drop at xs) short) ∙ append-nil ys ∙ e
-    ∙ ap (λ (l : List ℕ). r ++ drop (length r) l) (take-all (length xs - at) (drop at xs) short)
+    ap (λ (l : List ℕ). ys ++ l) (drop-of-length-le (drop at xs) {i = length xs - at} (omega (arith, length-drop at xs))) ∙ append-nil ys ∙ e
+    ∙ ap (λ (l : List ℕ). r ++ drop (length r) l) (part-is xs at)
 
 -- a callee that is lent the part behind what has been written, and writes r at its front
 pub write-more :

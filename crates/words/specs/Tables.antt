@@ -10,7 +10,7 @@ table f zero = []
 table f (suc n) = table f n ++ (f n ∷ [])
 
 -- n lists, one after the other
-unfoldable pub rows : (ℕ → List ℕ) → ℕ → List ℕ
+unfoldable pub rows : {A : Type 0} → (ℕ → List A) → ℕ → List A
 rows row zero = []
 rows row (suc n) = rows row n ++ row n
 

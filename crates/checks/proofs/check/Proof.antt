@@ -5,7 +5,7 @@ use Prim.Native.Nat.{ℕ}
 use native.Mathlib.Omega.{arith}
 use borrow.Author.Needs.{needs}
 use Rattle.labels.specs.Checks.{check21, programmerCheck}
-use Rattle.routine.proofs.Laws.{fails, passes}
+use Rattle.refusal.proofs.Checks.{fails, passes}
 use Rattle.checks.proofs.check.Statement.{statement}
 use Rattle.checks.proofs.check.Tie as tie
 

@@ -6,7 +6,7 @@ use native.Mathlib.Omega.{arith}
 use borrow.Author.Needs.{needs}
 use Rattle.labels.specs.Ambiguity.{isAmbiguous}
 use Rattle.labels.specs.Checks.{check21}
-use Rattle.routine.proofs.Laws.{Undecided, start, stop, next, done}
+use Rattle.refusal.proofs.Checks.{Undecided, start, stop, next, done}
 use Rattle.refusal.specs.Checks.{holds, firstFailed}
 use Rattle.routine.specs.Layout.{arrays, vertices}
 use Rattle.refusal.specs.declared.Refusal.the-variants.{AmbiguousReference}

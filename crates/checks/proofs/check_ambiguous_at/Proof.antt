@@ -8,13 +8,12 @@ use borrow.Author.Needs.{needs}
 use lib.ListN.{getD}
 use Rattle.labels.specs.Ambiguity.{isAmbiguous}
 use Rattle.sets.specs.Sets.{has, several}
-use Rattle.routine.proofs.Laws.{Undecided, start, stop, next, done}
+use Rattle.refusal.proofs.Checks.{Undecided, start, stop, next, done}
 use Rattle.refusal.specs.Checks.{holds}
 use Rattle.routine.specs.Layout.{arrays}
 use Rattle.refusal.specs.declared.Refusal.the-variants.{AmbiguousReference}
 use Rattle.passes.proofs.Cells.{few-cells, in-table}
-use Rattle.checks.proofs.Faults.{faulty, faultless}
-use Rattle.checks.proofs.Rows.{ambiguous-cell}
+use Rattle.checks.proofs.Rows.{ambiguous-cell, faulty, faultless}
 use Rattle.checks.proofs.check_ambiguous_at.Statement.{statement}
 use Rattle.checks.proofs.check_ambiguous_at.Tie as tie
 

@@ -5,7 +5,7 @@ use Prim.Native.Nat.{_-_}
 use native.Mathlib.Omega.{arith}
 use borrow.Author.Needs.{needs}
 use Rattle.labels.specs.Checks.{writesIn, check20}
-use Rattle.routine.proofs.Laws.{Undecided, start, stop, next, done}
+use Rattle.refusal.proofs.Checks.{Undecided, start, stop, next, done}
 use Rattle.refusal.specs.Checks.{holds, firstFailed}
 use Rattle.routine.specs.Layout.{arrays, vertices}
 use Rattle.refusal.specs.declared.Refusal.the-variants.{WritesInArgument}

@@ -9,13 +9,12 @@ use lib.Bits.{bitAnd}
 use lib.Dec.{eqb}
 use lib.ListN.{getD}
 use Rattle.labels.specs.Checks.{writesIn}
-use Rattle.routine.proofs.Laws.{Undecided, start, stop, next, done}
+use Rattle.refusal.proofs.Checks.{Undecided, start, stop, next, done}
 use Rattle.refusal.specs.Checks.{holds}
 use Rattle.routine.specs.Layout.{arrays}
 use Rattle.refusal.specs.declared.Refusal.the-variants.{WritesInArgument}
 use Rattle.passes.proofs.Cells.{in-eight, few-cells, in-table}
-use Rattle.checks.proofs.Faults.{faulty, faultless}
-use Rattle.checks.proofs.Rows.{writes-cell}
+use Rattle.checks.proofs.Rows.{writes-cell, faulty, faultless}
 use Rattle.checks.proofs.check_writes_at.Statement.{statement}
 use Rattle.checks.proofs.check_writes_at.Tie as tie
 

@@ -9,7 +9,7 @@ use lib.ListN.{length, getD, length-set}
 use Rattle.routine.specs.Arrays.{kind, isIn}
 use Rattle.routine.specs.Layout.{arrays}
 use Rattle.routine.specs.declared.array.ArrayRecord.{ArrayRecord}
-use Rattle.checks.proofs.Rows.{entries-next}
+use Rattle.words.proofs.Tables.{entries-next}
 use Rattle.checks.proofs.in_masks.Statement.{statement}
 use Rattle.checks.proofs.in_masks.Tie as tie
 
@@ -35,12 +35,8 @@ set-if-requires c κs = search needs
 mul-masks : tie.Need-mul-masks Inv-loop μ-loop
 mul-masks c = omega arith
 
--- a column for each array
-in-row : (c : tie.At-loop Inv-loop μ-loop) → arrays (c .before .before .args .file .now) ≤ 8
-in-row c = c .before .before .pre .well .laid .limits .few-arrays
-
 array-write-masks : tie.Need-array-write-masks Inv-loop μ-loop
-array-write-masks c = omega (arith, in-row (c .before .before .before .before), c .before .before .before .before .before .before .pre .heads .arrays-are)
+array-write-masks c = omega (arith, c .before .before .before .before .before .before .pre .well .laid .limits .few-arrays, c .before .before .before .before .before .before .pre .heads .arrays-are)
 
 add-a : tie.Need-add-a Inv-loop μ-loop
 add-a c = omega arith
@@ -55,7 +51,7 @@ loop-again c =
     let below : l .loop .a < arrays (s .args .file .now) = omega (arith, s .pre .heads .arrays-are) in (
       omega arith,
       length-set (l .loop .masks) _ _ ∙ l .loop .inv .1,
-      entries-next (λ b. cond (isIn (kind (s .args .file .now) b)) 0b1000 0) (l .loop .masks) (l .loop .a) (omega (arith, l .loop .inv .1, in-row l)) (l .loop .inv .2)
+      entries-next 0 (λ b. cond (isIn (kind (s .args .file .now) b)) 0b1000 0) (l .loop .masks) (l .loop .a) (omega (arith, l .loop .inv .1, s .pre .well .laid .limits .few-arrays)) (l .loop .inv .2)
           (c .set-if .ensures ∙ ap (λ (b : Bool). cond b 0b1000 0) (c .before .is-in .ensures ∙ ap (λ (r : ArrayRecord). isIn (r .kind)) (c .before .before .record-of .ensures))),
     )
 

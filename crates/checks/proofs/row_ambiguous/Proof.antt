@@ -8,8 +8,8 @@ use native.Mathlib.Omega.{arith}
 use borrow.Author.Needs.{needs}
 use lib.ListN.{getD}
 use Rattle.sets.specs.Sets.{has, several}
-use Rattle.checks.specs.Rows.{anyBelow}
-use Rattle.checks.proofs.Rows.{any-none, any-next}
+use Rattle.words.specs.Sums.{anyBelow}
+use Rattle.words.proofs.Sums.{any-none, any-next}
 use Rattle.checks.proofs.row_ambiguous.Statement.{statement}
 use Rattle.checks.proofs.row_ambiguous.Tie as tie
 

@@ -9,8 +9,8 @@ use borrow.Author.Needs.{needs}
 use lib.Bits.{bitAnd}
 use lib.Dec.{eqb}
 use lib.ListN.{getD}
-use Rattle.checks.specs.Rows.{anyBelow}
-use Rattle.checks.proofs.Rows.{any-none, any-next}
+use Rattle.words.specs.Sums.{anyBelow}
+use Rattle.words.proofs.Sums.{any-none, any-next}
 use Rattle.checks.proofs.row_writes.Statement.{statement}
 use Rattle.checks.proofs.row_writes.Tie as tie
 

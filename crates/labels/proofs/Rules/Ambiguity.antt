@@ -7,17 +7,17 @@ use mathlib.Core.Logic.{_↔_, Iff·rfl}
 use Prim.Native.Nat.{ℕ, _^_, _<_}
 use lib.Dec.{T}
 use lib.ListN.{getD}
-use Rattle.flow.proofs.Tests.{and-iff}
+use lib.Ieee.Bits.{is-true}
+use Rattle.words.proofs.Tests.{cond-not, and-iff}
 use Rattle.routine.specs.Actions.{isReference}
 use Rattle.sets.specs.Sets.{has, several}
 use Rattle.sets.proofs.Laws.{several-two, two-several}
 use Rattle.labels.specs.Ambiguity.{Brings, Ambiguous, arriveGives, arrivePasses, arrivingSets, isAmbiguous}
-use Rattle.labels.specs.Events.{width, event, isLabel, version}
+use Rattle.labels.specs.Events.{width, everyVersion, event, isLabel, version}
 use Rattle.labels.proofs.Rules.Proper.{Proper}
 use Rattle.labels.specs.Reaching.{isReached}
 use Rattle.labels.proofs.Rules.Arrivals.{last-exact}
-use Rattle.labels.proofs.Rules.Tests.{is-true}
-use Rattle.labels.proofs.Rules.Versions.{all-but, versions-exact, versions-fit}
+use Rattle.labels.proofs.Rules.Versions.{versions-exact, versions-fit}
 
 module _ (file : List ℕ) (a : ℕ) (proper : Proper file a) (v : ℕ) where
   -- an arriving set is a 16-bit mask
@@ -29,7 +29,7 @@ module _ (file : List ℕ) (a : ℕ) (proper : Proper file a) (v : ℕ) where
   pub arriving-exact : (k : ℕ) → T (has (getD (arrivingSets file a) v 0) k) ↔ Brings file a v k
   unfolding arrivingSets arriveGives arrivePasses
   arriving-exact k =
-      let f = versions-exact file a proper false _ _ (λ u. isReached file u && isLabel file a u) (λ u. not (isLabel file a u)) (λ u. refl) (λ u. all-but (isLabel file a u))
+      let f = versions-exact file a proper false _ _ (λ u. isReached file u && isLabel file a u) (λ u. not (isLabel file a u)) (λ u. refl) (λ u. cond-not (isLabel file a u) 0 everyVersion)
       _ (λ u. and-iff (isReached file u) (isLabel file a u) Iff·rfl Iff·rfl) v k in
       let g = last-exact (isLabel file a) (version file a) file (proper .ends) v k in
       (λ h. let p = g .1 (f .0 h) in record { before = p .0; path = p .1; last = p .2 }, λ b. f .1 (g .0 (b .before, b .path, b .last)))

@@ -1,27 +1,27 @@
 -- Paths from the entry: which vertices they reach, and which vertex of a kind is the last on them.
 -- Assumes nothing.
 use mathlib.Core.Path.{_≡_, refl, ap, subst, _∙_}
-use mathlib.Core.Bool.{Bool, true, false, not, cond}
+use mathlib.Core.Bool.{Bool, true, false, not, cond, and-true}
 use mathlib.Core.List.{List, [], _∷_, _++_}
 use mathlib.Core.Logic.{_↔_, _⊎_, inl, inr, ⊎-elim}
 use mathlib.Core.Option.{Option, none, some, Option·none-ne-some}
 use Prim.Native.Nat.{ℕ}
 use lib.Dec.{T, eqb}
+use lib.Ieee.Bits.{is-true, is-false}
 use Rattle.flow.specs.Paths.{Edge, Path, last, next, Joined, AllPass}
 use Rattle.flow.specs.Solver.{Ends}
-use Rattle.flow.proofs.Tests.{either, or-iff}
+use Rattle.words.proofs.Tests.{either, or-iff, eqb-iff}
 use Rattle.flow.proofs.Paths.{list-iff, extend}
 use Rattle.routine.specs.Layout.{vertices, entry}
 use Rattle.sets.specs.Sets.{has}
+use Rattle.sets.proofs.Laws.{has-cond}
 use Rattle.labels.specs.Events.{edgeBytes}
 use Rattle.labels.specs.Reaching.{ArrivesBy, orLast, lastVersion, reachedSets, isReached}
 use Rattle.labels.proofs.Rules.Tables.{Finds, solved}
-use Rattle.labels.proofs.Rules.Tests.{is-true, is-false, eqb-iff}
 
 one-if : (b : Bool) → has (cond b 1 0) 0 ≡ b
 unfolding has
-one-if true = refl
-one-if false = refl
+one-if b = has-cond b 1 0 ∙ and-true b
 
 all-pass : (us : List ℕ) → AllPass (λ u. true) us
 all-pass [] = tt

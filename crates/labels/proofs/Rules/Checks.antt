@@ -14,7 +14,7 @@ use Rattle.refusal.specs.declared.Refusal.{Refusal}
 use Rattle.refusal.specs.declared.Refusal.the-variants.{WritesInArgument, AmbiguousReference}
 use Rattle.refusal.specs.declared.Verdict.{Verdict}
 use Rattle.refusal.specs.declared.Verdict.the-variants.{Passed, Failed}
-use Rattle.routine.proofs.Laws.{each-passed, all-passed, scan-failed, failed-scan}
+use Rattle.refusal.proofs.Checks.{each-passed, all-passed, scan-failed, failed-scan}
 use Rattle.labels.specs.Ambiguity.{Ambiguous, isAmbiguous}
 use Rattle.labels.specs.Checks.{firstFault, FirstFault, writesIn, check20, check21}
 use Rattle.labels.proofs.Rules.Proper.{Proper}

@@ -3,7 +3,7 @@
 use mathlib.Core.Path.{_≡_, refl, ap}
 use mathlib.Core.Bool.{Bool, true, false, not, _&&_, false≢true}
 use mathlib.Core.List.{List}
-use mathlib.Core.Logic.{_↔_}
+use mathlib.Core.Logic.{_↔_, Iff·trans}
 use Prim.Native.Nat.{ℕ}
 use lib.Dec.{T}
 use Rattle.routine.specs.Reader.{WellFormed}
@@ -35,11 +35,7 @@ demand2 file well = record {
   letters = λ a v h. use-exact file a (proper file well a h) v;
   reaching = λ a v h. reaching-exact file a (proper file well a h) v;
   kept = λ a v h. kept-exact file a (proper file well a h) v;
-  dropped =
-      λ a v h l e.
-      let n = dropped-n file a v l in
-      let d = dropped-exact file a (proper file well a h) v e in
-      (λ k. d .0 (n .0 k), λ u. n .1 (d .1 u));
+  dropped = λ a v h l e. Iff·trans (dropped-n file a v l) (dropped-exact file a (proper file well a h) v e);
   unambiguous = check21-passed file (proper file well);
   ambiguous = check21-failed file (proper file well);
 }

@@ -9,15 +9,15 @@ use lib.Bits.{bitOr, or-lt, or-zero-r}
 use lib.Dec.{T}
 use lib.ListN.{getD}
 use lib.Pow.{pow-pos}
-use Rattle.flow.proofs.Tests.{member-or}
+use Rattle.flow.proofs.Members.{member-or, member-cond, member-single}
 use Rattle.sets.specs.Sets.{has}
+use Rattle.words.proofs.Tests.{at-cond}
 use Rattle.labels.specs.declared.Use.{Use}
 use Rattle.labels.specs.declared.Use.the-variants.{N, D, R, W}
 use Rattle.labels.specs.Events.{width, version, isLabel}
 use Rattle.labels.specs.Kept.{isNOrR, passesKept, KeepsFor, InKept, leavingSet, keptSets, keptOf}
 use Rattle.labels.proofs.Rules.Proper.{Proper}
 use Rattle.labels.specs.Uses.{useOf, isN, isKept, Leaves}
-use Rattle.labels.proofs.Rules.Tests.{member-cond, member-single}
 use Rattle.labels.proofs.Rules.Versions.{single-fits, versions-exact, versions-fit}
 
 module _ (file : List ℕ) (a : ℕ) (proper : Proper file a) (v : ℕ) where
@@ -45,11 +45,9 @@ module _ (file : List ℕ) (a : ℕ) (proper : Proper file a) (v : ℕ) where
   -- a kept set is a 16-bit mask
   pub kept-fits : keptOf file a v < 2 ^ width
   unfolding keptOf leavingSet keptSets
-  kept-fits = or-lt width _ _ (single-fits file a proper (isKept file a v) v) (go (isNOrR (useOf file a v)))
-    where
-      go : (b : Bool) → cond b (getD (keptSets file a) v 0) 0 < 2 ^ width
-      go true = versions-fit file a proper true _ _ (isKept file a) (passesKept file a) (λ u. refl) v
-      go false = pow-pos width
+  kept-fits =
+      or-lt width _ _ (single-fits file a proper (isKept file a v) v)
+      (at-cond (λ m. m < 2 ^ width) (isNOrR (useOf file a v)) (λ _. versions-fit file a proper true _ _ (isKept file a) (passesKept file a) (λ u. refl) v) (λ _. pow-pos width))
 
 -- the kept set of a D or W label is its own version alone
 pub kept-alone : (file : List ℕ) (a v : ℕ) {u : Use} → useOf file a v ≡ u → T (not (isNOrR u)) → T (isLabel file a v) → keptOf file a v ≡ 2 ^ version file a v

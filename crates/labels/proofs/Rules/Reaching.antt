@@ -9,21 +9,22 @@ use Prim.Native.Nat.{ℕ, _^_, _<_}
 use lib.Dec.{T, eqb, T-not, not-T}
 use lib.ListN.{getD}
 use lib.Pow.{pow-pos}
+use lib.Ieee.Bits.{is-false}
 use Rattle.flow.specs.Paths.{Edge, Joined}
-use Rattle.flow.proofs.Tests.{either, or-iff, and-iff}
+use Rattle.words.proofs.Tests.{at-cond, cond-not, either, or-iff, and-iff, eqb-iff}
 use Rattle.flow.proofs.Paths.{list-iff}
-use Rattle.routine.specs.Layout.{vertices, entry}
+use Rattle.routine.specs.Layout.{entry}
 use Rattle.sets.specs.Sets.{has}
 use Rattle.sets.proofs.Laws.{has-zero, same}
-use Rattle.labels.specs.Events.{width, edgeBytes, event, version}
+use Rattle.labels.specs.Events.{width, everyVersion, edgeBytes, event, version}
 use Rattle.routine.specs.Arrays.{kind, initial, isInOrInout}
 use Rattle.labels.proofs.Rules.Proper.{Proper}
 use Rattle.labels.specs.Reaching.{ArrivesBy, lastVersion, orInitial, Reaches, isReached, reachGives, reachPasses, reachSets, reachingOf}
 use Rattle.labels.specs.Uses.{isKept}
 use Rattle.labels.proofs.Rules.Arrivals.{reached-exact, last-none, Last, last-of, last-exact}
 use Rattle.labels.proofs.Rules.Tables.{Finds}
-use Rattle.labels.proofs.Rules.Tests.{is-false, eqb-iff, member-cond, member-single}
-use Rattle.labels.proofs.Rules.Versions.{all-but, single-fits, versions-exact, versions-fit}
+use Rattle.flow.proofs.Members.{member-cond, member-single}
+use Rattle.labels.proofs.Rules.Versions.{single-fits, versions-exact, versions-fit}
 
 -- the entry's version is the initial one
 entry-version : (file : List ℕ) (a u : ℕ) → u ≡ entry → version file a u ≡ initial file a
@@ -64,7 +65,7 @@ module _ (file : List ℕ) (a : ℕ) (proper : Proper file a) (v k : ℕ) where
   sets-exact : T (has (getD (reachSets file a) v 0) k) ↔ Found
   unfolding reachSets reachGives reachPasses
   sets-exact = versions-exact file a proper false _ _
-      (λ u. isReached file u && (isKept file a u || (eqb u entry && isInOrInout (kind file a)))) (λ u. not (isKept file a u)) (λ u. refl) (λ u. all-but (isKept file a u))
+      (λ u. isReached file u && (isKept file a u || (eqb u entry && isInOrInout (kind file a)))) (λ u. not (isKept file a u)) (λ u. refl) (λ u. cond-not (isKept file a u) 0 everyVersion)
       _ (λ u. and-iff (isReached file u) _ Iff·rfl (or-iff (isKept file a u) _ Iff·rfl (and-iff (eqb u entry) _ (eqb-iff u entry) Iff·rfl))) v k
 
   reaches : Found → Reaches file a v k
@@ -112,11 +113,10 @@ module _ (file : List ℕ) (a : ℕ) (proper : Proper file a) (v : ℕ) where
   -- a reaching set is a 16-bit mask
   pub reaching-fits : reachingOf file a v < 2 ^ width
   unfolding reachingOf reachSets reachGives version event
-  reaching-fits = go (eqb v entry)
-    where
-      go : (b : Bool) → cond b (cond (isInOrInout (kind file a)) (2 ^ initial file a) 0) (getD (reachSets file a) v 0) < 2 ^ width
-      go true = single-fits file a proper (isInOrInout (kind file a)) entry
-      go false = versions-fit file a proper false _ _ (λ u. isReached file u && (isKept file a u || (eqb u entry && isInOrInout (kind file a)))) (λ u. not (isKept file a u)) (λ u. refl) v
+  reaching-fits =
+      at-cond (λ m. m < 2 ^ width) (eqb v entry)
+      (λ _. single-fits file a proper (isInOrInout (kind file a)) entry)
+      (λ _. versions-fit file a proper false _ _ (λ u. isReached file u && (isKept file a u || (eqb u entry && isInOrInout (kind file a)))) (λ u. not (isKept file a u)) (λ u. refl) v)
 
   -- unreachable vertices are accepted; their reaching sets are empty
   pub reaching-none : T (not (isReached file v)) → reachingOf file a v ≡ 0

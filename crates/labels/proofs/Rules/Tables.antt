@@ -11,7 +11,7 @@ use lib.ListN.{getD, List·getD-eq-default}
 use Rattle.sets.specs.Sets.{has}
 use Rattle.flow.specs.Paths.{Path, last, next}
 use Rattle.flow.specs.Solver.{Leads, Ends, solution}
-use Rattle.flow.proofs.Tests.{either}
+use Rattle.words.proofs.Tests.{either}
 use Rattle.flow.proofs.Paths.{path-ends}
 use Rattle.flow.proofs.Exact.{exact}
 use Rattle.words.specs.Tables.{table}

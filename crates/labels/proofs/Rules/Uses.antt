@@ -7,6 +7,7 @@ use mathlib.Core.Logic.{_↔_, Iff·rfl, _⊎_, inl, inr, ⊎-elim}
 use Prim.Native.Nat.{ℕ}
 use lib.Dec.{T, eqb}
 use lib.ListN.{getD}
+use lib.Ieee.Fits.{and-l}
 use Rattle.flow.specs.Paths.{Edge, Path, last, next}
 use Rattle.flow.proofs.Paths.{weaken, split-first}
 use Rattle.routine.specs.Actions.{isReference, isRemap}
@@ -21,7 +22,7 @@ use Rattle.labels.proofs.Rules.Proper.{Proper}
 use Rattle.labels.specs.Uses.{Segment, UndefinedSegment, Meets, MeetsUndefined, Unused, Rule, exitUse, IsUse, useGives, usePasses, useSets, letterOf, useOf}
 use Rattle.labels.proofs.Rules.Events.{by-event}
 use Rattle.labels.proofs.Rules.Tables.{Finds, solved}
-use Rattle.labels.proofs.Rules.Tests.{or-left, and-left, eqb-iff}
+use Rattle.words.proofs.Tests.{or-left, eqb-iff}
 
 -- ---- the rules leave one letter at most
 
@@ -39,7 +40,7 @@ module _ (file : List ℕ) (a v : ℕ) where
   read-first : Meets file a isRead v → MeetsUndefined file a needsValue v ⊎ Meets file a isWrite v
   read-first m = ⊎-elim
       (λ t. inl (record { place = m .place; segment = t; met = search or-left }))
-      (λ t. inr (record { place = t .vertex; segment = weaken (λ u h. search and-left) (t .arrives); met = search or-left }))
+      (λ t. inr (record { place = t .vertex; segment = weaken (λ u h. search and-l) (t .arrives); met = search or-left }))
       (split-first (λ u. isDefine (event file a u)) (m .segment))
 
   -- two letters whose rules hold are the same
@@ -63,6 +64,11 @@ module _ (file : List ℕ) (a v : ℕ) where
 
 -- ---- use sets
 
+-- a reference gives bit 0
+pub use-reference : (x : Action) → has (useGives x) 0 ≡ isReference x
+unfolding has
+use-reference = by-event (λ x. has (useGives x) 0 ≡ isReference x) refl refl refl refl (λ k. refl) refl
+
 module _ (file : List ℕ) (a : ℕ) (proper : Proper file a) (v : ℕ) where
   -- the use set of v
   abbrev mask : ℕ
@@ -85,7 +91,8 @@ module _ (file : List ℕ) (a : ℕ) (proper : Proper file a) (v : ℕ) where
 
   reference-exact : T (has mask 0) ↔ Meets file a isReference v
   unfolding has
-  reference-exact = meets-exact 0 isReference (by-event _ (refl, refl) (refl, refl) (refl, refl) (refl, refl) (λ k. (refl, refl)) (refl, refl))
+  reference-exact =
+      meets-exact 0 isReference (λ x. (use-reference x, by-event (λ y. has (usePasses y) 0 ≡ not (isRemap y)) refl refl refl refl (λ k. refl) refl x))
 
   undefined-exact : T (has mask 1) ↔ MeetsUndefined file a needsValue v
   unfolding has

@@ -1,7 +1,7 @@
 -- Version sets that the solver makes: what they hold, and that they fit the width.
 -- Assumes nothing.
-use mathlib.Core.Path.{_≡_, refl, subst}
-use mathlib.Core.Bool.{Bool, true, false, not, cond}
+use mathlib.Core.Path.{_≡_, ap, subst, _∙_}
+use mathlib.Core.Bool.{Bool, _&&_, cond, and-true}
 use mathlib.Core.List.{List}
 use mathlib.Core.Logic.{_↔_}
 use Prim.Native.Nat.{ℕ, _^_, _<_}
@@ -12,23 +12,18 @@ use Rattle.flow.specs.Solver.{solution}
 use Rattle.flow.proofs.Exact.{solution-fits}
 use Rattle.routine.specs.Layout.{vertices}
 use Rattle.sets.specs.Sets.{has}
-use Rattle.sets.proofs.Laws.{has-zero}
+use Rattle.sets.proofs.Laws.{has-cond, has-full}
 use Rattle.labels.specs.Events.{width, everyVersion, edgeBytes, version}
 use Rattle.labels.proofs.Rules.Proper.{Proper}
 use Rattle.labels.proofs.Rules.Events.{version-fits}
 use Rattle.labels.proofs.Rules.Tables.{table-all, Finds, solved}
-use Rattle.labels.proofs.Rules.Tests.{member-cond, member-single, has-full}
+use Rattle.flow.proofs.Members.{member-cond, member-single}
 use Rattle.words.specs.Tables.{table}
-
--- nothing where a test passes, else every version
-pub all-but : (b : Bool) → cond b 0 everyVersion ≡ cond (not b) everyVersion 0
-all-but true = refl
-all-but false = refl
+use Rattle.words.proofs.Tests.{at-cond}
 
 -- every version where a test passes, else nothing
 all-if : (k : ℕ) → k < width → (b : Bool) → has (cond b everyVersion 0) k ≡ b
-all-if k h true = has-full width k h
-all-if k h false = has-zero k
+all-if k h b = has-cond b everyVersion k ∙ ap (λ (t : Bool). b && t) (has-full width k h) ∙ and-true b
 
 abbrev sets : List ℕ → Bool → (ℕ → ℕ) → (ℕ → ℕ) → List ℕ
 sets file along gives passes = solution (edgeBytes file) along (table gives (vertices file)) (table passes (vertices file)) (vertices file)
@@ -36,8 +31,7 @@ sets file along gives passes = solution (edgeBytes file) along (table gives (ver
 module _ (file : List ℕ) (a : ℕ) (proper : Proper file a) where
   -- a set of one version, or none
   pub single-fits : (b : Bool) (v : ℕ) → cond b (2 ^ version file a v) 0 < 2 ^ width
-  single-fits true v = pow-lt (version-fits file a proper v)
-  single-fits false v = pow-pos width
+  single-fits b v = at-cond (λ m. m < 2 ^ width) b (λ _. pow-lt (version-fits file a proper v)) (λ _. pow-pos width)
 
   -- where the vertices that pass `test` give their versions, and those that pass `through` pass every version
   module _ (along : Bool) (gives passes : ℕ → ℕ) (test through : ℕ → Bool) (given : (u : ℕ) → gives u ≡ cond (test u) (2 ^ version file a u) 0) where

@@ -1,8 +1,9 @@
--- `order::by_search` meets its contract: the order starts as the identity, and every edge has its place after the searches.
+-- `order::by_search` meets its contract: the edges stand by their numbers at first, and every edge has its place after the searches.
 -- Assumes nothing.
+use mathlib.Core.Path.{refl}
 use borrow.Author.Needs.{needs}
 use Rattle.flow.specs.Paths.{edgeCount}
-use Rattle.order.proofs.Turns.{identity-placed, placed-order}
+use Rattle.order.proofs.Turns.{natural-placed, placed-order}
 use Rattle.order.proofs.by_search.Statement.{statement}
 use Rattle.order.proofs.by_search.Tie as tie
 
@@ -19,7 +20,7 @@ settle-all-requires : tie.Need-settle-all-requires
 settle-all-requires c κs =
     let i = c .before .before .before in
     let s = i .before .before .before .before in
-    identity-placed (edgeCount (s .args .edges .now)) (s .args .order .now) (i .identity .last .0) (s .pre .0) (s .pre .1) (i .identity .ensures)
+    natural-placed (edgeCount (s .args .edges .now)) _ (s .args .order .now) (i .identity .last .0) (s .pre .0) refl (s .pre .1) (i .identity .ensures)
 
 same-length : tie.Need-same-length
 same-length c = search needs

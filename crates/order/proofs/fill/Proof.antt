@@ -1,17 +1,16 @@
--- `order::fill` meets its contract: the identity is an order.
+-- `order::fill` meets its contract: the edges by their numbers are an order.
 -- Assumes nothing.
-use mathlib.Core.Path.{subst}
-use Prim.Native.Nat.{ℕ}
+use mathlib.Core.Path.{_≡_, sym, ap, subst, _∙_}
 use borrow.Author.Needs.{needs}
-use Rattle.order.specs.Places.{Identity}
+use Rattle.flow.specs.Order.{Order, natural}
 use Rattle.flow.specs.Paths.{edgeCount}
-use Rattle.order.proofs.Turns.{identity-order}
+use Rattle.flow.proofs.Rounds.{natural-order}
 use Rattle.order.proofs.fill.Statement.{statement}
 use Rattle.order.proofs.fill.Tie as tie
 
--- the order is the identity at first
-first : (c : tie.After-identity) → Identity (edgeCount (c .before .before .before .before .args .edges .now)) (c .identity .last .0)
-first c = subst (λ (n : ℕ). Identity n (c .identity .last .0)) (c .before .before .before .before .pre .1) (c .identity .ensures)
+-- the edges stand by their numbers at first
+first : (c : tie.After-identity) → c .identity .last .0 ≡ natural (edgeCount (c .before .before .before .before .args .edges .now))
+first c = c .identity .ensures ∙ ap natural (c .before .before .before .before .pre .1)
 
 identity-requires : tie.Need-identity-requires
 identity-requires c κs = search needs
@@ -23,7 +22,7 @@ same-length : tie.Need-same-length
 same-length c = search needs
 
 returns : tie.Need-returns
-returns c = identity-order _ _ (first (c .before .before .before .before))
+returns c = subst (Order _) (sym (first (c .before .before .before .before))) (natural-order _)
 
 by-search-requires : tie.Need-by-search-requires
 by-search-requires c κs =

@@ -1,22 +1,20 @@
--- `order::identity` meets its contract. The invariant: the first j numbers stand at their own places. The measure is what is left.
+-- `order::identity` meets its contract: a table is filled.
 -- Assumes nothing.
-use mathlib.Core.Path.{_≡_, refl}
-use Prim.Native.Nat.{ℕ, _-_, _≤_, _<_}
-use native.Mathlib.Omega.{arith}
+use mathlib.Core.Path.{refl}
+use Prim.Native.Nat.{_-_}
 use borrow.Author.Needs.{needs}
-use lib.ListN.{length, getD, length-set}
-use Rattle.order.proofs.Turns.{identity-more}
+use Rattle.words.proofs.Fills.{Filling, begin, onward, finish}
 use Rattle.order.proofs.identity.Statement.{statement}
 use Rattle.order.proofs.identity.Tie as tie
 
 abbrev Inv-loop : tie.InvT-loop
-Inv-loop t₀ j₀ j-end t j = (j ≤ j-end) × (length t ≡ length t₀) × ((k : ℕ) → k < j → getD t k 0 ≡ k)
+Inv-loop t₀ j₀ j-end t j = Filling (λ i. i) j-end t₀ t j
 
 abbrev μ-loop : tie.MeasureT-loop
 μ-loop t₀ j₀ j-end t j = j-end - j
 
 loop-holds : tie.Need-loop-holds Inv-loop μ-loop
-loop-holds c = (omega arith, refl, λ k h. absurd (omega arith))
+loop-holds c = begin _ refl
 
 cast-t : tie.Need-cast-t Inv-loop μ-loop
 cast-t c = search needs
@@ -34,18 +32,13 @@ loop-less : tie.Need-loop-less Inv-loop μ-loop
 loop-less c = search needs
 
 loop-again : tie.Need-loop-again Inv-loop μ-loop
-loop-again c =
-    let l = c .before in (
-      omega arith,
-      simp length-set (l .loop .inv .1),
-      identity-more (l .loop .t) (l .loop .j) (omega arith) (l .loop .inv .2),
-    )
+loop-again c = onward (c .before .loop .inv) (c .loop-test .taken) refl
 
 same-length : tie.Need-same-length Inv-loop μ-loop
-same-length c = c .before .loop .inv .1
+same-length c = c .before .loop .inv .sized
 
 returns : tie.Need-returns Inv-loop μ-loop
-returns c = record { all = c .before .loop .inv .1; same = λ k h. c .before .loop .inv .2 k (omega arith) }
+returns c = finish (c .before .loop .inv) (c .loop-test .left)
 
 pub identity-spec : {M : Type 1} → statement M
 identity-spec =

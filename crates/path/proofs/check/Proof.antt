@@ -3,7 +3,7 @@
 use mathlib.Core.Path.{sym, _∙_}
 use Prim.Native.Nat.{_<_}
 use borrow.Author.Needs.{needs}
-use Rattle.routine.proofs.Laws.{fails, passes, holds-true, within-limits}
+use Rattle.refusal.proofs.Checks.{fails, passes, parts}
 use Rattle.path.specs.Paths.{steps, pathCheck}
 use Rattle.path.proofs.check.Statement.{statement}
 use Rattle.path.proofs.check.Tie as tie
@@ -22,7 +22,9 @@ enum-told-2 : tie.Need-enum-told-2
 enum-told-2 c = search needs
 
 some-vertex : (c : tie.After-enum-told2) → 0 < steps (c .before .before .before .before .before .args .path .now)
-some-vertex c = within-limits 1 4096 _ (holds-true _ _ (sym (c .before .before .check-length .ensures) ∙ c .enum-told2 .given .1)) .0
+some-vertex c =
+    let e = sym (c .before .before .check-length .ensures) ∙ c .enum-told2 .given .1 in
+    search parts
 
 check-start-requires : tie.Need-check-start-requires
 check-start-requires c κs = some-vertex c

@@ -1,29 +1,18 @@
 -- `check_arrivals_by` meets its contract: a scan of the arrivals.
 -- Assumes nothing.
-use mathlib.Core.Path.{_≡_, refl, sym, ap, _∙_}
+use mathlib.Core.Path.{_≡_, ap, _∙_}
 use mathlib.Core.List.{List}
-use Prim.Native.Nat.{ℕ, zero, suc, _+_, _-_}
+use Prim.Native.Nat.{ℕ, _+_, _-_}
 use native.Mathlib.Omega.{arith}
 use borrow.Author.Needs.{needs}
 use lib.ListN.{length}
-use Rattle.refusal.specs.Checks.{_andThen_, firstFailed}
-use Rattle.refusal.specs.declared.Verdict.{Verdict}
-use Rattle.routine.proofs.Laws.{Undecided, start, stop, next, done}
+use Rattle.refusal.proofs.Checks.{Undecided, start, stop, next, done}
 use Rattle.path.specs.EdgeTable.{arrivalBy}
-use Rattle.path.specs.Paths.{steps, arrivalCheck, check32}
+use Rattle.path.specs.Paths.{steps, arrivalCheck}
+use Rattle.path.proofs.Paths.{arrivals}
 use Rattle.path.proofs.EdgeTable.{edge-table-length, arrivals-are}
 use Rattle.path.proofs.check_arrivals_by.Statement.{statement}
 use Rattle.path.proofs.check_arrivals_by.Tie as tie
-
--- a scan from the next item on, as a scan of the items after each
-shift : (item : ℕ → Verdict) (from n : ℕ) → firstFailed item (from + 1) n ≡ firstFailed (λ i. item (i + 1)) from n
-unfolding firstFailed
-shift item from zero = refl
-shift item from (suc n) = ap (λ (v : Verdict). item (from + 1) andThen v) (shift item (from + 1) n)
-
-arrivals : (file path : List ℕ) → firstFailed (λ i. arrivalCheck file path (i + 1)) 0 (steps path - 1) ≡ check32 file path
-unfolding check32
-arrivals file path = sym (shift (arrivalCheck file path) 0 (steps path - 1))
 
 abbrev Inv-loop : tie.InvT-loop
 Inv-loop file table path n i₀ i = Undecided (λ j. arrivalCheck file path (j + 1)) (steps path - 1) i

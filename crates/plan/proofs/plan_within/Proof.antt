@@ -1,43 +1,25 @@
 -- `plan_within` meets its contract: the parts of the work slices have the right lengths.
 -- Assumes nothing.
 use mathlib.Core.Path.{sym, ap, _∙_}
+use mathlib.Core.List.{List}
 use Prim.Native.Nat.{ℕ, _*_, _≤_}
 use native.Mathlib.Omega.{arith}
 use lib.ListN.{length}
-use lib.Seq.{length-take-le}
-use Rattle.words.proofs.Written.{put-back}
+use lib.Seq.{length-take-le, length-front}
+use Rattle.routine.specs.Layout.{vertices}
+use Rattle.routine.proofs.Form.{header-limits}
 use Rattle.plan.proofs.plan_within.Statement.{statement}
 use Rattle.plan.proofs.plan_within.Tie as tie
 
-small : (s : tie.Start) → s .args .h .vertices ≤ 256
-small s = omega (arith, s .pre .0 .heads .vertices-are, s .pre .0 .well .laid .limits .few-vertices)
+-- a part of a slice that is long enough
+fits : (s : tie.Start) (l : List ℕ) → 8 * vertices (s .args .file .now) ≤ length l → 8 * s .args .h .vertices ≤ length l
+fits s l e = omega (arith, s .pre .0 .heads .vertices-are, e)
 
 fits-order : (s : tie.Start) → s .args .h .edges ≤ length (s .args .order .now)
 fits-order s = omega (arith, s .pre .0 .heads .edges-are, s .pre .1 .0)
 
-fits-versions : (s : tie.Start) → 8 * s .args .h .vertices ≤ length (s .args .versions .now)
-fits-versions s = omega (arith, s .pre .0 .heads .vertices-are, s .pre .1 .1 .0)
-
-fits-uses : (s : tie.Start) → 8 * s .args .h .vertices ≤ length (s .args .uses .now)
-fits-uses s = omega (arith, s .pre .0 .heads .vertices-are, s .pre .1 .1 .1 .0)
-
-fits-letters : (s : tie.Start) → 8 * s .args .h .vertices ≤ length (s .args .letters .now)
-fits-letters s = omega (arith, s .pre .0 .heads .vertices-are, s .pre .1 .1 .1 .1 .0)
-
-fits-reaching : (s : tie.Start) → 8 * s .args .h .vertices ≤ length (s .args .reaching .now)
-fits-reaching s = omega (arith, s .pre .0 .heads .vertices-are, s .pre .1 .1 .1 .1 .1 .0)
-
-fits-kept : (s : tie.Start) → 8 * s .args .h .vertices ≤ length (s .args .kept .now)
-fits-kept s = omega (arith, s .pre .0 .heads .vertices-are, s .pre .1 .1 .1 .1 .1 .1 .0)
-
-fits-gives : (s : tie.Start) → 8 * s .args .h .vertices ≤ length (s .args .gives .now)
-fits-gives s = omega (arith, s .pre .0 .heads .vertices-are, s .pre .1 .1 .1 .1 .1 .1 .1 .0)
-
-fits-passes : (s : tie.Start) → 8 * s .args .h .vertices ≤ length (s .args .passes .now)
-fits-passes s = omega (arith, s .pre .0 .heads .vertices-are, s .pre .1 .1 .1 .1 .1 .1 .1 .1)
-
 mul-all : tie.Need-mul-all
-mul-all c = let s = c .before .before .before .before .before .before .before .before .before .before .before in omega (arith, small s)
+mul-all c = let s = c .before .before .before .before .before .before .before .before .before .before .before in omega (arith, header-limits (s .pre .0 .heads) .few-vertices)
 
 slice-relend-prefix-plan-with : tie.Need-slice-relend-prefix-plan-with
 slice-relend-prefix-plan-with c = fits-order (c .before .before .before .before .before .before .before .before .before .before .before .before)
@@ -46,79 +28,79 @@ slice-aggregate-plan-with : tie.Need-slice-aggregate-plan-with
 slice-aggregate-plan-with c = let s = c .before .before .before .before .before .before .before .before .before .before .before .before .before in sym (length-take-le _ (s .args .order .now) (fits-order s))
 
 slice-relend-prefix-plan-with-2 : tie.Need-slice-relend-prefix-plan-with-2
-slice-relend-prefix-plan-with-2 c = fits-versions (c .before .before .before .before .before .before .before .before .before .before .before .before .before)
+slice-relend-prefix-plan-with-2 c = let s = c .before .before .before .before .before .before .before .before .before .before .before .before .before in fits s (s .args .versions .now) (s .pre .1 .1 .0)
 
 slice-aggregate-plan-with-2 : tie.Need-slice-aggregate-plan-with-2
-slice-aggregate-plan-with-2 c = let s = c .before .before .before .before .before .before .before .before .before .before .before .before .before .before in sym (length-take-le _ (s .args .versions .now) (fits-versions s))
+slice-aggregate-plan-with-2 c = let s = c .before .before .before .before .before .before .before .before .before .before .before .before .before .before in sym (length-take-le _ (s .args .versions .now) (fits s (s .args .versions .now) (s .pre .1 .1 .0)))
 
 slice-relend-prefix-plan-with-3 : tie.Need-slice-relend-prefix-plan-with-3
-slice-relend-prefix-plan-with-3 c = fits-uses (c .before .before .before .before .before .before .before .before .before .before .before .before .before .before)
+slice-relend-prefix-plan-with-3 c = let s = c .before .before .before .before .before .before .before .before .before .before .before .before .before .before in fits s (s .args .uses .now) (s .pre .1 .1 .1 .0)
 
 slice-aggregate-plan-with-3 : tie.Need-slice-aggregate-plan-with-3
-slice-aggregate-plan-with-3 c = let s = c .before .before .before .before .before .before .before .before .before .before .before .before .before .before .before in sym (length-take-le _ (s .args .uses .now) (fits-uses s))
+slice-aggregate-plan-with-3 c = let s = c .before .before .before .before .before .before .before .before .before .before .before .before .before .before .before in sym (length-take-le _ (s .args .uses .now) (fits s (s .args .uses .now) (s .pre .1 .1 .1 .0)))
 
 slice-relend-prefix-plan-with-4 : tie.Need-slice-relend-prefix-plan-with-4
-slice-relend-prefix-plan-with-4 c = fits-letters (c .before .before .before .before .before .before .before .before .before .before .before .before .before .before .before)
+slice-relend-prefix-plan-with-4 c = let s = c .before .before .before .before .before .before .before .before .before .before .before .before .before .before .before in fits s (s .args .letters .now) (s .pre .1 .1 .1 .1 .0)
 
 slice-aggregate-plan-with-4 : tie.Need-slice-aggregate-plan-with-4
-slice-aggregate-plan-with-4 c = let s = c .before .before .before .before .before .before .before .before .before .before .before .before .before .before .before .before in sym (length-take-le _ (s .args .letters .now) (fits-letters s))
+slice-aggregate-plan-with-4 c = let s = c .before .before .before .before .before .before .before .before .before .before .before .before .before .before .before .before in sym (length-take-le _ (s .args .letters .now) (fits s (s .args .letters .now) (s .pre .1 .1 .1 .1 .0)))
 
 slice-relend-prefix-plan-with-5 : tie.Need-slice-relend-prefix-plan-with-5
-slice-relend-prefix-plan-with-5 c = fits-reaching (c .before .before .before .before .before .before .before .before .before .before .before .before .before .before .before .before)
+slice-relend-prefix-plan-with-5 c = let s = c .before .before .before .before .before .before .before .before .before .before .before .before .before .before .before .before in fits s (s .args .reaching .now) (s .pre .1 .1 .1 .1 .1 .0)
 
 slice-aggregate-plan-with-5 : tie.Need-slice-aggregate-plan-with-5
-slice-aggregate-plan-with-5 c = let s = c .before .before .before .before .before .before .before .before .before .before .before .before .before .before .before .before .before in sym (length-take-le _ (s .args .reaching .now) (fits-reaching s))
+slice-aggregate-plan-with-5 c = let s = c .before .before .before .before .before .before .before .before .before .before .before .before .before .before .before .before .before in sym (length-take-le _ (s .args .reaching .now) (fits s (s .args .reaching .now) (s .pre .1 .1 .1 .1 .1 .0)))
 
 slice-relend-prefix-plan-with-6 : tie.Need-slice-relend-prefix-plan-with-6
-slice-relend-prefix-plan-with-6 c = fits-kept (c .before .before .before .before .before .before .before .before .before .before .before .before .before .before .before .before .before)
+slice-relend-prefix-plan-with-6 c = let s = c .before .before .before .before .before .before .before .before .before .before .before .before .before .before .before .before .before in fits s (s .args .kept .now) (s .pre .1 .1 .1 .1 .1 .1 .0)
 
 slice-aggregate-plan-with-6 : tie.Need-slice-aggregate-plan-with-6
-slice-aggregate-plan-with-6 c = let s = c .before .before .before .before .before .before .before .before .before .before .before .before .before .before .before .before .before .before in sym (length-take-le _ (s .args .kept .now) (fits-kept s))
+slice-aggregate-plan-with-6 c = let s = c .before .before .before .before .before .before .before .before .before .before .before .before .before .before .before .before .before .before in sym (length-take-le _ (s .args .kept .now) (fits s (s .args .kept .now) (s .pre .1 .1 .1 .1 .1 .1 .0)))
 
 slice-relend-prefix-plan-with-7 : tie.Need-slice-relend-prefix-plan-with-7
-slice-relend-prefix-plan-with-7 c = fits-gives (c .before .before .before .before .before .before .before .before .before .before .before .before .before .before .before .before .before .before)
+slice-relend-prefix-plan-with-7 c = let s = c .before .before .before .before .before .before .before .before .before .before .before .before .before .before .before .before .before .before in fits s (s .args .gives .now) (s .pre .1 .1 .1 .1 .1 .1 .1 .0)
 
 slice-aggregate-plan-with-7 : tie.Need-slice-aggregate-plan-with-7
-slice-aggregate-plan-with-7 c = let s = c .before .before .before .before .before .before .before .before .before .before .before .before .before .before .before .before .before .before .before in sym (length-take-le _ (s .args .gives .now) (fits-gives s))
+slice-aggregate-plan-with-7 c = let s = c .before .before .before .before .before .before .before .before .before .before .before .before .before .before .before .before .before .before .before in sym (length-take-le _ (s .args .gives .now) (fits s (s .args .gives .now) (s .pre .1 .1 .1 .1 .1 .1 .1 .0)))
 
 slice-relend-prefix-plan-with-8 : tie.Need-slice-relend-prefix-plan-with-8
-slice-relend-prefix-plan-with-8 c = fits-passes (c .before .before .before .before .before .before .before .before .before .before .before .before .before .before .before .before .before .before .before)
+slice-relend-prefix-plan-with-8 c = let s = c .before .before .before .before .before .before .before .before .before .before .before .before .before .before .before .before .before .before .before in fits s (s .args .passes .now) (s .pre .1 .1 .1 .1 .1 .1 .1 .1)
 
 slice-aggregate-plan-with-8 : tie.Need-slice-aggregate-plan-with-8
-slice-aggregate-plan-with-8 c = let s = c .before .before .before .before .before .before .before .before .before .before .before .before .before .before .before .before .before .before .before .before in sym (length-take-le _ (s .args .passes .now) (fits-passes s))
+slice-aggregate-plan-with-8 c = let s = c .before .before .before .before .before .before .before .before .before .before .before .before .before .before .before .before .before .before .before .before in sym (length-take-le _ (s .args .passes .now) (fits s (s .args .passes .now) (s .pre .1 .1 .1 .1 .1 .1 .1 .1)))
 
 plan-with-requires : tie.Need-plan-with-requires
 plan-with-requires c κs =
     let s = c .before .before .before .before .before .before .before .before .before .before .before .before .before .before .before .before .before .before .before .before in
     let all = ap (λ (n : ℕ). 8 * n) (s .pre .0 .heads .vertices-are) in
-    (s .pre .0, (length-take-le _ (s .args .order .now) (fits-order s) ∙ s .pre .0 .heads .edges-are, (length-take-le _ (s .args .versions .now) (fits-versions s) ∙ all, (length-take-le _ (s .args .uses .now) (fits-uses s) ∙ all, (length-take-le _ (s .args .letters .now) (fits-letters s) ∙ all, (length-take-le _ (s .args .reaching .now) (fits-reaching s) ∙ all, (length-take-le _ (s .args .kept .now) (fits-kept s) ∙ all, (length-take-le _ (s .args .gives .now) (fits-gives s) ∙ all, length-take-le _ (s .args .passes .now) (fits-passes s) ∙ all))))))))
+    (s .pre .0, (length-take-le _ (s .args .order .now) (fits-order s) ∙ s .pre .0 .heads .edges-are, (length-take-le _ (s .args .versions .now) (fits s (s .args .versions .now) (s .pre .1 .1 .0)) ∙ all, (length-take-le _ (s .args .uses .now) (fits s (s .args .uses .now) (s .pre .1 .1 .1 .0)) ∙ all, (length-take-le _ (s .args .letters .now) (fits s (s .args .letters .now) (s .pre .1 .1 .1 .1 .0)) ∙ all, (length-take-le _ (s .args .reaching .now) (fits s (s .args .reaching .now) (s .pre .1 .1 .1 .1 .1 .0)) ∙ all, (length-take-le _ (s .args .kept .now) (fits s (s .args .kept .now) (s .pre .1 .1 .1 .1 .1 .1 .0)) ∙ all, (length-take-le _ (s .args .gives .now) (fits s (s .args .gives .now) (s .pre .1 .1 .1 .1 .1 .1 .1 .0)) ∙ all, length-take-le _ (s .args .passes .now) (fits s (s .args .passes .now) (s .pre .1 .1 .1 .1 .1 .1 .1 .1)) ∙ all))))))))
 
 same-length : tie.Need-same-length
 same-length c = c .before .before .before .before .before .before .before .before .before .before .before .before .before .before .before .before .before .before .plan-with .kept .1 .1 .0
 
 same-length-2 : tie.Need-same-length-2
-same-length-2 c = let s = c .before .before .before .before .before .before .before .before .before .before .before .before .before .before .before .before .before .before .before .before .before .before .before .before .before .before .before .before .before .before .before .before .before .before .before .before .before .before .before in let p = c .before .before .before .before .before .before .before .before .before .before .before .before .before .before .before .before .before .before .plan-with in put-back (s .args .order .now) (p .last .1 .1 .1 .0) (s .args .h .edges) (p .kept .1 .1 .1 .0)
+same-length-2 c = let s = c .before .before .before .before .before .before .before .before .before .before .before .before .before .before .before .before .before .before .before .before .before .before .before .before .before .before .before .before .before .before .before .before .before .before .before .before .before .before .before in let p = c .before .before .before .before .before .before .before .before .before .before .before .before .before .before .before .before .before .before .plan-with in length-front (s .args .order .now) (p .last .1 .1 .1 .0) (s .args .h .edges) (p .kept .1 .1 .1 .0)
 
 same-length-3 : tie.Need-same-length-3
-same-length-3 c = let s = c .before .before .before .before .before .before .before .before .before .before .before .before .before .before .before .before .before .before .before .before .before .before .before .before .before .before .before .before .before .before .before .before .before .before .before .before .before .before .before in let p = c .before .before .before .before .before .before .before .before .before .before .before .before .before .before .before .before .before .before .plan-with in put-back (s .args .versions .now) (p .last .1 .1 .1 .1 .0) (8 * s .args .h .vertices) (p .kept .1 .1 .1 .1 .0)
+same-length-3 c = let s = c .before .before .before .before .before .before .before .before .before .before .before .before .before .before .before .before .before .before .before .before .before .before .before .before .before .before .before .before .before .before .before .before .before .before .before .before .before .before .before in let p = c .before .before .before .before .before .before .before .before .before .before .before .before .before .before .before .before .before .before .plan-with in length-front (s .args .versions .now) (p .last .1 .1 .1 .1 .0) (8 * s .args .h .vertices) (p .kept .1 .1 .1 .1 .0)
 
 same-length-4 : tie.Need-same-length-4
-same-length-4 c = let s = c .before .before .before .before .before .before .before .before .before .before .before .before .before .before .before .before .before .before .before .before .before .before .before .before .before .before .before .before .before .before .before .before .before .before .before .before .before .before .before in let p = c .before .before .before .before .before .before .before .before .before .before .before .before .before .before .before .before .before .before .plan-with in put-back (s .args .uses .now) (p .last .1 .1 .1 .1 .1 .0) (8 * s .args .h .vertices) (p .kept .1 .1 .1 .1 .1 .0)
+same-length-4 c = let s = c .before .before .before .before .before .before .before .before .before .before .before .before .before .before .before .before .before .before .before .before .before .before .before .before .before .before .before .before .before .before .before .before .before .before .before .before .before .before .before in let p = c .before .before .before .before .before .before .before .before .before .before .before .before .before .before .before .before .before .before .plan-with in length-front (s .args .uses .now) (p .last .1 .1 .1 .1 .1 .0) (8 * s .args .h .vertices) (p .kept .1 .1 .1 .1 .1 .0)
 
 same-length-5 : tie.Need-same-length-5
-same-length-5 c = let s = c .before .before .before .before .before .before .before .before .before .before .before .before .before .before .before .before .before .before .before .before .before .before .before .before .before .before .before .before .before .before .before .before .before .before .before .before .before .before .before in let p = c .before .before .before .before .before .before .before .before .before .before .before .before .before .before .before .before .before .before .plan-with in put-back (s .args .letters .now) (p .last .1 .1 .1 .1 .1 .1 .0) (8 * s .args .h .vertices) (p .kept .1 .1 .1 .1 .1 .1 .0)
+same-length-5 c = let s = c .before .before .before .before .before .before .before .before .before .before .before .before .before .before .before .before .before .before .before .before .before .before .before .before .before .before .before .before .before .before .before .before .before .before .before .before .before .before .before in let p = c .before .before .before .before .before .before .before .before .before .before .before .before .before .before .before .before .before .before .plan-with in length-front (s .args .letters .now) (p .last .1 .1 .1 .1 .1 .1 .0) (8 * s .args .h .vertices) (p .kept .1 .1 .1 .1 .1 .1 .0)
 
 same-length-6 : tie.Need-same-length-6
-same-length-6 c = let s = c .before .before .before .before .before .before .before .before .before .before .before .before .before .before .before .before .before .before .before .before .before .before .before .before .before .before .before .before .before .before .before .before .before .before .before .before .before .before .before in let p = c .before .before .before .before .before .before .before .before .before .before .before .before .before .before .before .before .before .before .plan-with in put-back (s .args .reaching .now) (p .last .1 .1 .1 .1 .1 .1 .1 .0) (8 * s .args .h .vertices) (p .kept .1 .1 .1 .1 .1 .1 .1 .0)
+same-length-6 c = let s = c .before .before .before .before .before .before .before .before .before .before .before .before .before .before .before .before .before .before .before .before .before .before .before .before .before .before .before .before .before .before .before .before .before .before .before .before .before .before .before in let p = c .before .before .before .before .before .before .before .before .before .before .before .before .before .before .before .before .before .before .plan-with in length-front (s .args .reaching .now) (p .last .1 .1 .1 .1 .1 .1 .1 .0) (8 * s .args .h .vertices) (p .kept .1 .1 .1 .1 .1 .1 .1 .0)
 
 same-length-7 : tie.Need-same-length-7
-same-length-7 c = let s = c .before .before .before .before .before .before .before .before .before .before .before .before .before .before .before .before .before .before .before .before .before .before .before .before .before .before .before .before .before .before .before .before .before .before .before .before .before .before .before in let p = c .before .before .before .before .before .before .before .before .before .before .before .before .before .before .before .before .before .before .plan-with in put-back (s .args .kept .now) (p .last .1 .1 .1 .1 .1 .1 .1 .1 .0) (8 * s .args .h .vertices) (p .kept .1 .1 .1 .1 .1 .1 .1 .1 .0)
+same-length-7 c = let s = c .before .before .before .before .before .before .before .before .before .before .before .before .before .before .before .before .before .before .before .before .before .before .before .before .before .before .before .before .before .before .before .before .before .before .before .before .before .before .before in let p = c .before .before .before .before .before .before .before .before .before .before .before .before .before .before .before .before .before .before .plan-with in length-front (s .args .kept .now) (p .last .1 .1 .1 .1 .1 .1 .1 .1 .0) (8 * s .args .h .vertices) (p .kept .1 .1 .1 .1 .1 .1 .1 .1 .0)
 
 same-length-8 : tie.Need-same-length-8
-same-length-8 c = let s = c .before .before .before .before .before .before .before .before .before .before .before .before .before .before .before .before .before .before .before .before .before .before .before .before .before .before .before .before .before .before .before .before .before .before .before .before .before .before .before in let p = c .before .before .before .before .before .before .before .before .before .before .before .before .before .before .before .before .before .before .plan-with in put-back (s .args .gives .now) (p .last .1 .1 .1 .1 .1 .1 .1 .1 .1 .0) (8 * s .args .h .vertices) (p .kept .1 .1 .1 .1 .1 .1 .1 .1 .1 .0)
+same-length-8 c = let s = c .before .before .before .before .before .before .before .before .before .before .before .before .before .before .before .before .before .before .before .before .before .before .before .before .before .before .before .before .before .before .before .before .before .before .before .before .before .before .before in let p = c .before .before .before .before .before .before .before .before .before .before .before .before .before .before .before .before .before .before .plan-with in length-front (s .args .gives .now) (p .last .1 .1 .1 .1 .1 .1 .1 .1 .1 .0) (8 * s .args .h .vertices) (p .kept .1 .1 .1 .1 .1 .1 .1 .1 .1 .0)
 
 same-length-9 : tie.Need-same-length-9
-same-length-9 c = let s = c .before .before .before .before .before .before .before .before .before .before .before .before .before .before .before .before .before .before .before .before .before .before .before .before .before .before .before .before .before .before .before .before .before .before .before .before .before .before .before in let p = c .before .before .before .before .before .before .before .before .before .before .before .before .before .before .before .before .before .before .plan-with in put-back (s .args .passes .now) (p .last .1 .1 .1 .1 .1 .1 .1 .1 .1 .1 .0) (8 * s .args .h .vertices) (p .kept .1 .1 .1 .1 .1 .1 .1 .1 .1 .1 .0)
+same-length-9 c = let s = c .before .before .before .before .before .before .before .before .before .before .before .before .before .before .before .before .before .before .before .before .before .before .before .before .before .before .before .before .before .before .before .before .before .before .before .before .before .before .before in let p = c .before .before .before .before .before .before .before .before .before .before .before .before .before .before .before .before .before .before .plan-with in length-front (s .args .passes .now) (p .last .1 .1 .1 .1 .1 .1 .1 .1 .1 .1 .0) (8 * s .args .h .vertices) (p .kept .1 .1 .1 .1 .1 .1 .1 .1 .1 .1 .0)
 
 returns : tie.Need-returns
 returns c = c .before .before .before .before .before .before .before .before .before .before .before .before .before .before .before .before .before .before .plan-with .ensures

@@ -1,30 +1,22 @@
--- `fill` meets its contract: the invariant has the entries of the vertices passed.
+-- `fill` meets its contract: a table is filled.
 -- Assumes nothing.
-use mathlib.Core.Path.{_≡_, ap, ap₂, _∙_}
-use mathlib.Core.List.{List}
-use Prim.Native.Nat.{ℕ, _-_, _≤_}
+use Prim.Native.Nat.{_-_}
 use native.Mathlib.Omega.{arith}
 use borrow.Author.Needs.{needs}
-use lib.ListN.{length, set}
 use Rattle.routine.specs.Layout.{vertices}
-use Rattle.words.proofs.Tables.{filled, fill-none, filled-length, fill-more, fill-all}
+use Rattle.words.proofs.Fills.{Filling, begin, onward, finish}
 use Rattle.report.specs.References.{referencesAt}
 use Rattle.report.proofs.fill.Statement.{statement}
 use Rattle.report.proofs.fill.Tie as tie
 
 abbrev Inv-loop : tie.InvT-loop
-Inv-loop file h counts₀ n v₀ counts v = (v ≤ vertices file) × (counts ≡ filled (referencesAt file) counts₀ v)
+Inv-loop file h counts₀ n v₀ counts v = Filling (referencesAt file) (vertices file) counts₀ counts v
 
 abbrev μ-loop : tie.MeasureT-loop
 μ-loop file h counts₀ n v₀ counts v = n - v
 
-long : (c : tie.At-loop Inv-loop μ-loop) → length (c .loop .counts) ≡ length (c .before .before .before .args .counts .now)
-long c =
-    let a = c .before .before .before .args in
-    ap length (c .loop .inv .1) ∙ filled-length (referencesAt (a .file .now)) (a .counts .now) (c .loop .v) (omega arith)
-
 loop-holds : tie.Need-loop-holds Inv-loop μ-loop
-loop-holds c = (omega arith, fill-none (referencesAt (c .before .before .args .file .now)) _)
+loop-holds c = begin _ (omega arith)
 
 references-at-requires : tie.Need-references-at-requires Inv-loop μ-loop
 references-at-requires c κs = search needs
@@ -33,7 +25,7 @@ cast-counts : tie.Need-cast-counts Inv-loop μ-loop
 cast-counts c = search needs
 
 slice-write-counts : tie.Need-slice-write-counts Inv-loop μ-loop
-slice-write-counts c = omega (arith, long (c .before .before))
+slice-write-counts c = omega (arith, c .before .before .loop .inv .sized)
 
 add-v : tie.Need-add-v Inv-loop μ-loop
 add-v c = omega arith
@@ -42,23 +34,13 @@ loop-less : tie.Need-loop-less Inv-loop μ-loop
 loop-less c = omega arith
 
 loop-again : tie.Need-loop-again Inv-loop μ-loop
-loop-again c =
-    let l = c .before .before in
-    let a = l .before .before .before .args in (
-      omega arith,
-      ap₂ (λ (s : List ℕ) (x : ℕ). set s (l .loop .v) x) (l .loop .inv .1) (c .references-at .ensures .0)
-          ∙ fill-more (referencesAt (a .file .now)) (a .counts .now) (l .loop .v) (omega arith),
-    )
+loop-again c = onward (c .before .before .loop .inv) (omega arith) (c .references-at .ensures .0)
 
 same-length : tie.Need-same-length Inv-loop μ-loop
-same-length c = long (c .before)
+same-length c = omega (arith, c .before .loop .inv .sized)
 
 returns : tie.Need-returns Inv-loop μ-loop
-returns c =
-    let l = c .before in
-    let a = l .before .before .before .args in
-    let all : l .loop .v ≡ vertices (a .file .now) = omega arith in
-    l .loop .inv .1 ∙ ap (filled (referencesAt (a .file .now)) (a .counts .now)) all ∙ fill-all (referencesAt (a .file .now)) (a .counts .now) (vertices (a .file .now)) (omega arith)
+returns c = finish (c .before .loop .inv) (omega arith)
 
 pub fill-spec : {M : Type 1} → statement M
 fill-spec =

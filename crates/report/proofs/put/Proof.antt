@@ -1,10 +1,12 @@
 -- `put` meets its contract: a reference has one record, any other event none.
 -- Assumes nothing.
 use mathlib.Core.Path.{_≡_, sym, ap, _∙_}
+use mathlib.Core.Bool.{cond}
 use mathlib.Core.List.{List, append-nil}
-use Prim.Native.Nat.{ℕ}
+use Prim.Native.Nat.{ℕ, _*_}
 use native.Mathlib.Omega.{arith}
 use lib.ListN.{length}
+use Rattle.routine.specs.Actions.{isReference}
 use Rattle.routine.specs.declared.action.Access.{Access}
 use Rattle.routine.specs.declared.action.Action.{Action}
 use Rattle.routine.specs.declared.action.Action.the-variants.{Reference}
@@ -12,6 +14,7 @@ use Rattle.report.specs.declared.record.Record.{Record}
 use Rattle.report.specs.Records.{recordOf, recordsAt}
 use Rattle.report.specs.Bytes.{recordBytes, recordsBytes}
 use Rattle.words.specs.Tables.{wrote}
+use Rattle.report.proofs.Bytes.{ten}
 use borrow.Author.Needs.{needs}
 use Rattle.report.proofs.put.Statement.{statement}
 use Rattle.report.proofs.put.Tie as tie
@@ -21,8 +24,8 @@ module _ {x : Action} {y : Access} (step a version stamp : ℕ) (e : x ≡ Refer
   one : recordBytes (recordOf y step a version stamp) ≡ recordsBytes (recordsAt x step a version stamp)
   one = rw (e, append-nil)
 
-  ten : length (recordsBytes (recordsAt x step a version stamp)) ≡ 10
-  ten = rw e
+  one-length : length (recordsBytes (recordsAt x step a version stamp)) ≡ 10
+  one-length = ten x step a version stamp ∙ ap (λ (z : Action). 10 * cond (isReference z) 1 0) e
 
 enum-told : tie.Need-enum-told
 enum-told c = search needs
@@ -43,7 +46,7 @@ write-record-requires : tie.Need-write-record-requires
 write-record-requires c κs =
     let s = c .before .before .before .before .before .before in
     let g = s .args in
-    omega (arith, ten (g .step) (g .a) (g .version) (g .stamp) (c .before .before .before .x .given .1), s .pre .1)
+    omega (arith, one-length (g .step) (g .a) (g .version) (g .stamp) (c .before .before .before .x .given .1), s .pre .1)
 
 enum-told-2 : tie.Need-enum-told-2
 enum-told-2 c = search needs
@@ -63,7 +66,7 @@ returns-2 c =
     let s = w .before .before .before .before .before .before .before in
     let g = s .args in
     let e = w .before .before .before .before .x .given .1 in (
-      sym (ten (g .step) (g .a) (g .version) (g .stamp) e),
+      sym (one-length (g .step) (g .a) (g .version) (g .stamp) e),
       w .write-record .ensures ∙ ap (λ (r : Record). wrote (g .out .now) (recordBytes r)) (w .before .made .ensures)
           ∙ ap (λ (r : List ℕ). wrote (g .out .now) r) (one (g .step) (g .a) (g .version) (g .stamp) e),
     )

@@ -1,40 +1,36 @@
 -- `write_entries` meets its contract: the invariant has the entries of the arrays passed at the front.
 -- Assumes nothing.
-use mathlib.Core.Path.{_≡_, refl, sym, ap, _∙_}
-use Prim.Native.Nat.{ℕ, _*_, _-_, _≤_}
+use mathlib.Core.Path.{_≡_, sym}
+use Prim.Native.Nat.{_*_, _-_}
 use native.Mathlib.Omega.{arith}
-use lib.ListN.{length, length-take, length-drop}
-use Rattle.words.specs.Tables.{rows, wrote}
-use Rattle.words.proofs.Tables.{rows-more}
-use Rattle.words.proofs.Written.{wrote-length, write-more}
+use lib.ListN.{length}
+use Rattle.words.proofs.Filling.{Filled, begin, lies, lent, next, same, end}
 use Rattle.report.specs.Bytes.{entryBytes, stateOf, entriesOf}
 use Rattle.report.proofs.Bytes.{entries-length}
 use Rattle.report.proofs.write_entries.Statement.{statement}
 use Rattle.report.proofs.write_entries.Tie as tie
 
 abbrev Inv-loop : tie.InvT-loop
-Inv-loop m out₀ states a₀ out a = (a ≤ m) × (out ≡ wrote out₀ (entriesOf states a))
+Inv-loop m out₀ states a₀ out a = Filled (λ b. entryBytes (stateOf states b)) m out₀ a out
 
 abbrev μ-loop : tie.MeasureT-loop
 μ-loop m out₀ states a₀ out a = m - a
 
-long : (c : tie.At-loop Inv-loop μ-loop) → length (c .loop .out) ≡ length (c .before .before .args .out .now)
-long c =
-    let s = c .before .before in
-    ap length (c .loop .inv .1) ∙ wrote-length (s .args .out .now) (entriesOf (s .args .t1) (c .loop .a)) (omega (arith, entries-length (stateOf (s .args .t1)) (c .loop .a)))
+-- where the entry of array a stands
+here : (c : tie.At-loop Inv-loop μ-loop) → 6 * c .loop .a ≡ length (entriesOf (c .before .before .args .t1) (c .loop .a))
+here c = sym (entries-length (stateOf (c .before .before .args .t1)) (c .loop .a))
 
 loop-holds : tie.Need-loop-holds Inv-loop μ-loop
-unfolding rows
-loop-holds c = (omega arith, refl)
+loop-holds c = begin _ _ _ (omega (arith, entries-length (stateOf (c .before .args .t1)) (c .before .args .m)))
 
 mul-at : tie.Need-mul-at Inv-loop μ-loop
 mul-at c = omega arith
 
 sub-write-entry : tie.Need-sub-write-entry Inv-loop μ-loop
-sub-write-entry c = omega (arith, long (c .before))
+sub-write-entry c = lies (c .before .loop .inv) (here (c .before)) (omega arith)
 
 part-write-entry-start : tie.Need-part-write-entry-start Inv-loop μ-loop
-part-write-entry-start c = omega (arith, long (c .before))
+part-write-entry-start c = lies (c .before .loop .inv) (here (c .before)) (omega arith)
 
 part-write-entry-end : tie.Need-part-write-entry-end Inv-loop μ-loop
 part-write-entry-end c = omega arith
@@ -46,7 +42,7 @@ array-copy-out-write-entry : tie.Need-array-copy-out-write-entry Inv-loop μ-loo
 array-copy-out-write-entry c = omega arith
 
 write-entry-requires : tie.Need-write-entry-requires Inv-loop μ-loop
-write-entry-requires c κs = simp (length-take, length-drop) (omega (arith, long (c .before .before .before)))
+write-entry-requires c κs = let l = c .before .before .before in lent (l .loop .inv) (here l) (omega arith)
 
 add-a : tie.Need-add-a Inv-loop μ-loop
 add-a c = omega arith
@@ -57,21 +53,13 @@ loop-less c = omega arith
 loop-again : tie.Need-loop-again Inv-loop μ-loop
 loop-again c =
     let l = c .before .before .before .before .before .before in
-    let s = l .before .before in (
-      omega arith,
-      write-more (s .args .out .now) (entriesOf (s .args .t1) (l .loop .a)) (l .loop .out) (entryBytes (stateOf (s .args .t1) (l .loop .a)))
-          (c .before .before .write-entry .last .0) (6 * l .loop .a) (sym (entries-length (stateOf (s .args .t1)) (l .loop .a))) (l .loop .inv .1) (c .before .before .write-entry .ensures)
-          ∙ ap (wrote (s .args .out .now)) (rows-more _ _),
-    )
+    next (l .loop .inv) (here l) (omega arith) {ys = c .before .before .write-entry .last .0} (c .before .before .write-entry .ensures)
 
 same-length : tie.Need-same-length Inv-loop μ-loop
-same-length c = long (c .before)
+same-length c = same (c .before .loop .inv)
 
 returns : tie.Need-returns Inv-loop μ-loop
-returns c =
-    let s = c .before .before .before in
-    let all : c .before .loop .a ≡ s .args .m = omega arith in
-    c .before .loop .inv .1 ∙ ap (λ (m : ℕ). wrote (s .args .out .now) (entriesOf (s .args .t1) m)) all
+returns c = end (c .before .loop .inv) (omega arith)
 
 pub write-entries-spec : {M : Type 1} → statement M
 write-entries-spec =

@@ -1,6 +1,6 @@
 -- `text::put_cell` meets its contract: one byte behind the column.
 -- Assumes nothing.
-use mathlib.Core.Path.{_≡_, ap, ap₂, _∙_}
+use mathlib.Core.Path.{_≡_, ap₂, _∙_}
 use mathlib.Core.Bool.{cond}
 use mathlib.Core.List.{List, [], _∷_}
 use Prim.Native.Nat.{ℕ}
@@ -19,8 +19,7 @@ put-column-requires c κs = search needs
 fits : (c : tie.After-put-column) → length (c .put-column .last .0) ≡ length (c .before .before .before .args .out .now)
 fits c =
     let s = c .before .before .before in
-    ap length (c .put-column .ensures .1)
-    ∙ wrote-length (s .args .out .now) (columnText (s .args .form) (s .args .n)) (omega (arith, column-most (s .args .form) (s .args .n), s .pre))
+    wrote-length (s .args .out .now) (columnText (s .args .form) (s .args .n)) (c .put-column .ensures .1) (omega (arith, column-most (s .args .form) (s .args .n), s .pre))
 
 separator-after-requires : tie.Need-separator-after-requires
 separator-after-requires c κs = search needs

@@ -14,10 +14,12 @@ use Rattle.state.specs.Vertex.{Visits}
 use Rattle.path.specs.Paths.{steps, vertexAt}
 use Rattle.report.specs.Bytes.{stateOf, recordsBytes}
 use Rattle.demand.specs.Run.{runRecords}
+use Rattle.words.proofs.Tests.{neither}
 use Rattle.walk.specs.Walks.{Held, rowBytes, Referred, relabelledAt}
-use Rattle.walk.proofs.Held.{hold-more, Untouched, untouched-more, neither}
+use Rattle.walk.proofs.Held.{hold-more, Untouched, untouched-more}
 use Rattle.path.proofs.Paths.{Walk, walk, within-vertices}
 use Rattle.walk.proofs.Walking.{Walking, relabelledFrom, begins, doneAt, room, row-is, visits-after, held-on, held-labelled, steps-on, all-written, last-states, last-current}
+use Rattle.passes.proofs.Cells.{in-eight}
 use Rattle.words.proofs.Written.{partFrom, wrote-length, part-length}
 use Rattle.walk.proofs.follow.Statement.{statement}
 use Rattle.walk.proofs.follow.Tie as tie
@@ -55,7 +57,7 @@ module _ (c : tie.In-loop Inv-loop2 μ-loop2 Inv-loop μ-loop) where
 
   -- the buffer keeps its length
   same-room : length (c .before .loop .out) ≡ length (s .args .out .now)
-  same-room = ap length (c .before .loop .inv .out-is) ∙ wrote-length (s .args .out .now) (doneAt file path (c .before .loop .i)) (omega (arith, room file path in-i (s .pre .1 .1 .1)))
+  same-room = wrote-length (s .args .out .now) (doneAt file path (c .before .loop .i)) (c .before .loop .inv .out-is) (omega (arith, room file path in-i (s .pre .1 .1 .1)))
 
 -- once the vertex is known
 module _ (c : tie.After-vertex Inv-loop2 μ-loop2 Inv-loop μ-loop) where
@@ -157,7 +159,7 @@ module _ (c : tie.In-loop2 Inv-loop2 μ-loop2 Inv-loop μ-loop) where
   in-a = omega (arith, s begun .pre .0 .heads .arrays-are)
 
   small : a < 8
-  small = omega (arith, in-a, s begun .pre .0 .well .laid .limits .few-arrays)
+  small = in-eight (s begun .pre .0 .well) in-a
 
   -- the array is as it was
   same : settled (getD (c .before .loop2 .stamps) a 0) (stateOf (c .before .loop2 .states) a) ≡ settled (getD (after served) a 0) (stateOf (l (q served) .loop .states) a)
@@ -275,8 +277,7 @@ settle-all-requires c κs =
 same-length : tie.Need-same-length Inv-loop2 μ-loop2 Inv-loop μ-loop
 same-length c =
     let s = first (c .before) in
-    ap length (all-written (c .before .before .loop .inv) (over (c .before)))
-    ∙ wrote-length (s .args .out .now) (recordsBytes (runRecords (s .args .file .now) (s .args .path .now))) (s .pre .1 .1 .1)
+    wrote-length (s .args .out .now) (recordsBytes (runRecords (s .args .file .now) (s .args .path .now))) (all-written (c .before .before .loop .inv) (over (c .before))) (s .pre .1 .1 .1)
 
 returns : tie.Need-returns Inv-loop2 μ-loop2 Inv-loop μ-loop
 returns c =

@@ -8,6 +8,7 @@ use lib.ListN.{length}
 use Rattle.routine.specs.Layout.{arrays}
 use Rattle.walk.specs.Walks.{rowBytes, Referred}
 use Rattle.walk.proofs.Held.{referred-none, referred-more, bytes-are, row, row-fits}
+use Rattle.passes.proofs.Cells.{in-eight}
 use Rattle.words.proofs.Written.{wrote-length, part-length}
 use Rattle.walk.proofs.refer.Statement.{statement}
 use Rattle.walk.proofs.refer.Tie as tie
@@ -28,14 +29,14 @@ module _ (c : tie.In-loop Inv-loop μ-loop) where
   in-a = omega (arith, s .pre .0 .heads .arrays-are)
 
   small : c .before .loop .a < 8
-  small = omega (arith, in-a, s .pre .0 .well .laid .limits .few-arrays)
+  small = in-eight (s .pre .0 .well) in-a
 
   -- the row up to here, and the next record, have room
   room : c .before .loop .bytes + length (row (c .before .loop .inv .1) (c .before .loop .a)) ≤ length (s .args .out .now)
   room = omega (arith, c .before .loop .inv .1 .length-is, row-fits (s .args .file .now) (s .args .v) (s .args .step) (s .args .versions .now) (s .args .stamps .now) in-a, s .pre .1 .1 .1)
 
   same-room : length (c .before .loop .out) ≡ length (s .args .out .now)
-  same-room = ap length (c .before .loop .inv .1 .out-is) ∙ wrote-length (s .args .out .now) (rowBytes (s .args .file .now) (s .args .v) (s .args .step) (s .args .versions .now) (s .args .stamps .now) (c .before .loop .a)) (omega (arith, room, c .before .loop .inv .1 .length-is))
+  same-room = wrote-length (s .args .out .now) (rowBytes (s .args .file .now) (s .args .v) (s .args .step) (s .args .versions .now) (s .args .stamps .now) (c .before .loop .a)) (c .before .loop .inv .1 .out-is) (omega (arith, room, c .before .loop .inv .1 .length-is))
 
 loop-holds : tie.Need-loop-holds Inv-loop μ-loop
 loop-holds c =
@@ -128,8 +129,7 @@ whole c =
 same-length : tie.Need-same-length Inv-loop μ-loop
 same-length c =
     let s = c .before .before .before .before in
-    ap length (whole c .out-is)
-    ∙ wrote-length (s .args .out .now) (rowBytes (s .args .file .now) (s .args .v) (s .args .step) (s .args .versions .now) (s .args .stamps .now) (arrays (s .args .file .now))) (s .pre .1 .1 .1)
+    wrote-length (s .args .out .now) (rowBytes (s .args .file .now) (s .args .v) (s .args .step) (s .args .versions .now) (s .args .stamps .now) (arrays (s .args .file .now))) (whole c .out-is) (s .pre .1 .1 .1)
 
 returns : tie.Need-returns Inv-loop μ-loop
 returns c = whole c

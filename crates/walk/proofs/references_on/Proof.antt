@@ -12,7 +12,7 @@ use Rattle.words.proofs.Tables.{table-at, table-length}
 use Rattle.path.specs.Paths.{steps}
 use Rattle.report.specs.References.{referencesAt}
 use Rattle.walk.specs.Report.{referencesOn}
-use Rattle.walk.proofs.References.{on-none, on-more, on-few}
+use Rattle.walk.proofs.Bytes.{on-none, on-more, on-few}
 use Rattle.path.proofs.Paths.{walk, within-vertices}
 use Rattle.walk.proofs.references_on.Statement.{statement}
 use Rattle.walk.proofs.references_on.Tie as tie

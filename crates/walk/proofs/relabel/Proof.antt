@@ -9,7 +9,7 @@ use lib.Dec.{eqb}
 use lib.ListN.{length, getD}
 use Rattle.labels.specs.Events.{event}
 use Rattle.labels.specs.Letters.{useOfByte}
-use Rattle.passes.proofs.Bounds.{initial-below}
+use Rattle.labels.proofs.Rules.Proper.{proper}
 use Rattle.passes.proofs.Cells.{few-cells, in-table}
 use Rattle.routine.specs.Layout.{vertices}
 use Rattle.routine.specs.declared.action.Action.{Action}
@@ -81,7 +81,7 @@ module _ (c : tie.After-settled) where
 relabelled-requires : tie.Need-relabelled-requires
 relabelled-requires c κs =
     let q = c .before .before in
-    (subst (λ (r : ArrayRecord). r .initial < 16) (sym (q .before .before .record-of .ensures)) (initial-below (start q .pre .0 .well) (start q .pre .1 .0 .0)), visits q)
+    (subst (λ (r : ArrayRecord). r .initial < 16) (sym (q .before .before .record-of .ensures)) (proper _ (start q .pre .0 .well) _ (start q .pre .1 .0 .0) .initial-fits), visits q)
 
 sub-leave : tie.Need-sub-leave
 sub-leave c =

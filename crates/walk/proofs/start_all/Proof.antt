@@ -4,7 +4,8 @@ use mathlib.Core.Path.{_≡_, refl, sym, ap, subst, _∙_}
 use Prim.Native.Nat.{ℕ, _-_, _≤_, _<_}
 use native.Mathlib.Omega.{arith}
 use borrow.Author.Needs.{needs}
-use Rattle.passes.proofs.Bounds.{initial-below}
+use Rattle.passes.proofs.Cells.{in-eight}
+use Rattle.labels.proofs.Rules.Proper.{proper}
 use Rattle.routine.specs.Arrays.{arrayOf}
 use Rattle.routine.specs.Layout.{arrays}
 use Rattle.routine.specs.declared.array.ArrayRecord.{ArrayRecord}
@@ -28,7 +29,7 @@ module _ (c : tie.In-loop Inv-loop μ-loop) where
   s = c .before .before .before .before
 
   small : c .before .loop .a < 8
-  small = omega (arith, s .pre .0 .heads .arrays-are, s .pre .0 .well .laid .limits .few-arrays)
+  small = in-eight (s .pre .0 .well) (omega (arith, s .pre .0 .heads .arrays-are))
 
 empty-requires : tie.Need-empty-requires Inv-loop μ-loop
 empty-requires c κs = search needs
@@ -43,7 +44,7 @@ record-of-requires c κs = (s c .pre .0 .well .laid, omega (arith, s c .pre .0 .
 
 start-requires : tie.Need-start-requires Inv-loop μ-loop
 start-requires c κs =
-    subst (λ (r : ArrayRecord). r .initial < 16) (sym (c .record-of .ensures)) (initial-below (s (c .before) .pre .0 .well) (omega (arith, s (c .before) .pre .0 .heads .arrays-are)))
+    subst (λ (r : ArrayRecord). r .initial < 16) (sym (c .record-of .ensures)) (proper _ (s (c .before) .pre .0 .well) (c .before .before .loop .a) (omega (arith, s (c .before) .pre .0 .heads .arrays-are)) .initial-fits)
 
 element-write-versions : tie.Need-element-write-versions Inv-loop μ-loop
 element-write-versions c = omega (arith, small (c .before .before))
@@ -52,7 +53,7 @@ current-stamp-requires : tie.Need-current-stamp-requires Inv-loop μ-loop
 current-stamp-requires c κs =
     let t = c .before .before in
     let r = c .before .record-of .ensures in
-    subst Current (sym (c .start .ensures ∙ ap started r)) (started-fits (arrayOf (s t .args .file .now) (t .before .loop .a)) (initial-below (s t .pre .0 .well) {a = t .before .loop .a} (omega (arith, s t .pre .0 .heads .arrays-are))) .current)
+    subst Current (sym (c .start .ensures ∙ ap started r)) (started-fits (arrayOf (s t .args .file .now) (t .before .loop .a)) (proper _ (s t .pre .0 .well) (t .before .loop .a) (omega (arith, s t .pre .0 .heads .arrays-are)) .initial-fits) .current)
 
 mul-stamps : tie.Need-mul-stamps Inv-loop μ-loop
 mul-stamps c = omega (arith, small (c .before .before .before))

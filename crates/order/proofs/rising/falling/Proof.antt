@@ -1,6 +1,5 @@
 -- `falling` meets its contract, by cases of the test.
 -- Assumes nothing.
-use mathlib.Core.Path.{sym}
 use borrow.Author.Needs.{needs}
 use borrow.Author.Tests.{lt-ltb, le-ltb}
 use Rattle.order.proofs.rising.falling.Statement.{statement}

@@ -9,8 +9,7 @@ use Rattle.routine.specs.declared.action.Action.{Action}
 use Rattle.words.proofs.Fills.{Filling, begin, onward, finish}
 use native.Mathlib.Omega.{arith}
 use borrow.Author.Needs.{needs}
-use Rattle.passes.proofs.Bounds.{cell-below}
-use Rattle.passes.proofs.Cells.{cell-event, cells-table}
+use Rattle.passes.proofs.Cells.{cell-event, cells-table, cell-below}
 use Rattle.passes.proofs.events.tabulate.Statement.{statement}
 use Rattle.passes.proofs.events.tabulate.Tie as tie
 

@@ -7,7 +7,7 @@ use native.Mathlib.Omega.{arith}
 use borrow.Author.Needs.{needs}
 use Rattle.flow.specs.Order.{Order}
 use Rattle.flow.specs.Paths.{edgeCount}
-use Rattle.passes.proofs.Edges.{inside, part}
+use Rattle.passes.proofs.Cells.{edges-inside, edges-part}
 use Rattle.labels.proofs.Rules.Proper.{edge-count}
 use Rattle.passes.proofs.pass.order.Statement.{statement}
 use Rattle.passes.proofs.pass.order.Tie as tie
@@ -16,10 +16,10 @@ edges-at-requires : tie.Need-edges-at-requires
 edges-at-requires c κs = search needs
 
 sub-fill : tie.Need-sub-fill
-sub-fill c = inside (c .before .before .before .pre .0) (c .edges-at .ensures)
+sub-fill c = edges-inside (c .before .before .before .pre .0) (c .edges-at .ensures)
 
 part-fill-start : tie.Need-part-fill-start
-part-fill-start c = inside (c .before .before .before .pre .0) (c .edges-at .ensures)
+part-fill-start c = edges-inside (c .before .before .before .pre .0) (c .edges-at .ensures)
 
 part-fill-end : tie.Need-part-fill-end
 part-fill-end c = search needs
@@ -29,7 +29,7 @@ fill-requires c κs =
     let e = c .before .before in
     let s = e .before .before .before in
     let file = s .args .file .now in
-    let count = ap edgeCount (part (s .pre .0) (e .edges-at .ensures)) ∙ edge-count file (s .pre .0 .well .laid) in
+    let count = ap edgeCount (edges-part (s .pre .0) (e .edges-at .ensures)) ∙ edge-count file (s .pre .0 .well .laid) in
     (omega (arith, count, s .pre .0 .well .laid .limits .few-edges), s .pre .1 ∙ sym count)
 
 same-length : tie.Need-same-length
@@ -39,7 +39,7 @@ returns : tie.Need-returns
 returns c =
     let e = c .before .before .before .before .before in
     let s = e .before .before .before in
-    subst (λ (es : List ℕ). Order (edgeCount es) (c .before .before .fill .last .1 .0)) (part (s .pre .0) (e .edges-at .ensures)) (c .before .before .fill .ensures)
+    subst (λ (es : List ℕ). Order (edgeCount es) (c .before .before .fill .last .1 .0)) (edges-part (s .pre .0) (e .edges-at .ensures)) (c .before .before .fill .ensures)
 
 pub order-spec : {M : Type 1} → statement M
 order-spec =

@@ -13,7 +13,7 @@ use Rattle.flow.specs.Solver.{column, solution, rowCount, Ends, Solved}
 use Rattle.labels.specs.Events.{edgeBytes}
 use Rattle.passes.specs.Tables.{Pass}
 use Rattle.routine.specs.Layout.{vertices}
-use Rattle.passes.proofs.Edges.{inside, part}
+use Rattle.passes.proofs.Cells.{edges-inside, edges-part}
 use Rattle.labels.proofs.Rules.Proper.{ends-within}
 use Rattle.passes.proofs.pass.solve.Statement.{statement}
 use Rattle.passes.proofs.pass.solve.Tie as tie
@@ -35,10 +35,10 @@ edges-at-requires : tie.Need-edges-at-requires
 edges-at-requires c κs = search needs
 
 sub-solve : tie.Need-sub-solve
-sub-solve c = inside (c .before .before .before .before .before .before .pre .0) (c .edges-at .ensures)
+sub-solve c = edges-inside (c .before .before .before .before .before .before .pre .0) (c .edges-at .ensures)
 
 part-solve-start : tie.Need-part-solve-start
-part-solve-start c = inside (c .before .before .before .before .before .before .pre .0) (c .edges-at .ensures)
+part-solve-start c = edges-inside (c .before .before .before .before .before .before .pre .0) (c .edges-at .ensures)
 
 part-solve-end : tie.Need-part-solve-end
 part-solve-end c = search needs
@@ -48,7 +48,7 @@ solve-requires c κs =
     let e = c .before .before in
     let s = e .before .before .before .before .before .before in
     let file = s .args .file .now in
-    let lent = part (s .pre .0) (e .edges-at .ensures) in
+    let lent = edges-part (s .pre .0) (e .edges-at .ensures) in
     let size = s .pre .1 .1 .1 .1 in
     let rows : vertices file ≡ rowCount (s .args .sets .now) = sym (rows-are file (s .args .sets .now) size) in (
       subst (λ (es : List ℕ). Order (edgeCount es) (s .args .order .now)) (sym lent) (s .pre .1 .0),
@@ -68,7 +68,7 @@ returns c =
     let e = c .before .before .before .before .before in
     let s = e .before .before .before .before .before .before in
     let file = s .args .file .now in
-    let lent = part (s .pre .0) (e .edges-at .ensures) in
+    let lent = edges-part (s .pre .0) (e .edges-at .ensures) in
     moved file (s .args .along) (s .args .gives .now) (s .args .passes .now) lent (rows-are file (s .args .sets .now) (s .pre .1 .1 .1 .1)) (c .before .before .solve .ensures)
 
 pub solve-spec : {M : Type 1} → statement M

@@ -9,7 +9,7 @@ use Rattle.routine.specs.Layout.{entry}
 use Rattle.labels.specs.Reaching.{reachingOf}
 use Rattle.routine.specs.Arrays.{arrayOf, isInOrInout}
 use Rattle.routine.specs.declared.array.ArrayRecord.{ArrayRecord}
-use Rattle.passes.proofs.Bounds.{initial-below}
+use Rattle.labels.proofs.Rules.Proper.{proper}
 use Rattle.passes.proofs.reaching.at_entry.Statement.{statement}
 use Rattle.passes.proofs.reaching.at_entry.Tie as tie
 
@@ -28,7 +28,7 @@ is-in-or-inout-requires c κs = search needs
 single-requires : tie.Need-single-requires
 single-requires c κs =
     let s = c .before .before .before in
-    rw (c .before .record-of .ensures) (initial-below (s .pre .0 .well) (s .pre .1))
+    rw (c .before .record-of .ensures) (proper _ (s .pre .0 .well) _ (s .pre .1) .initial-fits)
 
 set-if-requires : tie.Need-set-if-requires
 set-if-requires c κs = search needs

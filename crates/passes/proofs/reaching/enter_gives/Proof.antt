@@ -13,7 +13,7 @@ use Rattle.routine.specs.Layout.{arrays, entry}
 use Rattle.routine.specs.declared.array.ArrayRecord.{ArrayRecord}
 use Rattle.words.specs.Tables.{withRow}
 use Rattle.words.proofs.Rows.{row-next}
-use Rattle.passes.proofs.Bounds.{initial-below}
+use Rattle.labels.proofs.Rules.Proper.{proper}
 use Rattle.passes.proofs.reaching.enter_gives.Statement.{statement}
 use Rattle.passes.proofs.reaching.enter_gives.Tie as tie
 
@@ -43,7 +43,7 @@ is-in-or-inout-requires c κs = search needs
 single-requires : tie.Need-single-requires Inv-loop μ-loop
 single-requires c κs =
     let s = c .before .before .before .before .before .before .before .before .before in
-    subst (λ (r : ArrayRecord). r .initial < 16) (sym (c .before .before .before .record-of .ensures)) (initial-below (s .pre .0 .well) (omega (arith, s .pre .0 .heads .arrays-are)))
+    subst (λ (r : ArrayRecord). r .initial < 16) (sym (c .before .before .before .record-of .ensures)) (proper _ (s .pre .0 .well) (c .before .before .before .before .before .loop .a) (omega (arith, s .pre .0 .heads .arrays-are)) .initial-fits)
 
 set-if-requires : tie.Need-set-if-requires Inv-loop μ-loop
 set-if-requires c κs = search needs

@@ -1,16 +1,17 @@
 -- `check_row` meets its contract: a scan of the arrays that keeps what sorts of action it met.
 -- Assumes nothing.
-use mathlib.Core.Path.{_≡_, refl, sym, ap, ap₂, _∙_}
+use mathlib.Core.Path.{_≡_, refl, sym, ap, _∙_}
 use mathlib.Core.Bool.{_||_}
 use Prim.Native.Nat.{ℕ, _-_}
 use native.Mathlib.Omega.{arith}
 use borrow.Author.Needs.{needs}
 use lib.Dec.{eqb}
+use Rattle.words.proofs.Sums.{any-none, any-next}
 use Rattle.routine.specs.declared.array.ArrayRecord.{ArrayRecord}
 use Rattle.routine.specs.Actions.{isReference, isRemap, wrong, actionCheck, rowCheck}
 use Rattle.routine.specs.Layout.{arrays}
-use Rattle.routine.proofs.Laws.{Undecided, start, stop, next, done}
-use Rattle.routine.proofs.Rows.{among, among-none, among-more, one-test}
+use Rattle.refusal.proofs.Checks.{Undecided, start, stop, next, done}
+use Rattle.routine.proofs.Rows.{among, one-test}
 use Rattle.routine.proofs.action.check_row.Statement.{statement}
 use Rattle.routine.proofs.action.check_row.Tie as tie
 
@@ -27,7 +28,7 @@ is-terminal-requires : tie.Need-is-terminal-requires Inv-loop μ-loop
 is-terminal-requires c κs = search needs
 
 loop-holds : tie.Need-loop-holds Inv-loop μ-loop
-loop-holds c = (start _ _, sym (among-none _ _ _), sym (among-none _ _ _))
+loop-holds c = (start _ _, sym (any-none _), sym (any-none _))
 
 at-requires : tie.Need-at-requires Inv-loop μ-loop
 at-requires c κs = search needs
@@ -80,11 +81,10 @@ loop-again : tie.Need-loop-again Inv-loop μ-loop
 loop-again c =
     let w = c .before .before .before in
     let l = w .before .before .before .before in
-    let s = l .before .before .before in
     let x = w .before .before .at .ensures in (
       next (l .loop .inv .0) (omega arith) (rw (turn w, c .before .before .if1 .left)) refl,
-      ap₂ _||_ (l .loop .inv .1) (c .before .is-reference .ensures ∙ ap isReference x) ∙ sym (among-more isReference (s .args .file .now) (s .args .v) (l .loop .a)),
-      ap₂ _||_ (l .loop .inv .2) (c .is-remap .ensures ∙ ap isRemap x) ∙ sym (among-more isRemap (s .args .file .now) (s .args .v) (l .loop .a)),
+      any-next _ (l .loop .a) (l .loop .inv .1) (c .before .is-reference .ensures ∙ ap isReference x),
+      any-next _ (l .loop .a) (l .loop .inv .2) (c .is-remap .ensures ∙ ap isRemap x),
     )
 
 returns-2 : tie.Need-returns-2 Inv-loop μ-loop

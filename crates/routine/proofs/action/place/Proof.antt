@@ -2,7 +2,7 @@
 -- Assumes nothing.
 use native.Mathlib.Omega.{arith}
 use borrow.Author.Needs.{needs}
-use Rattle.routine.proofs.Places.{action-place}
+use Rattle.routine.proofs.Form.{action-place}
 use Rattle.routine.proofs.action.place.Statement.{statement}
 use Rattle.routine.proofs.action.place.Tie as tie
 

@@ -5,7 +5,7 @@ use native.Mathlib.Omega.{arith}
 use borrow.Author.Needs.{needs}
 use Rattle.routine.specs.Arrays.{arrayCheck, check14}
 use Rattle.routine.specs.Layout.{arrays}
-use Rattle.routine.proofs.Laws.{Undecided, start, stop, next, done}
+use Rattle.refusal.proofs.Checks.{Undecided, start, stop, next, done}
 use Rattle.routine.proofs.array.check_all.Statement.{statement}
 use Rattle.routine.proofs.array.check_all.Tie as tie
 

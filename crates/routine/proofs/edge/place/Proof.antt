@@ -2,7 +2,7 @@
 -- Assumes nothing.
 use native.Mathlib.Omega.{arith}
 use borrow.Author.Needs.{needs}
-use Rattle.routine.proofs.Places.{edge-place}
+use Rattle.routine.proofs.Form.{edge-place}
 use Rattle.routine.proofs.edge.place.Statement.{statement}
 use Rattle.routine.proofs.edge.place.Tie as tie
 

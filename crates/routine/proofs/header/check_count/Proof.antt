@@ -1,6 +1,6 @@
 -- `check_count` meets its contract, by cases of the tests.
 -- Assumes nothing.
-use Rattle.routine.proofs.Laws.{tests}
+use Rattle.words.proofs.Tests.{tests}
 use Rattle.routine.proofs.header.check_count.Statement.{statement}
 use Rattle.routine.proofs.header.check_count.Tie as tie
 

@@ -3,7 +3,7 @@
 use mathlib.Core.Path.{ap, _∙_}
 use borrow.Author.Needs.{needs}
 use Rattle.routine.specs.Layout.{countsCheck, check12}
-use Rattle.routine.proofs.Laws.{fails, passes}
+use Rattle.refusal.proofs.Checks.{fails, passes}
 use Rattle.routine.proofs.header.check_counts.Statement.{statement}
 use Rattle.routine.proofs.header.check_counts.Tie as tie
 

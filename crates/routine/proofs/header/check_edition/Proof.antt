@@ -2,7 +2,7 @@
 -- Assumes nothing.
 use borrow.Author.Needs.{needs}
 use Rattle.routine.specs.Layout.{check11}
-use Rattle.routine.proofs.Laws.{tests}
+use Rattle.words.proofs.Tests.{tests}
 use Rattle.routine.proofs.header.check_edition.Statement.{statement}
 use Rattle.routine.proofs.header.check_edition.Tie as tie
 

@@ -6,7 +6,7 @@ use borrow.Author.Needs.{needs}
 use lib.ListN.{length}
 use Rattle.routine.specs.Reader.{formCheck}
 use Rattle.routine.proofs.Form.{long-enough, in-limits}
-use Rattle.routine.proofs.Laws.{fails, passes}
+use Rattle.refusal.proofs.Checks.{fails, passes}
 use Rattle.routine.proofs.header.check_form.Statement.{statement}
 use Rattle.routine.proofs.header.check_form.Tie as tie
 

@@ -11,7 +11,7 @@ use Rattle.words.specs.Words.{word}
 use Rattle.routine.specs.declared.header.Header.{Header}
 use Rattle.routine.specs.Layout.{actionsAt, edgesAt, endAt, check13}
 use Rattle.routine.specs.Reader.{Limits}
-use Rattle.routine.proofs.Places.{few-actions}
+use Rattle.routine.proofs.Form.{few-actions}
 use Rattle.routine.proofs.header.check_layout.Statement.{statement}
 use Rattle.routine.proofs.header.check_layout.Tie as tie
 

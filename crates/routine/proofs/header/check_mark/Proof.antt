@@ -3,7 +3,7 @@
 use borrow.Author.Needs.{needs}
 use borrow.Author.Tests.{le-leb, not-true, not-false}
 use Rattle.routine.specs.Layout.{check10}
-use Rattle.routine.proofs.Laws.{tests}
+use Rattle.words.proofs.Tests.{tests}
 use Rattle.routine.proofs.header.check_mark.Statement.{statement}
 use Rattle.routine.proofs.header.check_mark.Tie as tie
 

@@ -1,7 +1,7 @@
 -- `is_marked` meets its contract, by cases of the tests.
 -- Assumes nothing.
 use borrow.Author.Needs.{needs}
-use Rattle.routine.proofs.Laws.{tests}
+use Rattle.words.proofs.Tests.{tests}
 use Rattle.routine.proofs.header.is_marked.Statement.{statement}
 use Rattle.routine.proofs.header.is_marked.Tie as tie
 

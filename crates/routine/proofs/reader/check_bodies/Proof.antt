@@ -2,7 +2,7 @@
 -- Assumes nothing.
 use borrow.Author.Needs.{needs}
 use Rattle.routine.specs.Reader.{bodyCheck}
-use Rattle.routine.proofs.Laws.{fails, passes}
+use Rattle.refusal.proofs.Checks.{fails, passes}
 use Rattle.routine.proofs.reader.check_bodies.Statement.{statement}
 use Rattle.routine.proofs.reader.check_bodies.Tie as tie
 

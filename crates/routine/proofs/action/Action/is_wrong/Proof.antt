@@ -5,7 +5,7 @@ use mathlib.Core.Bool.{Bool, _||_, or-false}
 use borrow.Author.Needs.{needs}
 use Rattle.routine.specs.declared.action.Action.{Action}
 use Rattle.routine.specs.Rows.{isWrong}
-use Rattle.routine.proofs.Laws.{not-below}
+use Rattle.words.proofs.Tests.{not-below}
 use Rattle.routine.proofs.action.Action.is_wrong.Statement.{statement}
 use Rattle.routine.proofs.action.Action.is_wrong.Tie as tie
 

@@ -2,7 +2,7 @@
 -- Assumes nothing.
 use mathlib.Core.Path.{sym, ap}
 use Rattle.routine.specs.Actions.{actionOf}
-use Rattle.routine.proofs.Laws.{tests}
+use Rattle.words.proofs.Tests.{tests}
 use Rattle.routine.proofs.action.Action.of.Statement.{statement}
 use Rattle.routine.proofs.action.Action.of.Tie as tie
 

@@ -1,7 +1,7 @@
 -- `ArrayRecord::check` meets its contract: each test that fails gives the byte of the first field outside its limits.
 -- Assumes nothing.
 use borrow.Author.Needs.{needs}
-use Rattle.routine.proofs.Laws.{tests}
+use Rattle.words.proofs.Tests.{tests}
 use Rattle.routine.proofs.array.ArrayRecord.check.Statement.{statement}
 use Rattle.routine.proofs.array.ArrayRecord.check.Tie as tie
 

@@ -1,7 +1,7 @@
 -- `Edge::has_ends` meets its contract, by cases of the tests.
 -- Assumes nothing.
 use borrow.Author.Needs.{needs}
-use Rattle.routine.proofs.Laws.{tests}
+use Rattle.words.proofs.Tests.{tests}
 use Rattle.routine.proofs.edge.Edge.has_ends.Statement.{statement}
 use Rattle.routine.proofs.edge.Edge.has_ends.Tie as tie
 

@@ -1,6 +1,6 @@
 -- `Edge::is_before` meets its contract, by cases of the tests.
 -- Assumes nothing.
-use Rattle.routine.proofs.Laws.{tests}
+use Rattle.words.proofs.Tests.{tests}
 use Rattle.routine.proofs.edge.Edge.is_before.Statement.{statement}
 use Rattle.routine.proofs.edge.Edge.is_before.Tie as tie
 

@@ -2,7 +2,7 @@
 -- Assumes nothing.
 use native.Mathlib.Omega.{arith}
 use borrow.Author.Needs.{needs}
-use Rattle.routine.proofs.Places.{few-actions}
+use Rattle.routine.proofs.Form.{few-actions}
 use Rattle.routine.proofs.header.Header.edges_at.Statement.{statement}
 use Rattle.routine.proofs.header.Header.edges_at.Tie as tie
 

@@ -1,30 +1,18 @@
 -- Laws of checks in a row, and of scans for the first item that fails.
 -- Assumes nothing.
 use mathlib.Core.Path.{_≡_, refl, sym, ap, _∙_}
-use mathlib.Core.Bool.{Bool, true, false, not, _&&_, _||_, false≢true}
+use mathlib.Core.Bool.{Bool, true, false, not, _||_}
 use Prim.Native.Nat.{ℕ, zero, suc, _+_, _-_, _≤_, _<_}
 use native.Mathlib.Nat.{add-zero, zero-add}
 use native.Mathlib.Omega.{arith}
-use borrow.Author.Tests.{lt-ltb, le-ltb, le-leb, lt-leb, eq-eqb, ne-eqb, leb-true, ltb-true, ltb-false, eqb-true, eqb-false, not-true, not-false}
+use borrow.Author.Tests.{leb-true, ltb-true, eqb-true, eqb-false, not-true, not-false}
+use Rattle.words.proofs.Tests.{and-left, and-right}
 use Rattle.refusal.specs.declared.Refusal.{Refusal}
 use Rattle.refusal.specs.declared.Verdict.{Verdict}
 use Rattle.refusal.specs.declared.Verdict.the-variants.{Passed, Failed}
 use Rattle.refusal.specs.Checks.{_andThen_, holds, firstFailed}
-use Rattle.routine.specs.Layout.{within}
-use lib.Dec.{leb, ltb}
-
--- ---- tests
-
--- what a branch tells, as the value of its test
-pub ruleset tests = (lt-ltb, le-ltb, le-leb, lt-leb, eq-eqb, ne-eqb)
-
--- `>=` is the negation of `<`
-pub not-below : (m n : ℕ) → leb n m ≡ not (ltb m n)
-not-below m n = go (ltb m n) refl
-  where
-    go : (t : Bool) → ltb m n ≡ t → leb n m ≡ not t
-    go true e = lt-leb n m (ltb-true m n e)
-    go false e = le-leb n m (ltb-false m n e)
+use Rattle.refusal.specs.Replies.{written}
+use Rattle.refusal.specs.declared.Reply.the-variants.{Written}
 
 -- ---- checks in a row
 
@@ -35,10 +23,7 @@ fails rest is e = rw (← is, e)
 pub passes : {v w x rest : Verdict} → v ≡ w → v ≡ Passed → x ≡ rest → x ≡ (w andThen rest)
 passes is e next = rw (← is, e) next
 
-pub goes-on : {v w x : Verdict} → v ≡ Passed → w ≡ x → (v andThen w) ≡ x
-goes-on p e = sym (passes refl p (sym e))
-
-pub then-assoc : (u v w : Verdict) → ((u andThen v) andThen w) ≡ (u andThen v andThen w)
+then-assoc : (u v w : Verdict) → ((u andThen v) andThen w) ≡ (u andThen v andThen w)
 then-assoc Passed v w = refl
 then-assoc (Failed r) v w = refl
 
@@ -46,10 +31,15 @@ then-passed : (v : Verdict) → (v andThen Passed) ≡ v
 then-passed Passed = refl
 then-passed (Failed r) = refl
 
+-- a call that writes has passed its checks
+pub written-passed : (v : Verdict) (m : ℕ) {n : ℕ} → written v m ≡ Written n → v ≡ Passed
+written-passed Passed m e = refl
+written-passed (Failed r) m e = cc
+
 -- two tests with one refusal are one test
-pub either : (a b : Bool) (r : Refusal) → (holds (not a) r andThen holds (not b) r) ≡ holds (not (a || b)) r
-either true b r = refl
-either false b r = refl
+pub holds-or : (a b : Bool) (r : Refusal) → (holds (not a) r andThen holds (not b) r) ≡ holds (not (a || b)) r
+holds-or true b r = refl
+holds-or false b r = refl
 
 -- ---- what a row that passes tells of its parts
 
@@ -64,24 +54,6 @@ passed-right (Failed r) w e = cc
 pub holds-true : (b : Bool) (r : Refusal) → holds b r ≡ Passed → b ≡ true
 holds-true true r e = refl
 holds-true false r e = cc
-
-pub and-left : (a b : Bool) → (a && b) ≡ true → a ≡ true
-and-left true b e = refl
-and-left false b e = e
-
-pub and-right : (a b : Bool) → (a && b) ≡ true → b ≡ true
-and-right true b e = e
-and-right false b e = absurd (false≢true e)
-
--- both parts at once
-pub and-parts : (a b : Bool) → (a && b) ≡ true → (a ≡ true) × (b ≡ true)
-and-parts a b e = (and-left a b e, and-right a b e)
-
-pub allowed : (b : Bool) (r : Refusal) (rest : Verdict) → (holds b r andThen rest) ≡ Passed → (b ≡ true) × (rest ≡ Passed)
-allowed b r rest e = (holds-true b r (passed-left (holds b r) rest e), passed-right (holds b r) rest e)
-
-pub within-limits : (low high n : ℕ) → within low high n ≡ true → (low ≤ n) × (n ≤ high)
-within-limits low high n e = (leb-true low n (and-left (leb low n) (leb n high) e), leb-true n high (and-right (leb low n) (leb n high) e))
 
 -- each test of the row, and the fact that it stands for
 pub ruleset parts = (passed-left, passed-right, holds-true, and-left, and-right, not-true, not-false, leb-true, ltb-true, eqb-true, eqb-false)
@@ -143,6 +115,12 @@ module _ (item : ℕ → Verdict) where
       ∙ sym (then-assoc (item from) _ _)
       ∙ ap (λ (w : Verdict). firstFailed item from (suc n) andThen w) (sym (next-item from n))
 
+  -- the items from the next one on, as items of their own
+  pub shift : (from n : ℕ) → firstFailed item (from + 1) n ≡ firstFailed (λ i. item (i + 1)) from n
+  unfolding firstFailed
+  shift from zero = refl
+  shift from (suc n) = ap (λ (v : Verdict). item (from + 1) andThen v) (shift (from + 1) n)
+
   -- the first item passes, and so do those from the next one on
   onward : (from n : ℕ) → item from ≡ Passed → ((i : ℕ) → i < n → item (from + 1 + i) ≡ Passed) → (i : ℕ) → i < suc n → item (from + i) ≡ Passed
   onward from n p all zero h = rw add-zero p
@@ -154,11 +132,11 @@ module _ (item : ℕ → Verdict) where
   scan-passed from (suc n) e =
       onward from n (passed-left (item from) _ e) (scan-passed (from + 1) n (passed-right (item from) _ e))
 
-  pub passed-scan : (from n : ℕ) → ((i : ℕ) → i < n → item (from + i) ≡ Passed) → firstFailed item from n ≡ Passed
+  passed-scan : (from n : ℕ) → ((i : ℕ) → i < n → item (from + i) ≡ Passed) → firstFailed item from n ≡ Passed
   unfolding firstFailed
   passed-scan from zero all = refl
   passed-scan from (suc n) all =
-      goes-on (rw add-zero at (all 0 (omega arith)))
+      rw (rw add-zero at (all 0 (omega arith)))
       (passed-scan (from + 1) n (λ i h. sym (next-item from i) ∙ all (suc i) (omega arith)))
 
   pub scan-failed : (from n : ℕ) {r : Refusal} → firstFailed item from n ≡ Failed r → FirstAt item from n r
@@ -190,7 +168,7 @@ module _ (item : ℕ → Verdict) where
       let f = rw add-zero at e in
       sym (fails _ refl f) ∙ f
   failed-from from (suc n) (suc k) h e all =
-      goes-on (rw add-zero at (all 0 (omega arith)))
+      rw (rw add-zero at (all 0 (omega arith)))
       (failed-from (from + 1) n k (omega arith) (sym (next-item from k) ∙ e) (λ i h. sym (next-item from i) ∙ all (suc i) (omega arith)))
 
   pub failed-scan : (from n : ℕ) {r : Refusal} → FirstAt item from n r → firstFailed item from n ≡ Failed r
