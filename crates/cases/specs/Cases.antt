@@ -33,6 +33,7 @@ pub data Line : Type 0 where
   -- vertex, array, use, leave, reach, keep
   line : ℕ → ℕ → Use → Option ℕ → ℕ → ℕ → Line
 
+-- the line of array a at vertex v, if it has a label there
 abbrev pub lineAt : List ℕ → ℕ → ℕ → List Line
 lineAt file v a =
     cond (isLabel file a v)
@@ -82,6 +83,7 @@ pub record Runs : Type 0 where
   pub reads : List Seen
   pub report : List ℕ
 
+-- a case, by what it shows
 pub data Case : Type 0 where
   plans : Plans → Case
   refuses : Refuses → Case
@@ -103,6 +105,7 @@ CaseHolds (runs c) =
     × (readsOf (runRecords (c .file) (c .path)) ≡ c .reads)
     × (reportBytes (c .file) (c .path) ≡ c .report)
 
+-- every case of a table holds
 abbrev pub AllHold : List Case → Type 0
 AllHold [] = Unit {0}
 AllHold (c ∷ cs) = CaseHolds c × AllHold cs
@@ -386,5 +389,6 @@ runU =
           ∷ [];
     })
 
+-- cases 1 to 8 as starred, and three more
 abbrev pub cases : List Case
 cases = case1 ∷ case2 ∷ case3 ∷ case4 ∷ case5 ∷ case6 ∷ case7 ∷ case8 ∷ caseS ∷ caseU ∷ runU ∷ []

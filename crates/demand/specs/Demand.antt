@@ -23,6 +23,7 @@ IsHome file path a =
     (stateAfter file path a (steps path) .current ≡ initial file a)
     × (stampOf (stateAfter file path a (steps path)) (initial file a) ≡ machineAfter file path a (steps path) .stamp)
 
+-- demand 3
 pub record Demand3 (file path : List ℕ) : Type 0 where
   -- the report's records are the machine's: version held, kind, stamp seen, new stamp
   pub reads-alike : runRecords file path ≡ machineRecords file path

@@ -44,7 +44,7 @@ runRecords file path =
     (stampOf (stateAfter file path a i) (stateAfter file path a i .current)))
     (arrays file) (steps path)
 
--- whether a stamp is copied for array a at index i of the path
+-- whether an event copies a stamp
 abbrev pub copiedBy : Action → Use → State → Bool
 unfolding copiesStamp
 copiedBy Nothing u s = false
@@ -52,6 +52,7 @@ copiedBy (Reference x) u s = false
 copiedBy (Remap t) u s = copiesStamp u t s
 copiedBy Unknown u s = false
 
+-- whether one is copied for array a at index i of the path
 unfoldable pub copiedAt : List ℕ → List ℕ → ℕ → ℕ → Bool
 unfolding stateAfter event useOf copiesStamp
 copiedAt file path a i = copiedBy (event file a (vertexAt path i)) (useOf file a (vertexAt path i)) (stateAfter file path a i)

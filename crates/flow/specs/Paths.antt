@@ -10,12 +10,15 @@ use Rattle.words.specs.Words.{word}
 
 -- ---- edges: four bytes each, from and to (document 01, "Routine file"); `es` is the list of their bytes
 
+-- how many edges
 abbrev pub edgeCount : List ℕ → ℕ
 edgeCount es = length es / 4
 
+-- the vertex that edge i leaves
 abbrev pub edgeFrom : List ℕ → ℕ → ℕ
 edgeFrom es i = word es (4 * i)
 
+-- the vertex that it enters
 abbrev pub edgeTo : List ℕ → ℕ → ℕ
 edgeTo es i = word es (4 * i + 2)
 

@@ -21,6 +21,7 @@ abbrev pub Leads : List ℕ → Bool → (ℕ → Bool) → ℕ → ℕ → Type
 Leads es true through v w = Path es through v w
 Leads es false through v w = Path es through w v
 
+-- the set of v holds k: a vertex that gives k is led to
 pub record Holds (es : List ℕ) (along : Bool) (gives passes : List ℕ) (v k : ℕ) : Type 0 where
   pub giver : ℕ
   pub way : Leads es along (λ u. has (getD passes u 0) k) v giver
@@ -32,6 +33,7 @@ pub record Holds (es : List ℕ) (along : Bool) (gives passes : List ℕ) (v k :
 abbrev pub near : List ℕ → Bool → ℕ → ℕ
 near es along i = cond along (edgeFrom es i) (edgeTo es i)
 
+-- the end that it grows from
 abbrev pub far : List ℕ → Bool → ℕ → ℕ
 far es along i = cond along (edgeTo es i) (edgeFrom es i)
 

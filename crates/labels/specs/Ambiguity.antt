@@ -34,10 +34,12 @@ pub record Ambiguous (file : List ℕ) (a v : ℕ) : Type 0 where
 
 -- ---- computed
 
+-- a label that a path from the entry reaches gives its version
 unfoldable pub arriveGives : List ℕ → ℕ → ℕ → ℕ
 unfolding isReached event version
 arriveGives file a v = cond (isReached file v && isLabel file a v) (2 ^ version file a v) 0
 
+-- what is no label passes every version
 unfoldable pub arrivePasses : List ℕ → ℕ → ℕ → ℕ
 unfolding event
 arrivePasses file a v = cond (isLabel file a v) 0 everyVersion

@@ -31,6 +31,7 @@ unfoldable pub writesIn : List ℕ → ℕ → ℕ → Bool
 unfolding event
 writesIn file a v = isIn (kind file a) && isWrite (event file a v)
 
+-- 20, at the first such place
 unfoldable pub check20 : List ℕ → Verdict
 unfolding firstFault writesIn
 check20 file = firstFault (λ v a. writesIn file a v) WritesInArgument file

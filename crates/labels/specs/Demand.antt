@@ -19,6 +19,7 @@ use Rattle.labels.specs.Kept.{InKept, keptOf}
 use Rattle.labels.specs.Reaching.{Reaches, reachingOf}
 use Rattle.labels.specs.Uses.{IsUse, useOf, Unused, isKept}
 
+-- demand 2
 pub record Demand2 (file : List ℕ) : Type 0 where
   -- the letter of a label is the one whose rule holds, and no other's rule does
   pub letters : (a v : ℕ) → a < arrays file → (u : Use) → IsUse file a v u ↔ (u ≡ useOf file a v)

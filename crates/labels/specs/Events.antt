@@ -26,6 +26,7 @@ edgeBytes file = drop (edgesAt file) file
 
 -- ---- events: entry labels every array as a remapping to its initial version; exit labels every argument so
 
+-- what vertex v does with array a
 unfoldable pub event : List ℕ → ℕ → ℕ → Action
 unfolding arrayOf action
 event file a v =
@@ -46,12 +47,14 @@ versionOf Unknown = 0
 abbrev pub versionSet : Action → ℕ
 versionSet x = cond (isRemap x) (2 ^ versionOf x) 0
 
+-- the version of the label at v
 unfoldable pub version : List ℕ → ℕ → ℕ → ℕ
 unfolding event
 version file a v = versionOf (event file a v)
 
 -- ---- tests of events
 
+-- a read
 abbrev pub isRead : Action → Bool
 isRead Nothing = false
 isRead (Reference Read) = true
@@ -60,6 +63,7 @@ isRead (Reference Modify) = false
 isRead (Remap k) = false
 isRead Unknown = false
 
+-- a define
 abbrev pub isDefine : Action → Bool
 isDefine Nothing = false
 isDefine (Reference Read) = false
@@ -68,6 +72,7 @@ isDefine (Reference Modify) = false
 isDefine (Remap k) = false
 isDefine Unknown = false
 
+-- a modify
 abbrev pub isModify : Action → Bool
 isModify Nothing = false
 isModify (Reference Read) = false

@@ -43,10 +43,12 @@ InKept file a v k = Leaves file a v k ⊎ KeepsFor file a v k
 
 -- ---- computed
 
+-- the leaving version at v as a set
 unfoldable pub leavingSet : List ℕ → ℕ → ℕ → ℕ
 unfolding isKept version
 leavingSet file a v = cond (isKept file a v) (2 ^ version file a v) 0
 
+-- what the vertices keep for later labels
 unfoldable pub keptSets : List ℕ → ℕ → List ℕ
 unfolding solution leavingSet passesKept
 keptSets file a =

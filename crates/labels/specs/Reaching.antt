@@ -46,11 +46,13 @@ pub record Reaches (file : List ℕ) (a v k : ℕ) : Type 0 where
 
 -- ---- computed: first which vertices some path from the entry reaches
 
+-- bit 0 where a path of one edge or more from the entry arrives
 unfoldable pub reachedSets : List ℕ → List ℕ
 unfolding solution
 reachedSets file =
     solution (edgeBytes file) false (table (λ v. cond (eqb v entry) 1 0) (vertices file)) (table (λ v. 1) (vertices file)) (vertices file)
 
+-- v is the entry, or some path from the entry arrives there
 unfoldable pub isReached : List ℕ → ℕ → Bool
 unfolding reachedSets has
 isReached file v = eqb v entry || has (getD (reachedSets file) v 0) 0
@@ -61,10 +63,12 @@ unfolding isReached isKept version
 reachGives file a v =
     cond (isReached file v && (isKept file a v || (eqb v entry && isInOrInout (kind file a)))) (2 ^ version file a v) 0
 
+-- what is no kept label passes every version
 unfoldable pub reachPasses : List ℕ → ℕ → ℕ → ℕ
 unfolding isKept
 reachPasses file a v = cond (isKept file a v) 0 everyVersion
 
+-- what reaches the vertices by paths of one edge or more
 unfoldable pub reachSets : List ℕ → ℕ → List ℕ
 unfolding solution reachGives reachPasses
 reachSets file a =

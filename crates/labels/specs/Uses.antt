@@ -74,6 +74,7 @@ pub record IsUse (file : List ℕ) (a v : ℕ) (u : Use) : Type 0 where
 
 -- ---- use, computed: bit 0 a reference met; bit 1 a read, a modify or a label met with no define before; bit 2 a read; bit 3 a write
 
+-- what an event gives
 abbrev pub useGives : Action → ℕ
 useGives Nothing = 0b0000
 useGives (Reference Read) = 0b0111
@@ -95,27 +96,32 @@ usePasses Unknown = 0b1111
 abbrev pub passesBy : ℕ → ℕ
 passesBy gives = cond (eqb gives 0b0010) 0b0000 (cond (eqb gives 0b1001) 0b1101 0b1111)
 
+-- the sets of use of the vertices
 unfoldable pub useSets : List ℕ → ℕ → List ℕ
 unfolding solution event
 useSets file a =
     solution (edgeBytes file) true (table (λ v. useGives (event file a v)) (vertices file))
     (table (λ v. usePasses (event file a v)) (vertices file)) (vertices file)
 
+-- the letter that a set of use says
 abbrev pub letterOf : ℕ → Use
 letterOf m = cond (not (has m 0)) N (cond (not (has m 1)) D (cond (has m 2 && not (has m 3)) R W))
 
+-- the letter of the label at v
 unfoldable pub useOf : List ℕ → ℕ → ℕ → Use
 unfolding useSets has
 useOf file a v = cond (eqb v (exit file)) (exitUse (kind file a)) (letterOf (getD (useSets file a) v 0))
 
 -- ---- leaving: the label's version, or none for N; a label is kept if it is not N
 
+-- the letter N
 abbrev pub isN : Use → Bool
 isN N = true
 isN D = false
 isN R = false
 isN W = false
 
+-- v is a kept label
 unfoldable pub isKept : List ℕ → ℕ → ℕ → Bool
 unfolding event useOf
 isKept file a v = isLabel file a v && not (isN (useOf file a v))

@@ -18,6 +18,7 @@ use Rattle.path.specs.Paths.{vertexAt}
 abbrev pub wordAt : ℕ → ℕ → ℕ
 wordAt v w = 16 * v + w / 16
 
+-- a table with one edge more
 unfoldable pub withEdge : List ℕ → Edge → List ℕ
 withEdge table e = set table (wordAt (e .from) (e .to)) (bitOr (getD table (wordAt (e .from) (e .to)) 0) (2 ^ (e .to % 16)))
 

@@ -13,10 +13,11 @@ use Rattle.refusal.specs.declared.Verdict.{Verdict}
 use Rattle.words.specs.Sums.{anyBelow}
 use Rattle.words.specs.Words.{word}
 
--- how many vertices the path has, and the vertex at an index
+-- how many vertices the path has
 abbrev pub steps : List ℕ → ℕ
 steps path = length path / 2
 
+-- the vertex at index i
 abbrev pub vertexAt : List ℕ → ℕ → ℕ
 vertexAt path i = word path (2 * i)
 
@@ -37,11 +38,12 @@ check30 path = holds (within 1 4096 (steps path)) (PathLengthOutsideLimits (step
 abbrev pub check31 : List ℕ → Verdict
 check31 path = holds (eqb (vertexAt path 0) entry) WrongStart
 
--- 32: no such edge, at the index of the vertex arrived at
+-- an edge leads to the vertex at index i from the one before it
 unfoldable pub arrivalCheck : List ℕ → List ℕ → ℕ → Verdict
 unfolding isEdge
 arrivalCheck file path i = holds (isEdge file (vertexAt path (i - 1)) (vertexAt path i)) (NoSuchEdge i)
 
+-- 32: no such edge, at the index of the vertex arrived at
 unfoldable pub check32 : List ℕ → List ℕ → Verdict
 unfolding firstFailed arrivalCheck
 check32 file path = firstFailed (arrivalCheck file path) 1 (steps path - 1)

@@ -29,26 +29,31 @@ unfoldable pub labelsBefore : List ℕ → ℕ → ℕ
 unfolding total labelsAt
 labelsBefore file v = total (labelsAt file) v
 
+-- of all vertices
 unfoldable pub labelCount : List ℕ → ℕ
 unfolding labelsBefore
 labelCount file = labelsBefore file (vertices file)
 
 -- ---- contents: for each vertex the index of its first label and how many, 16 bits each
 
+-- the entry of vertex v
 unfoldable pub contentsEntry : List ℕ → ℕ → List ℕ
 unfolding labelsBefore labelsAt
 contentsEntry file v = bytes16 (labelsBefore file v) ++ bytes16 (labelsAt file v)
 
+-- the entries of all vertices
 unfoldable pub contents : List ℕ → List ℕ
 unfolding rows contentsEntry
 contents file = rows (contentsEntry file) (vertices file)
 
 -- ---- labels of eight bytes by vertex, then array: array, use letter, leaving version (255 none), zero, reaching, kept
 
+-- the leaving version at v, 255 for none
 unfoldable pub leavingByte : List ℕ → ℕ → ℕ → ℕ
 unfolding useOf version
 leavingByte file a v = cond (isN (useOf file a v)) 255 (version file a v)
 
+-- its eight bytes
 abbrev pub eightBytes : ℕ → ℕ → ℕ → ℕ → ℕ → List ℕ
 eightBytes array letter leaving reaching kept = array ∷ letter ∷ leaving ∷ 0 ∷ (bytes16 reaching ++ bytes16 kept)
 
@@ -63,23 +68,28 @@ unfoldable pub labelEntry : List ℕ → ℕ → ℕ → List ℕ
 unfolding event labelBytes
 labelEntry file v a = cond (isLabel file a v) (labelBytes file v a) []
 
+-- the labels of vertex v
 unfoldable pub labelRow : List ℕ → ℕ → List ℕ
 unfolding rows labelEntry
 labelRow file v = rows (labelEntry file v) (arrays file)
 
+-- the labels of all vertices
 unfoldable pub labels : List ℕ → List ℕ
 unfolding rows labelRow
 labels file = rows (labelRow file) (vertices file)
 
 -- ---- the plan: mark, vertex count, label count, contents, labels
 
+-- mark and counts
 abbrev pub planHead : ℕ → ℕ → List ℕ
 planHead vertexCount labelCount = mark ++ (bytes16 vertexCount ++ bytes16 labelCount)
 
+-- the plan
 unfoldable pub planBytes : List ℕ → List ℕ
 unfolding labelCount contents labels
 planBytes file = (planHead (vertices file) (labelCount file) ++ contents file) ++ labels file
 
+-- its length
 unfoldable pub planLength : List ℕ → ℕ
 unfolding labelCount
 planLength file = 8 + 4 * vertices file + 8 * labelCount file

@@ -5,9 +5,11 @@ use Rattle.refusal.specs.declared.Outcome.{Outcome}
 use Rattle.refusal.specs.declared.Refusal.{Refusal}
 use Rattle.refusal.specs.declared.Refusal.the-variants.{TooShort, WrongMark, WrongEdition, CountOutsideLimits, WrongOffset, WrongLength, WrongArrayByte, WrongActionByte, WrongEdge, WritesInArgument, AmbiguousReference, PathLengthOutsideLimits, WrongStart, NoSuchEdge, ShortPlanBuffer, ShortReportBuffer}
 
+-- a number and two places
 abbrev pub refused : ℕ → ℕ → ℕ → Outcome
 refused number first second = record { number = number; first = first; second = second }
 
+-- those of each reason
 abbrev pub outcomeOf : Refusal → Outcome
 outcomeOf (TooShort length) = refused 10 length 0
 outcomeOf WrongMark = refused 10 0 0

@@ -16,6 +16,7 @@ entryBytes s = bytes16 (s .copies) ++ (bytes16 (s .live) ++ (s .current ∷ 0 �
 abbrev pub stateOf : List State → ℕ → State
 stateOf states a = getD states a (record { current = 0; live = 0; stamps = []; copies = 0 })
 
+-- the entries of the first m arrays
 abbrev pub entriesOf : List State → ℕ → List ℕ
 entriesOf states m = rows (λ a. entryBytes (stateOf states a)) m
 
@@ -23,6 +24,7 @@ entriesOf states m = rows (λ a. entryBytes (stateOf states a)) m
 abbrev pub recordBytes : Record → List ℕ
 recordBytes r = bytes16 (r .step) ++ (r .array ∷ r .version ∷ r .kind ∷ 0 ∷ (bytes16 (r .seen) ++ bytes16 (r .new)))
 
+-- records, one after the other
 abbrev pub recordsBytes : List Record → List ℕ
 recordsBytes [] = []
 recordsBytes (r ∷ rs) = recordBytes r ++ recordsBytes rs

@@ -25,9 +25,11 @@ actionOf b =
     (cond (ltb b 0x50) (Remap (b - 0x40))
     Unknown)))))
 
+-- the byte of vertex v and array a
 abbrev pub actionByte : List ℕ → ℕ → ℕ → ℕ
 actionByte file v a = getD file (actionAt file v a) 0
 
+-- what vertex v does with array a
 unfoldable pub action : List ℕ → ℕ → ℕ → Action
 unfolding actionOf
 action file v a = actionOf (actionByte file v a)
@@ -86,6 +88,7 @@ actionCheck file v a =
     andThen wrong file v a (isEntryOrExit file v && not (eqb (actionByte file v a) 0))
     andThen firstFailed (mixedCheck file v a) 0 a
 
+-- the first wrong byte of a vertex's row
 unfoldable pub rowCheck : List ℕ → ℕ → Verdict
 unfolding actionCheck firstFailed
 rowCheck file v = firstFailed (actionCheck file v) 0 (arrays file)

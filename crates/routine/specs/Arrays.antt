@@ -19,23 +19,29 @@ arrayRecordOf b = record { kind = getD b 0 0; versions = getD b 1 0; initial = g
 unfoldable pub arrayOf : List ℕ → ℕ → ArrayRecord
 arrayOf file a = arrayRecordOf (take 4 (drop (recordAt a) file))
 
+-- its kind
 abbrev pub kind : List ℕ → ℕ → ℕ
 kind file a = arrayOf file a .kind
 
+-- its initial version
 abbrev pub initial : List ℕ → ℕ → ℕ
 initial file a = arrayOf file a .initial
 
 -- ---- kinds: 0 local, 1 in, 2 out, 3 inout; the last three are arguments
 
+-- in, out or inout
 abbrev pub isArgument : ℕ → Bool
 isArgument kind = not (eqb kind 0)
 
+-- an in argument
 abbrev pub isIn : ℕ → Bool
 isIn kind = eqb kind 1
 
+-- an argument that comes with a value
 abbrev pub isInOrInout : ℕ → Bool
 isInOrInout kind = eqb kind 1 || eqb kind 3
 
+-- an argument that goes home with one
 abbrev pub isOutOrInout : ℕ → Bool
 isOutOrInout kind = eqb kind 2 || eqb kind 3
 

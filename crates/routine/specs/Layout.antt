@@ -13,15 +13,19 @@ use Rattle.refusal.specs.Checks.{_andThen_, holds}
 
 -- ---- contents at byte 6: offset and count, 16 bits each, of arrays, vertices, edges
 
+-- how many arrays
 abbrev pub arrays : List ℕ → ℕ
 arrays file = word file 8
 
+-- how many vertices
 abbrev pub vertices : List ℕ → ℕ
 vertices file = word file 12
 
+-- how many edges
 abbrev pub edges : List ℕ → ℕ
 edges file = word file 16
 
+-- the three counts
 abbrev pub headerOf : List ℕ → Header
 headerOf file = record { arrays = arrays file; vertices = vertices file; edges = edges file }
 
@@ -29,26 +33,33 @@ headerOf file = record { arrays = arrays file; vertices = vertices file; edges =
 abbrev pub entry : ℕ
 entry = 0
 
+-- the last is the exit
 abbrev pub exit : List ℕ → ℕ
 exit file = vertices file - 1
 
 -- ---- bodies from byte 18 in that order without gaps: four bytes an array, a byte for each vertex and array, four bytes an edge
 
+-- the record of array a
 abbrev pub recordAt : ℕ → ℕ
 recordAt a = 18 + 4 * a
 
+-- the first action byte
 abbrev pub actionsAt : List ℕ → ℕ
 actionsAt file = 18 + 4 * arrays file
 
+-- the action byte of vertex v and array a
 abbrev pub actionAt : List ℕ → ℕ → ℕ → ℕ
 actionAt file v a = actionsAt file + v * arrays file + a
 
+-- the first edge
 abbrev pub edgesAt : List ℕ → ℕ
 edgesAt file = actionsAt file + vertices file * arrays file
 
+-- edge i
 abbrev pub edgeAt : List ℕ → ℕ → ℕ
 edgeAt file i = edgesAt file + 4 * i
 
+-- the end of the file
 abbrev pub endAt : List ℕ → ℕ
 endAt file = edgesAt file + 4 * edges file
 

@@ -32,6 +32,7 @@ unfoldable pub readCheck : List ℕ → Verdict
 unfolding formCheck bodyCheck
 readCheck file = formCheck file andThen bodyCheck file
 
+-- a routine where the checks pass, else the refusal
 abbrev pub answered : Verdict → Header → Answer
 answered Passed h = Routine h
 answered (Failed r) h = Refused r

@@ -27,18 +27,21 @@ mask n = digits 16 4 (n % 65536)
 unfoldable pub versionText : ℕ → List ℕ
 versionText n = cond (eqb n 255) (45 ∷ []) (decimal n)
 
--- ---- columns
+-- ---- the forms of a column
 
--- their forms
+-- a number in decimal
 abbrev pub NUMBER : ℕ
 NUMBER = 0
 
+-- a byte as it is
 abbrev pub CHARACTER : ℕ
 CHARACTER = 1
 
+-- a version, or `-` for none
 abbrev pub VERSION : ℕ
 VERSION = 2
 
+-- four hexadecimal digits
 abbrev pub MASK : ℕ
 MASK = 3
 
@@ -48,11 +51,14 @@ columnText form n = cond (eqb form CHARACTER) (n % 256 ∷ []) (cond (eqb form V
 
 -- ---- lines: a space after each column, a line feed after the last
 
+-- after column i of n
 abbrev pub separator : ℕ → ℕ → ℕ
 separator i n = cond (eqb (i + 1) n) 10 32
 
+-- a column and its separator
 abbrev pub cell : List ℕ → List ℕ → ℕ → List ℕ
 cell forms fields i = columnText (getD forms i 0) (getD fields i 0) ++ (separator i (length fields) ∷ [])
 
+-- a line of columns
 abbrev pub line : List ℕ → List ℕ → List ℕ
 line forms fields = rows (cell forms fields) (length fields)

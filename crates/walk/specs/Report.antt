@@ -28,6 +28,7 @@ unfoldable pub referencesOn : List ℕ → List ℕ → ℕ → ℕ
 unfolding total event
 referencesOn file path n = total (λ i. referencesAt file (vertexAt path i)) n
 
+-- the report's length
 unfoldable pub reportLength : List ℕ → List ℕ → ℕ
 unfolding referencesOn
 reportLength file path = 6 * arrays file + 10 * referencesOn file path (steps path)
