@@ -33,7 +33,7 @@ use Rattle.state.specs.Vertex.{labelled, visited}
 use Rattle.state.proofs.Fits.{started-fits, step-fits}
 use Rattle.state.proofs.States.{below-current}
 use Rattle.demand.proofs.Labels.{Ready, Labelled, labelled-does}
-use Rattle.demand.proofs.Invariant.{Plan, Sound, Holds, Before, label-holds, ready, used, below, visit, alike}
+use Rattle.demand.proofs.Invariant.{Plan, Sound, AfterVertex, Before, label-holds, ready, used, below, visit, alike}
 
 -- a path of n vertices, and run and machine along it
 pub record Follows (p : Plan) (at : ℕ → ℕ) (n : ℕ) (run : ℕ → State) (machine : ℕ → Machine) : Type 0 where
@@ -85,15 +85,15 @@ module _ {p : Plan} (sound : Sound p) {at : ℕ → ℕ} {n : ℕ} {run : ℕ �
   initial-below = sound .below (sound .entry-remaps)
 
   -- the state's fields fit their types
-  pub fits : (i : ℕ) → i ≤ n → Fits (run i) i
-  fits zero h = rw (f .run-start) (started-fits (p .array) initial-below)
-  fits (suc i) h =
+  pub run-fits : (i : ℕ) → i ≤ n → Fits (run i) i
+  run-fits zero h = rw (f .run-start) (started-fits (p .array) initial-below)
+  run-fits (suc i) h =
       rw (f .run-step i)
-      (step-fits (p .array) (p .letter (at i)) (p .keep (at i)) (omega (arith, f .short)) (fits i (omega arith))
+      (step-fits (p .array) (p .letter (at i)) (p .keep (at i)) (omega (arith, f .short)) (run-fits i (omega arith))
       (eqb (at i) (p .exit)) (p .event (at i)) (λ k. sound .below))
 
-  pub begins : p .event (at 0) ≡ Remap (p .array .initial)
-  begins = ap (p .event) (f .begins) ∙ sound .entry-remaps
+  pub first-remaps : p .event (at 0) ≡ Remap (p .array .initial)
+  first-remaps = ap (p .event) (f .begins) ∙ sound .entry-remaps
 
   start : Ready (run 0) (machine 0)
   start = rw (f .run-start, f .machine-start) (started-ready (p .array) initial-below)
@@ -103,7 +103,7 @@ module _ {p : Plan} (sound : Sound p) {at : ℕ → ℕ} {n : ℕ} {run : ℕ �
   after i = visited (p .array) (p .event (at i)) (p .letter (at i)) (p .keep (at i)) (i + 1) (run i)
 
   abbrev After : ℕ → Type 0
-  After i = (label : ℕ) × Holds p label (at i) (after i) (machine (suc i))
+  After i = (label : ℕ) × AfterVertex p label (at i) (after i) (machine (suc i))
 
   -- a vertex that another follows is not the exit
   stays : (i : ℕ) → suc i < n → run (suc i) ≡ after i
@@ -115,11 +115,11 @@ module _ {p : Plan} (sound : Sound p) {at : ℕ → ℕ} {n : ℕ} {run : ℕ �
 
   before : (i : ℕ) → suc i < n → After i → Before p (at (suc i)) (run (suc i)) (machine (suc i))
   before i h y =
-      record { label = y .0; from = at i; holds = rw (stays i h) (y .1); edge = f .joined i h; sixteen = fits (suc i) (omega arith) .stamps .sixteen }
+      record { label = y .0; from = at i; holds = rw (stays i h) (y .1); edge = f .joined i h; sixteen = run-fits (suc i) (omega arith) .stamps .sixteen }
 
   along : (i : ℕ) → i < n → After i
   unfolding labelled referenced
-  along zero h = (at 0, rw (f .machine-step 0, begins) (label-holds sound (at 0) (p .array .initial) 1 (run 0) (machine 0) begins start))
+  along zero h = (at 0, rw (f .machine-step 0, first-remaps) (label-holds sound (at 0) (p .array .initial) 1 (run 0) (machine 0) first-remaps start))
   along (suc i) h = rw (f .machine-step (suc i)) (visit sound (before i h (along i (omega arith))) (suc i + 1) (p .event (at (suc i))) refl)
 
   next : (i : ℕ) → suc i < n → Before p (at (suc i)) (run (suc i)) (machine (suc i))
@@ -129,7 +129,7 @@ module _ {p : Plan} (sound : Sound p) {at : ℕ → ℕ} {n : ℕ} {run : ℕ �
 
   -- a reference is not the first vertex
   referring : (i : ℕ) → i < n → T (isReference (p .event (at i))) → Before p (at i) (run i) (machine i)
-  referring zero h g = absurd (rw begins at g)
+  referring zero h g = absurd (rw first-remaps at g)
   referring (suc i) h g = next i h
 
   -- a reference uses the version that the machine holds
@@ -144,7 +144,7 @@ module _ {p : Plan} (sound : Sound p) {at : ℕ → ℕ} {n : ℕ} {run : ℕ �
   pub alike-at : (i a : ℕ) → i < n
       → recordsAt (p .event (at i)) (i + 1) a (run i .current) (stampOf (run i) (run i .current))
       ≡ recordsAt (p .event (at i)) (i + 1) a (machine i .held) (machine i .stamp)
-  alike-at zero a h = rw begins
+  alike-at zero a h = rw first-remaps
   alike-at (suc i) a h = alike sound (next i h) (suc i + 1) (p .event (at (suc i))) refl a
 
   -- copies are at most what the machine counts

@@ -31,7 +31,7 @@ use Rattle.state.specs.Moves.{moves, copiesStamp}
 use Rattle.state.specs.References.{referenced}
 use Rattle.state.specs.Vertex.{labelled, visited}
 use Rattle.demand.specs.Run.{stateAfter, runRecords, copiedBy, copiedAt, stampsCopied}
-use Rattle.demand.proofs.Along.{Follows, left-copies, fits, begins, used-at, below-at, alike-at, few-at, home-at}
+use Rattle.demand.proofs.Along.{Follows, left-copies, run-fits, first-remaps, used-at, below-at, alike-at, few-at, home-at}
 use Rattle.demand.proofs.Invariant.{Sound}
 use Rattle.path.proofs.Paths.{Walk, walk}
 use Rattle.demand.proofs.Planned.{computedPlan, sound}
@@ -40,9 +40,9 @@ use Rattle.words.proofs.Tables.{rows-same}
 
 -- ---- the version of the last label before a vertex
 
-last-none : (o : Option ℕ) → orLast none o ≡ o
-last-none none = refl
-last-none (some k) = refl
+or-last-none : (o : Option ℕ) → orLast none o ≡ o
+or-last-none none = refl
+or-last-none (some k) = refl
 
 last-assoc : (a b c : Option ℕ) → orLast a (orLast b c) ≡ orLast (orLast a b) c
 last-assoc a b none = refl
@@ -50,7 +50,7 @@ last-assoc a b (some k) = refl
 
 last-snoc : (test : ℕ → Bool) (ver : ℕ → ℕ) (us : List ℕ) (u : ℕ)
     → lastVersion test ver (us ++ (u ∷ [])) ≡ orLast (lastVersion test ver us) (cond (test u) (some (ver u)) none)
-last-snoc test ver [] u = sym (last-none _)
+last-snoc test ver [] u = sym (or-last-none _)
 last-snoc test ver (x ∷ us) u = rw (last-snoc test ver us u, last-assoc)
 
 -- a label's version is held from there on
@@ -93,7 +93,7 @@ module _ {file path : List ℕ} (walk : Walk file path) (a : ℕ) where
 
   module _ (sound : Sound (computedPlan file a)) where
     entered : event file a (vertexAt path 0) ≡ Remap (initial file a)
-    entered = begins sound follows
+    entered = first-remaps sound follows
 
     -- the last label's version is held
     last-held : (i : ℕ) → lastVersion (isLabel file a) (version file a) (table (vertexAt path) (suc i)) ≡ some (machineAfter file path a (suc i) .held)
@@ -142,7 +142,7 @@ module _ (file path : List ℕ) (w : WellFormed file) (accepted : pathCheck file
 
   -- every state on the way fits its types
   pub state-fits : (a n : ℕ) → a < arrays file → n ≤ steps path → Fits (stateAfter file path a n) n
-  state-fits a n l = fits (plans a l) (follows walks a) n
+  state-fits a n l = run-fits (plans a l) (follows walks a) n
 
   -- and at a reference a version is current
   pub reference-below :

@@ -43,18 +43,18 @@ pub record Plan : Type 0 where
   pub exit : ℕ
 
 -- a segment, and one on which no define was met before its end
-abbrev pub Segment : Plan → ℕ → ℕ → Type 0
-Segment p v w = Path (p .edges) (λ u. not (isRemap (p .event u))) v w
+abbrev pub PlanSegment : Plan → ℕ → ℕ → Type 0
+PlanSegment p v w = Path (p .edges) (λ u. not (isRemap (p .event u))) v w
 
-abbrev pub Undefined : Plan → ℕ → ℕ → Type 0
-Undefined p v w = Path (p .edges) (λ u. not (isRemap (p .event u)) && not (isDefine (p .event u))) v w
+abbrev pub PlanUndefined : Plan → ℕ → ℕ → Type 0
+PlanUndefined p v w = Path (p .edges) (λ u. not (isRemap (p .event u)) && not (isDefine (p .event u))) v w
 
 -- what the theorem needs of a plan
 pub record Sound (p : Plan) : Type 0 where
   -- what N, D and R rule out
-  pub unused : {v w k : ℕ} → p .event v ≡ Remap k → p .letter v ≡ N → Segment p v w → T (isReference (p .event w)) → ⊥
-  pub defined : {v w k : ℕ} → p .event v ≡ Remap k → p .letter v ≡ D → Undefined p v w → T (needsValue (p .event w)) → ⊥
-  pub only-read : {v w k : ℕ} → p .event v ≡ Remap k → p .letter v ≡ R → Segment p v w → T (isWrite (p .event w)) → ⊥
+  pub unused : {v w k : ℕ} → p .event v ≡ Remap k → p .letter v ≡ N → PlanSegment p v w → T (isReference (p .event w)) → ⊥
+  pub defined : {v w k : ℕ} → p .event v ≡ Remap k → p .letter v ≡ D → PlanUndefined p v w → T (needsValue (p .event w)) → ⊥
+  pub only-read : {v w k : ℕ} → p .event v ≡ Remap k → p .letter v ≡ R → PlanSegment p v w → T (isWrite (p .event w)) → ⊥
   -- the kept set of a D or W label is its own version alone
   pub alone :
       {v k : ℕ} → p .event v ≡ Remap k → isN (p .letter v) ≡ false → (p .letter v ≡ R → ⊥)
@@ -70,13 +70,13 @@ pub record Sound (p : Plan) : Type 0 where
 -- the last label is D, and no define was met since
 pub record Awaits (p : Plan) (label v : ℕ) : Type 0 where
   pub is-D : p .letter label ≡ D
-  pub onward : (w : ℕ) → Edge (p .edges) v w → Undefined p label w
+  pub onward : (w : ℕ) → Edge (p .edges) v w → PlanUndefined p label w
 
 -- the invariant: after vertex v, `label` being the last label on the path
-pub record Holds (p : Plan) (label v : ℕ) (s : State) (m : Machine) : Type 0 where
+pub record AfterVertex (p : Plan) (label v : ℕ) (s : State) (m : Machine) : Type 0 where
   pub held : p .event label ≡ Remap (m .held)
   -- whichever edge is taken next, the way from the label is a segment
-  pub onward : (w : ℕ) → Edge (p .edges) v w → Segment p label w
+  pub onward : (w : ℕ) → Edge (p .edges) v w → PlanSegment p label w
   -- a kept label's version is current
   pub kept : isN (p .letter label) ≡ false → s .current ≡ m .held
   -- every live version has the machine's stamp, or a define must come first
@@ -91,7 +91,7 @@ pub record Holds (p : Plan) (label v : ℕ) (s : State) (m : Machine) : Type 0 w
 pub record Before (p : Plan) (w : ℕ) (s : State) (m : Machine) : Type 0 where
   pub label : ℕ
   pub from : ℕ
-  pub holds : Holds p label from s m
+  pub holds : AfterVertex p label from s m
   pub edge : Edge (p .edges) from w
   pub sixteen : length (s .stamps) ≡ 16
 
@@ -112,7 +112,7 @@ not-N W h = refl
 module _ {p : Plan} (sound : Sound p) where
   -- ---- a label
   pub label-holds : (w t step : ℕ) (s : State) (m : Machine) → p .event w ≡ Remap t → Ready s m
-      → Holds p w w (labelled (p .array) (p .letter w) t (p .keep w) s) (machineStep (Remap t) step m)
+      → AfterVertex p w w (labelled (p .array) (p .letter w) t (p .keep w) s) (machineStep (Remap t) step m)
   label-holds w t step s m e y =
       let g = labelled-does (p .array) (p .letter w) t (p .keep w) step s m (sound .below e) y in
       record {
@@ -157,11 +157,11 @@ module _ {p : Plan} (sound : Sound p) where
       seen : T (needsValue (p .event w)) → stampOf s (s .current) ≡ m .stamp
       seen n = valued n (s .current) current-live
 
-    passes : T (not (isRemap (p .event w))) → (x : ℕ) → Edge (p .edges) w x → Segment p label x
+    passes : T (not (isRemap (p .event w))) → (x : ℕ) → Edge (p .edges) w x → PlanSegment p label x
     passes n x e = extend (i .onward w edge) n e
 
     -- a vertex that changes nothing
-    quiet : T (not (isRemap (p .event w))) → T (not (isRemap (p .event w)) && not (isDefine (p .event w))) → Holds p label w s m
+    quiet : T (not (isRemap (p .event w))) → T (not (isRemap (p .event w)) && not (isDefine (p .event w))) → AfterVertex p label w s m
     quiet n u =
         record {
           held = i .held;
@@ -175,7 +175,7 @@ module _ {p : Plan} (sound : Sound p) where
 
     -- a define or modify: nothing but the current version is live, and it gets the step number
     writes : (step : ℕ) → T (isReference (p .event w)) → T (isWrite (p .event w)) → T (not (isRemap (p .event w)))
-        → Holds p label w (record { current = s .current; live = s .live; stamps = set (s .stamps) (s .current) step; copies = s .copies })
+        → AfterVertex p label w (record { current = s .current; live = s .live; stamps = set (s .stamps) (s .current) step; copies = s .copies })
         (record { held = m .held; stamp = step; count = m .count })
     writes step f c n =
         let alone = i .alone (kept f) (λ e. sound .only-read (i .held) e (i .onward w edge) c) in
@@ -193,7 +193,7 @@ module _ {p : Plan} (sound : Sound p) where
 
     -- the next vertex, by what it does
     pub visit : (step : ℕ) (x : Action) → p .event w ≡ x
-        → (next : ℕ) × Holds p next w (visited (p .array) x (p .letter w) (p .keep w) step s) (machineStep x step m)
+        → (next : ℕ) × AfterVertex p next w (visited (p .array) x (p .letter w) (p .keep w) step s) (machineStep x step m)
     unfolding labelled referenced
     visit step Nothing e = (label, quiet (rw e tt) (rw e tt))
     visit step (Reference Read) e = (label, rw (set-getD (s .stamps) (s .current) 0) (quiet (rw e tt) (rw e tt)))

@@ -16,7 +16,7 @@ use lib.Pow.{pow-pos, pow-lt}
 use lib.ListN.{length, getD, set, replicate, length-replicate, length-set, List·getD-map}
 use lib.Seq.{map-set-same, set-getD, ext-getD}
 use Rattle.sets.specs.Sets.{bit, has}
-use Rattle.sets.proofs.Laws.{bit-lt, bit-or, bit-and, has-zero, same}
+use Rattle.sets.proofs.Laws.{bit-lt, bit-or, bit-and, has-zero, same-members}
 use Rattle.words.proofs.Tables.{at-set, zeros-at}
 use Rattle.flow.specs.Order.{Order}
 use Rattle.flow.specs.Paths.{last, next, edgeCount}
@@ -44,7 +44,7 @@ or-le a b = omega (arith, or-add-and a b, and-le-r a b)
 pub or-subset : (a b : ℕ) → ((k : ℕ) → bit b k - bit a k ≡ 0) → bitOr a b ≡ a
 unfolding has
 or-subset a b h =
-    same (bitOr a b) (bitOr a b) a (width (bitOr a b)) (omega (arith, width (bitOr a b), or-le a b))
+    same-members (bitOr a b) (bitOr a b) a (width (bitOr a b)) (omega (arith, width (bitOr a b), or-le a b))
     (λ k _. ap (λ (x : ℕ). eqb x 1) (let e : bit (bitOr a b) k ≡ bit a k = omega (arith, or-gap a b k, h k) in e))
 
 -- tests that pass together are the same
@@ -57,7 +57,7 @@ together false false h k = refl
 -- masks with the same members are the same
 alike : (a b : ℕ) → ((k : ℕ) → T (has a k) → T (has b k)) → ((k : ℕ) → T (has b k) → T (has a k)) → a ≡ b
 alike a b to from =
-    same (suc (a + b)) a b
+    same-members (suc (a + b)) a b
     (omega (arith, width a, pow-lt {i = a} {j = suc (a + b)} (omega arith)))
     (omega (arith, width b, pow-lt {i = b} {j = suc (a + b)} (omega arith)))
     (λ k _. together (has a k) (has b k) (to k) (from k))

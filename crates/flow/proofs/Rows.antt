@@ -3,9 +3,8 @@
 use mathlib.Core.Path.{_≡_, refl, sym, ap, ap₂, subst, _∙_}
 use mathlib.Core.Bool.{Bool, true, false, not}
 use mathlib.Core.List.{List}
-use mathlib.Core.Logic.{⊎-elim}
 use Prim.Native.Nat.{ℕ, zero, suc, _+_, _-_, _*_, _/_, _%_, _≤_, _<_, zero-le}
-use native.Mathlib.Nat.{le-refl, le-trans, le-antisymm, le-of-lt, le-of-suc-le-suc, eq-or-lt-of-le}
+use native.Mathlib.Nat.{le-refl, le-trans, le-antisymm, le-of-lt}
 use native.Mathlib.Decide.{le-ind, decLt, ℕ-discrete}
 use native.Mathlib.Numerals.{add-one}
 use native.Mathlib.Omega.{arith}
@@ -144,7 +143,7 @@ unfolding inAll
 all-none note zero e a l = absurd (omega arith)
 all-none note (suc m) e a l =
     let parts = or-none (inAll note m) (getD note m 0) e in
-    ⊎-elim (λ (q : a ≡ m). ap (λ (x : ℕ). getD note x 0) q ∙ parts .1) (λ (b : a < m). all-none note m (parts .0) a b) (eq-or-lt-of-le (le-of-suc-le-suc l))
+    below-more (λ x. getD note x 0 ≡ 0) m (all-none note m (parts .0)) (parts .1) a (omega arith)
 
 none-all : (note : List ℕ) (m : ℕ) → ((a : ℕ) → a < m → getD note a 0 ≡ 0) → inAll note m ≡ 0
 unfolding inAll

@@ -26,18 +26,18 @@ not-written e = absurd (let z : _≡_ {A = ℕ} 0 1 = cc in omega arith)
 
 module _ (file : List ℕ) (size : ℕ) {v : Verdict} (is : v ≡ programmerCheck file) where
   -- 20 or 21
-  pub denied-way : {r : Refusal} → v ≡ Failed r → Denied r ≡ written (plannerCheck file size) (planLength file)
+  pub plan-denied : {r : Refusal} → v ≡ Failed r → Denied r ≡ written (plannerCheck file size) (planLength file)
   unfolding plannerCheck
-  denied-way e = rw (← is, e)
+  plan-denied e = rw (← is, e)
 
   -- 1
-  pub short-way : v ≡ Passed → size < planLength file → Denied (ShortPlanBuffer (planLength file)) ≡ written (plannerCheck file size) (planLength file)
+  pub plan-short : v ≡ Passed → size < planLength file → Denied (ShortPlanBuffer (planLength file)) ≡ written (plannerCheck file size) (planLength file)
   unfolding plannerCheck
-  short-way e h = rw (← is, e, lt-leb (planLength file) size h)
+  plan-short e h = rw (← is, e, lt-leb (planLength file) size h)
 
-  pub written-way : v ≡ Passed → planLength file ≤ size → Written (planLength file) ≡ written (plannerCheck file size) (planLength file)
+  pub plan-written : v ≡ Passed → planLength file ≤ size → Written (planLength file) ≡ written (plannerCheck file size) (planLength file)
   unfolding plannerCheck
-  written-way e h = rw (← is, e, le-leb (planLength file) size h)
+  plan-written e h = rw (← is, e, le-leb (planLength file) size h)
 
 -- ---- a plan of a routine that was read, from its reply
 
@@ -54,13 +54,13 @@ module _ (file before : List ℕ) {reply : Reply} (is : reply ≡ written (plann
     all-passed : plannerCheck file (length before) ≡ Passed
     all-passed = written-passed (plannerCheck file (length before)) (planLength file) (sym is ∙ e)
 
-    pub passed : programmerCheck file ≡ Passed
+    pub plan-passed : programmerCheck file ≡ Passed
     unfolding plannerCheck
-    passed = passed-left (programmerCheck file) _ all-passed
+    plan-passed = passed-left (programmerCheck file) _ all-passed
 
-    pub fits : length (planBytes file) ≤ length before
+    pub plan-fits : length (planBytes file) ≤ length before
     unfolding plannerCheck
-    fits = omega (arith, plan-length file, leb-true (planLength file) (length before) (holds-true _ _ (passed-right (programmerCheck file) _ all-passed)))
+    plan-fits = omega (arith, plan-length file, leb-true (planLength file) (length before) (holds-true _ _ (passed-right (programmerCheck file) _ all-passed)))
 
     pub written-planned : {after : List ℕ} → after ≡ wrote before (planBytes file) → PlannedRead file before reply after
     written-planned w = record { answer = is; buffer = w ∙ sym (left e) }

@@ -28,17 +28,17 @@ use Rattle.labels.proofs.Letters.{letter-use}
 -- ---- an entry's bytes
 
 module _ (file : List ℕ) (v a : ℕ) where
-  pub labelled : isLabel file a v ≡ true → labelEntry file v a ≡ labelBytes file v a
+  pub labelled-bytes : isLabel file a v ≡ true → labelEntry file v a ≡ labelBytes file v a
   unfolding labelEntry
-  labelled e = rw e
+  labelled-bytes e = rw e
 
-  pub unlabelled : isLabel file a v ≡ false → labelEntry file v a ≡ []
+  pub unlabelled-bytes : isLabel file a v ≡ false → labelEntry file v a ≡ []
   unfolding labelEntry
-  unlabelled e = rw e
+  unlabelled-bytes e = rw e
 
 -- ---- the tables' entries
 
-pub record Within (at : ℕ) (versions letters reaching kept : List ℕ) : Type 0 where
+pub record CellWithin (at : ℕ) (versions letters reaching kept : List ℕ) : Type 0 where
   pub few : at < 2048
   pub in-versions : at < length versions
   pub in-letters : at < length letters
@@ -87,8 +87,8 @@ leaving-is file a v {x} {letter} {byte} l e f h =
 
 module _ {h : Header} {file : List ℕ} (is : ReadAs file h) {a v : ℕ} (in-a : a < arrays file) (in-v : v < vertices file) where
   module _ {versions letters reaching kept : List ℕ} (t : Tabled file versions letters reaching kept) where
-    pub within : Within (8 * v + a) versions letters reaching kept
-    within = record {
+    pub cells-within : CellWithin (8 * v + a) versions letters reaching kept
+    cells-within = record {
       few = few-cells is in-a in-v;
       in-versions = in-table is in-a in-v versions (t .versions-are .size);
       in-letters = in-table is in-a in-v letters (t .letters-and-kept .letters-are .size);

@@ -16,7 +16,7 @@ use Rattle.routine.specs.Layout.{arrays, vertices}
 use Rattle.routine.specs.Reader.{Laid}
 use Rattle.words.specs.Sums.{total}
 use Rattle.words.specs.Tables.{table, rows}
-use Rattle.words.proofs.Fills.{Filling, onward}
+use Rattle.words.proofs.Filling.{Filling, fill-next}
 use Rattle.words.proofs.Sums.{total-none, total-more, total-few, count-few, rows-total}
 use Rattle.words.proofs.Tables.{table-length, table-at, rows-length}
 
@@ -62,7 +62,7 @@ module _ (file : List ℕ) where
   pub firsts-done : {old new : List ℕ} {v n count : ℕ} → Filling (labelsBefore file) (8 * vertices file) old new v → v ≡ n → n ≡ vertices file → 2 ≤ vertices file → count ≡ labelsBefore file v
       → Firsts file (set new n count)
   firsts-done {old} {new} {v} {n} {count} t e f two g =
-      let done = onward t (omega (arith, e, f)) g in
+      let done = fill-next t (omega (arith, e, f)) g in
       subst (λ (m : ℕ). Firsts file (set new m count)) e (record { size = done .sized; first = λ u l. first-at done u (omega (arith, e, f)) })
 
   module _ (laid : Laid file) where
@@ -94,8 +94,8 @@ module _ (file : List ℕ) where
           ap₂ _++_ (go m (λ a l. h a (omega arith))) (ap (λ (b : Bool). cond b (labelBytes file v m) []) (h m (omega arith)))
 
   -- vertex v's entry of the contents, from two indices
-  pub entry : {firsts : List ℕ} → Laid file → Firsts file firsts → {v : ℕ} → v < vertices file → Entry file firsts v
-  entry {firsts} laid f {v} l =
+  pub entry-holds : {firsts : List ℕ} → Laid file → Firsts file firsts → {v : ℕ} → v < vertices file → Entry file firsts v
+  entry-holds {firsts} laid f {v} l =
       let here = f .first v (omega arith) in
       let behind = f .first (v + 1) (omega arith) ∙ sym (before-more v refl refl) in
       record {
@@ -121,13 +121,13 @@ module _ (file : List ℕ) where
       go true = refl
       go false = refl
 
-  row-length : (v : ℕ) → length (labelRow file v) ≡ 8 * labelsAt file v
+  label-row-length : (v : ℕ) → length (labelRow file v) ≡ 8 * labelsAt file v
   unfolding labelRow labelsAt
-  row-length v = rows-total (labelEntry file v) (λ a. cond (isLabel file a v) 1 0) 8 (entry-length v) (arrays file)
+  label-row-length v = rows-total (labelEntry file v) (λ a. cond (isLabel file a v) 1 0) 8 (entry-length v) (arrays file)
 
   pub labels-length : length (labels file) ≡ 8 * labelCount file
   unfolding labels labelCount labelsBefore
-  labels-length = rows-total (labelRow file) (labelsAt file) 8 row-length (vertices file)
+  labels-length = rows-total (labelRow file) (labelsAt file) 8 label-row-length (vertices file)
 
   -- where the labels stand
   pub labels-at : 8 + 4 * vertices file ≡ length (planHead (vertices file) (labelCount file) ++ contents file)

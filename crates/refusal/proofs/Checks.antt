@@ -74,20 +74,20 @@ module _ {item : ℕ → Verdict} {n i : ℕ} (u : Undecided item n i) where
       u .rest ∙ ap (firstFailed item i) e
 
   -- v is what the item at i says
-  pub stop : {v : Verdict} {r : Refusal} → i < n → v ≡ item i → v ≡ Failed r → v ≡ firstFailed item 0 n
-  stop h is e = fails _ is e ∙ sym (head h)
+  pub scan-stop : {v : Verdict} {r : Refusal} → i < n → v ≡ item i → v ≡ Failed r → v ≡ firstFailed item 0 n
+  scan-stop h is e = fails _ is e ∙ sym (head h)
 
-  pub next : {v : Verdict} → i < n → v ≡ item i → v ≡ Passed → Undecided item n (i + 1)
-  next h is e = record { within = omega arith; rest = head h ∙ sym (passes is e refl) }
+  pub scan-next : {v : Verdict} → i < n → v ≡ item i → v ≡ Passed → Undecided item n (i + 1)
+  scan-next h is e = record { within = omega arith; rest = head h ∙ sym (passes is e refl) }
 
-  pub done : n ≤ i → Passed ≡ firstFailed item 0 n
+  pub scan-done : n ≤ i → Passed ≡ firstFailed item 0 n
   unfolding firstFailed
-  done h =
+  scan-done h =
       let e : n - i ≡ 0 = omega arith in
       sym (u .rest ∙ ap (firstFailed item i) e)
 
-pub start : (item : ℕ → Verdict) (n : ℕ) → Undecided item n 0
-start item n =
+pub scan-start : (item : ℕ → Verdict) (n : ℕ) → Undecided item n 0
+scan-start item n =
     let e : n ≡ n - 0 = omega arith in
     record { within = omega arith; rest = ap (firstFailed item 0) e }
 
@@ -126,7 +126,7 @@ module _ (item : ℕ → Verdict) where
   onward from n p all zero h = rw add-zero p
   onward from n p all (suc i) h = next-item from i ∙ all i (omega arith)
 
-  pub scan-passed : (from n : ℕ) → firstFailed item from n ≡ Passed → (i : ℕ) → i < n → item (from + i) ≡ Passed
+  scan-passed : (from n : ℕ) → firstFailed item from n ≡ Passed → (i : ℕ) → i < n → item (from + i) ≡ Passed
   unfolding firstFailed
   scan-passed from zero e = λ i h. absurd (omega arith)
   scan-passed from (suc n) e =

@@ -29,24 +29,24 @@ use Rattle.words.specs.Tables.{wrote}
 
 module _ (file path : List ℕ) (size : ℕ) {v : Verdict} (is : v ≡ programmerCheck file) where
   -- 20 or 21
-  pub denied-way : {r : Refusal} → v ≡ Failed r → Denied r ≡ written (runnerCheck file path size) (reportLength file path)
+  pub run-denied : {r : Refusal} → v ≡ Failed r → Denied r ≡ written (runnerCheck file path size) (reportLength file path)
   unfolding runnerCheck
-  denied-way e = rw (← is, e)
+  run-denied e = rw (← is, e)
 
   module _ (p : v ≡ Passed) {w : Verdict} (follows : w ≡ pathCheck file path) where
     -- 30 to 32
-    pub path-way : {r : Refusal} → w ≡ Failed r → Denied r ≡ written (runnerCheck file path size) (reportLength file path)
+    pub run-path-denied : {r : Refusal} → w ≡ Failed r → Denied r ≡ written (runnerCheck file path size) (reportLength file path)
     unfolding runnerCheck
-    path-way e = rw (← is, p, ← follows, e)
+    run-path-denied e = rw (← is, p, ← follows, e)
 
     -- 2
-    pub short-way : w ≡ Passed → size < reportLength file path → Denied (ShortReportBuffer (reportLength file path)) ≡ written (runnerCheck file path size) (reportLength file path)
+    pub run-short : w ≡ Passed → size < reportLength file path → Denied (ShortReportBuffer (reportLength file path)) ≡ written (runnerCheck file path size) (reportLength file path)
     unfolding runnerCheck
-    short-way e h = rw (← is, p, ← follows, e, lt-leb (reportLength file path) size h)
+    run-short e h = rw (← is, p, ← follows, e, lt-leb (reportLength file path) size h)
 
-    pub written-way : w ≡ Passed → reportLength file path ≤ size → Written (reportLength file path) ≡ written (runnerCheck file path size) (reportLength file path)
+    pub run-written : w ≡ Passed → reportLength file path ≤ size → Written (reportLength file path) ≡ written (runnerCheck file path size) (reportLength file path)
     unfolding runnerCheck
-    written-way e h = rw (← is, p, ← follows, e, le-leb (reportLength file path) size h)
+    run-written e h = rw (← is, p, ← follows, e, le-leb (reportLength file path) size h)
 
 -- a refused run makes no claim
 pub no-demand : {reply : Reply} {a : Answer} {r : Refusal} (file path : List ℕ) → reply ≡ deniedOf a → a ≡ Refused r → DemandMet reply file path

@@ -172,12 +172,12 @@ has-out w m k h le =
 half-fits : (w m : ℕ) → m < 2 ^ suc w → m / 2 < 2 ^ w
 half-fits w m h = omega (arith, pow-suc 2 w)
 
-pub same : (w a b : ℕ) → a < 2 ^ w → b < 2 ^ w → ((k : ℕ) → k < w → has a k ≡ has b k) → a ≡ b
+pub same-members : (w a b : ℕ) → a < 2 ^ w → b < 2 ^ w → ((k : ℕ) → k < w → has a k ≡ has b k) → a ≡ b
 unfolding has
-same zero a b ha hb e = omega arith
-same (suc w) a b ha hb e =
+same-members zero a b ha hb e = omega arith
+same-members (suc w) a b ha hb e =
     let low : a % 2 ≡ b % 2 = digit (a % 2) (b % 2) (mod-lt a (lit< tt)) (mod-lt b (lit< tt)) (has-low (e 0 (zero-lt-suc w))) in
-    let high : a / 2 ≡ b / 2 = same w (a / 2) (b / 2) (half-fits w a ha) (half-fits w b hb) (λ k h. sym (has-suc a k) ∙ e (suc k) (suc-le-suc h) ∙ has-suc b k) in
+    let high : a / 2 ≡ b / 2 = same-members w (a / 2) (b / 2) (half-fits w a ha) (half-fits w b hb) (λ k h. sym (has-suc a k) ∙ e (suc k) (suc-le-suc h) ∙ has-suc b k) in
     omega arith
   where
     has-low : has a 0 ≡ has b 0 → eqb (a % 2) 1 ≡ eqb (b % 2) 1

@@ -44,16 +44,16 @@ R = T.the-row
 abbrev pub mach : State → Val
 mach = LL.val T.the-type T′.the-laws
 
-abbrev pub rows : List RattleType
-rows = u8 ∷ u8 ∷ u16 ∷ u16 ∷ []
+abbrev pub numberTypes : List RattleType
+numberTypes = u8 ∷ u8 ∷ u16 ∷ u16 ∷ []
 
 abbrev pub Numbers : Type 0
 Numbers = ℕ × (ℕ × (ℕ × (ℕ × Unit {0})))
 
-abbrev pub spelled : Spells rows
+abbrev pub spelled : Spells numberTypes
 spelled = (uint-vals w8, (uint-vals w8, (uint-vals w16, (uint-vals w16, tt))))
 
-pub told : Tellss rows (Ises rows) spelled
+pub told : Tellss numberTypes (Ises numberTypes) spelled
 told = (uint-tells w8, (uint-tells w8, (uint-tells w16, (uint-tells w16, tt))))
 
 pub record Label : Type 0 where
@@ -66,7 +66,7 @@ pub record Label : Type 0 where
   pub keep-fits : keep < 2 ^ 16
   pub callers-fits : callers < 2 ^ 16
 
-abbrev pub labelOf : (y : Numbers) → Are rows (Ises rows) y (valss rows spelled y) → Label
+abbrev pub labelOf : (y : Numbers) → Are numberTypes (Ises numberTypes) y (valss numberTypes spelled y) → Label
 labelOf y are = record {
   letter = y .0;
   version = y .1 .0;
@@ -81,11 +81,11 @@ labelOf y are = record {
 abbrev pub numbers : Label → Numbers
 numbers a = (a .letter, (a .version, (a .keep, (a .callers, tt))))
 
-abbrev pub values : Label → Valss rows
-values a = valss rows spelled (numbers a)
+abbrev pub values : Label → Valss numberTypes
+values a = valss numberTypes spelled (numbers a)
 
-abbrev pub words : Label → List Val
-words a = flat rows (values a)
+abbrev pub labelWords : Label → List Val
+labelWords a = flat numberTypes (values a)
 
 abbrev pub slots : {n : ℕ} → List (Slot n)
 slots = plain (λ _. u8) ∷ plain (λ _. u8) ∷ plain (λ _. u16) ∷ plain (λ _. u16) ∷ []
@@ -93,10 +93,10 @@ slots = plain (λ _. u8) ∷ plain (λ _. u8) ∷ plain (λ _. u16) ∷ plain (�
 abbrev pub stays : {n : ℕ} → Stays {n = n} slots (yes, (yes, (yes, (yes, tt))))
 stays = (stay-none (λ _. u8) yes, (stay-none (λ _. u8) yes, (stay-none (λ _. u16) yes, (stay-none (λ _. u16) yes, tt))))
 
-abbrev pub after : Label → State → State
-after a s = cleaned (a .callers) (a .keep) (moved (useOfByte (a .letter)) (a .version) s)
+abbrev pub afterLabel : Label → State → State
+afterLabel a s = cleaned (a .callers) (a .keep) (moved (useOfByte (a .letter)) (a .version) s)
 
-pub record Ready (a : Label) (s : State) : Type 0 where
+pub record LabelReady (a : Label) (s : State) : Type 0 where
   pub below : a .version < 16
   pub current : Current s
   pub few : s .copies < 65535
@@ -111,7 +111,7 @@ module _ {M : Type 1} (𝓤 : URA M) (H : Heap 𝓤) (A : Atoms 𝓤) (W : Given
       let word = goes-none 𝓤 H A W n (λ _. u16) yes (λ κs x f. refl) in
       (byte, (byte, (word, (word, tt))))
 
-  pub owns-numbers : (a : Label) → ent 𝓤 (emp 𝓤) (sem 𝓤 H A (owns rows (numbers a) (values a)))
+  pub owns-numbers : (a : Label) → ent 𝓤 (emp 𝓤) (sem 𝓤 H A (owns numberTypes (numbers a) (values a)))
   owns-numbers a =
       qed W [] ∵ nothing ! $ owned ! u16 (Is u16) (uint-makes 𝓤 H A W w16) (a .callers) _ (refl, a .callers-fits) $ fjoin ! $
       owned ! u16 (Is u16) (uint-makes 𝓤 H A W w16) (a .keep) _ (refl, a .keep-fits) $ fjoin ! $
@@ -135,13 +135,13 @@ module _ {M : Type 1} (𝓤 : URA M) (a : Label) (s : State) (P : SProp 𝓤) wh
   abbrev in-turn : SProp 𝓤
   in-turn = sep 𝓤 (sep 𝓤 (sep 𝓤 P F₁) F₂) F₃
 
-  pub learns : {Q : SProp 𝓤} → (Ready a s → ent 𝓤 P Q) → ent 𝓤 asked Q
+  pub learns : {Q : SProp 𝓤} → (LabelReady a s → ent 𝓤 P Q) → ent 𝓤 asked Q
   learns k =
       via 𝓤 in-turn (via 𝓤 (sep 𝓤 (sep 𝓤 P F₁) (sep 𝓤 F₂ F₃)) (assoc′ 𝓤 P F₁ (sep 𝓤 F₂ F₃)) (assoc′ 𝓤 (sep 𝓤 P F₁) F₂ F₃))
       (needs 𝓤 (s .copies < 65535) (sep 𝓤 (sep 𝓤 P F₁) F₂) (λ few. needs 𝓤 (Current s) (sep 𝓤 P F₁) (λ current. needs 𝓤 (a .version < 16) P (λ below.
       k (record { below = below; current = current; few = few })))))
 
-  pub answers : (H : Heap 𝓤) (A : Atoms 𝓤) → Given 𝓤 H A → Ready a s → ent 𝓤 P asked
+  pub answers : (H : Heap 𝓤) (A : Atoms 𝓤) → Given 𝓤 H A → LabelReady a s → ent 𝓤 P asked
   answers H A W r =
       qed W (raw P ∷ []) ∵
       suffices ! in-turn (via 𝓤 (sep 𝓤 (sep 𝓤 P F₁) (sep 𝓤 F₂ F₃)) (assoc∗ 𝓤 (sep 𝓤 P F₁) F₂ F₃) (assoc∗ 𝓤 P F₁ (sep 𝓤 F₂ F₃))) $

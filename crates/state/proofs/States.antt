@@ -26,7 +26,7 @@ pub current-below : (s : State) → Current s → hasCurrent s ≡ true → s .c
 current-below s (inl h) e = h
 current-below s (inr n) e = absurd (true≢false (sym e ∙ ap (λ (k : ℕ). not (eqb k nothing)) n))
 
--- and a version that is current is a copy
+-- a version that is current is a current copy
 pub below-current : (s : State) → s .current < 16 → hasCurrent s ≡ true
 below-current s h = ap not (ne-eqb (s .current) nothing (λ e. omega arith))
 

@@ -1,80 +1,55 @@
--- A buffer that is filled from its front: the part behind what has been written is lent to a callee, which writes the next bytes there.
+-- Laws of the loops that fill a table from the front.
 -- Assumes nothing.
-use mathlib.Core.Path.{_≡_, refl, ap, _∙_}
-use mathlib.Core.List.{List, _++_}
-use mathlib.Core.Logic.{⊎-elim}
-use Prim.Native.Nat.{ℕ, _+_, _-_, _≤_, _<_}
-use native.Mathlib.Nat.{eq-or-lt-of-le, le-antisymm}
+use mathlib.Core.Path.{_≡_, refl, sym, ap, _∙_}
+use mathlib.Core.List.{List, _++_, append-nil}
+use Prim.Native.Nat.{ℕ, _+_, _≤_, _<_}
+use native.Mathlib.Nat.{le-antisymm}
+use native.Mathlib.Numerals.{add-one}
 use native.Mathlib.Omega.{arith}
-use lib.ListN.{length, take, drop, length-append, length-take, length-drop}
-use Rattle.words.specs.Tables.{rows, wrote}
-use Rattle.words.proofs.Tables.{rows-fit, rows-more}
-use Rattle.words.proofs.Written.{wrote-length, partFrom, write-more}
+use lib.ListN.{length, getD, set, length-set, drop-of-length-le}
+use lib.Seq.{getD-at, drop-cons}
+use Rattle.words.specs.Tables.{table, wrote}
+use Rattle.words.proofs.Tables.{table-length}
+use Rattle.words.proofs.Written.{write-one}
 
--- `done` stands at the front of `out`, which held `old`
-pub record Front (old done out : List ℕ) : Type 0 where
-  pub is : out ≡ wrote old done
+-- ---- the first i entries filled, the rest as it was
 
-module _ {old done out : List ℕ} (f : Front old done out) where
-  -- the part behind it
-  module _ {at : ℕ} (here : at ≡ length done) where
-    pub starts : at ≤ length old → at ≤ length out
-    starts room = omega (arith, wrote-length old done (f .is) (omega arith))
+abbrev pub filled : (ℕ → ℕ) → List ℕ → ℕ → List ℕ
+filled f old i = wrote old (table f i)
 
-    pub lends : {m : ℕ} → at + m ≤ length old → m ≤ length (partFrom out at)
-    lends room = simp (length-take, length-drop) (omega (arith, wrote-length old done (f .is) (omega arith)))
+filled-more : (f : ℕ → ℕ) (old : List ℕ) (i : ℕ) → i < length old → set (filled f old i) i (f i) ≡ filled f old (i + 1)
+filled-more f old i h = write-one old (table f i) (f i) i (sym (table-length f i)) h ∙ ap (filled f old) (sym (add-one i))
 
-    pub more : (r : List ℕ) {ys : List ℕ} → ys ≡ wrote (partFrom out at) r
-        → Front old (done ++ r) (take at out ++ (ys ++ drop (length out - at) (drop at out)))
-    more r {ys} e = record { is = write-more old done out r ys at here (f .is) e }
+filled-all : (f : ℕ → ℕ) (old : List ℕ) (n : ℕ) → length old ≡ n → filled f old n ≡ table f n
+filled-all f old n h =
+    ap (λ (l : List ℕ). table f n ++ l) (drop-of-length-le old {i = length (table f n)} (omega (arith, table-length f n))) ∙ append-nil (table f n)
 
--- a loop that writes n rows: i of them stand at the front
-pub record Filled (row : ℕ → List ℕ) (n : ℕ) (old : List ℕ) (i : ℕ) (out : List ℕ) : Type 0 where
-  pub within : i ≤ n
-  pub room : length (rows row n) ≤ length old
-  pub front : Front old (rows row i) out
+-- ---- a table of n entries, of which the first v have been filled in
 
-pub begin : (row : ℕ → List ℕ) (n : ℕ) (old : List ℕ) → length (rows row n) ≤ length old → Filled row n old 0 old
-unfolding rows
-begin row n old room = record { within = omega arith; room = room; front = record { is = refl } }
+pub record Filling (f : ℕ → ℕ) (n : ℕ) (old new : List ℕ) (v : ℕ) : Type 0 where
+  pub within : v ≤ n
+  pub whole : length old ≡ n
+  pub sized : length new ≡ n
+  pub is : new ≡ filled f old v
 
-module _ {row : ℕ → List ℕ} {n : ℕ} {old : List ℕ} {i : ℕ} {out : List ℕ} (f : Filled row n old i out) where
-  pub same : length out ≡ length old
-  same =
-      wrote-length old (rows row i) (f .front .is) (⊎-elim
-      (λ (e : i ≡ n). omega (arith, ap (λ (j : ℕ). length (rows row j)) e, f .room))
-      (λ (l : i < n). omega (arith, rows-fit row n i l, f .room))
-      (eq-or-lt-of-le (f .within)))
+pub fill-begin : (f : ℕ → ℕ) {n : ℕ} {old : List ℕ} → length old ≡ n → Filling f n old old 0
+fill-begin f {n} {old} e = record { within = omega arith; whole = e; sized = e; is = refl }
 
-  pub end : n ≤ i → out ≡ wrote old (rows row n)
-  end h = f .front .is ∙ ap (λ (j : ℕ). wrote old (rows row j)) (le-antisymm (f .within) h)
+module _ {f : ℕ → ℕ} {n : ℕ} {old new : List ℕ} {v : ℕ} (t : Filling f n old new v) where
+  -- the next entry
+  pub fill-next : {x : ℕ} → v < n → x ≡ f v → Filling f n old (set new v x) (v + 1)
+  fill-next {x} h e = record {
+    within = omega arith;
+    whole = t .whole;
+    sized = simp length-set (t .sized);
+    is = ap (set new v) e ∙ ap (λ (l : List ℕ). set l v (f v)) (t .is) ∙ filled-more f old v (omega arith);
+  }
 
-  -- row i is to stand at `at`
-  module _ {at : ℕ} (here : at ≡ length (rows row i)) where
-    pub fits : i < n → at + length (row i) ≤ length old
-    fits h = omega (arith, rows-fit row n i h, f .room)
+  -- the entries behind are as they were
+  pub fill-behind : v < n → getD new v 0 ≡ getD old v 0
+  fill-behind h =
+      ap (λ (l : List ℕ). getD l v 0) (t .is ∙ ap (λ (l : List ℕ). table f v ++ l) (drop-cons old (length (table f v)) 0 (omega (arith, table-length f v))))
+      ∙ getD-at (table f v) (getD old (length (table f v)) 0) _ 0 v (table-length f v) ∙ ap (λ (i : ℕ). getD old i 0) (table-length f v)
 
-    pub lies : i < n → at ≤ length out
-    lies h = starts (f .front) here (omega (arith, fits h))
-
-    pub lent : i < n → length (row i) ≤ length (partFrom out at)
-    lent h = lends (f .front) here (fits h)
-
-    pub next : i < n → {ys : List ℕ} → ys ≡ wrote (partFrom out at) (row i)
-        → Filled row n old (i + 1) (take at out ++ (ys ++ drop (length out - at) (drop at out)))
-    next h e = record {
-      within = omega arith;
-      room = f .room;
-      front = record { is = more (f .front) here (row i) e .is ∙ ap (wrote old) (rows-more row i) };
-    }
-
-    -- m bytes on, row i + 1 is to stand
-    pub onward : {m : ℕ} → m ≡ length (row i) → at + m ≡ length (rows row (i + 1))
-    onward e = omega (arith, length-append (rows row i) (row i), ap length (rows-more row i))
-
-    pub all : n ≤ i → at ≡ length (rows row n)
-    all h = here ∙ ap (λ (j : ℕ). length (rows row j)) (le-antisymm (f .within) h)
-
-  -- all rows stand inside the buffer
-  pub lies-all : {at : ℕ} → at ≡ length (rows row n) → at ≤ length out
-  lies-all e = omega (arith, same, f .room)
+  pub fill-end : n ≤ v → new ≡ table f n
+  fill-end h = t .is ∙ ap (filled f old) (le-antisymm (t .within) h) ∙ filled-all f old n (t .whole)

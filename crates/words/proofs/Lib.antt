@@ -1,4 +1,4 @@
-pub mod Fills
+pub mod Buffers
 pub mod Filling
 pub mod Rows
 pub mod Sums

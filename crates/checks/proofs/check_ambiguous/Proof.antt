@@ -6,7 +6,7 @@ use native.Mathlib.Omega.{arith}
 use borrow.Author.Needs.{needs}
 use Rattle.labels.specs.Ambiguity.{isAmbiguous}
 use Rattle.labels.specs.Checks.{check21}
-use Rattle.refusal.proofs.Checks.{Undecided, start, stop, next, done}
+use Rattle.refusal.proofs.Checks.{Undecided, scan-start, scan-stop, scan-next, scan-done}
 use Rattle.refusal.specs.Checks.{holds, firstFailed}
 use Rattle.routine.specs.Layout.{arrays, vertices}
 use Rattle.refusal.specs.declared.Refusal.the-variants.{AmbiguousReference}
@@ -20,7 +20,7 @@ abbrev μ-loop : tie.MeasureT-loop
 μ-loop file h uses arriving n v₀ v = n - v
 
 loop-holds : tie.Need-loop-holds Inv-loop μ-loop
-loop-holds c = start _ _
+loop-holds c = scan-start _ _
 
 check-ambiguous-row-requires : tie.Need-check-ambiguous-row-requires Inv-loop μ-loop
 check-ambiguous-row-requires c κs = let p = c .before .before .before .before .before .pre in (p .0, (p .1 .0, (omega arith, p .1 .1)))
@@ -30,7 +30,7 @@ enum-told c = search needs
 
 returns : tie.Need-returns Inv-loop μ-loop
 unfolding check21
-returns c = stop (c .before .before .before .before .loop .inv) (omega arith) (c .before .before .check-ambiguous-row .ensures) (c .enum-told .given .1)
+returns c = scan-stop (c .before .before .before .before .loop .inv) (omega arith) (c .before .before .check-ambiguous-row .ensures) (c .enum-told .given .1)
 
 enum-told-2 : tie.Need-enum-told-2 Inv-loop μ-loop
 enum-told-2 c = search needs
@@ -42,11 +42,11 @@ loop-less : tie.Need-loop-less Inv-loop μ-loop
 loop-less c = omega arith
 
 loop-again : tie.Need-loop-again Inv-loop μ-loop
-loop-again c = next (c .before .before .before .before .loop .inv) (omega arith) (c .before .before .check-ambiguous-row .ensures) (c .enum-told2 .given .1)
+loop-again c = scan-next (c .before .before .before .before .loop .inv) (omega arith) (c .before .before .check-ambiguous-row .ensures) (c .enum-told2 .given .1)
 
 returns-2 : tie.Need-returns-2 Inv-loop μ-loop
 unfolding check21
-returns-2 c = done (c .before .loop .inv) (omega arith)
+returns-2 c = scan-done (c .before .loop .inv) (omega arith)
 
 pub check-ambiguous-spec : {M : Type 1} → statement M
 check-ambiguous-spec =

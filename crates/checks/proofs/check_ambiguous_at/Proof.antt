@@ -8,7 +8,7 @@ use borrow.Author.Needs.{needs}
 use lib.ListN.{getD}
 use Rattle.labels.specs.Ambiguity.{isAmbiguous}
 use Rattle.sets.specs.Sets.{has, several}
-use Rattle.refusal.proofs.Checks.{Undecided, start, stop, next, done}
+use Rattle.refusal.proofs.Checks.{Undecided, scan-start, scan-stop, scan-next, scan-done}
 use Rattle.refusal.specs.Checks.{holds}
 use Rattle.routine.specs.Layout.{arrays}
 use Rattle.refusal.specs.declared.Refusal.the-variants.{AmbiguousReference}
@@ -24,7 +24,7 @@ abbrev μ-loop : tie.MeasureT-loop
 μ-loop file v uses arriving m a₀ a = m - a
 
 loop-holds : tie.Need-loop-holds Inv-loop μ-loop
-loop-holds c = start _ _
+loop-holds c = scan-start _ _
 
 -- in the loop there is such an array, and its cell is in the table
 in-a : (c : tie.In-loop Inv-loop μ-loop) → c .before .loop .a < arrays (c .before .before .before .before .before .args .file .now)
@@ -70,7 +70,7 @@ cell-is c =
 returns : tie.Need-returns Inv-loop μ-loop
 returns c =
     let l = c .before .before .before .before in
-    stop (l .before .loop .inv) (in-a l) (faulty _ (c .before .is-ambiguous .ensures ∙ cell-is l) (c .if1 .taken)) refl
+    scan-stop (l .before .loop .inv) (in-a l) (faulty _ (c .before .is-ambiguous .ensures ∙ cell-is l) (c .if1 .taken)) refl
 
 add-a : tie.Need-add-a Inv-loop μ-loop
 add-a c = omega arith
@@ -81,10 +81,10 @@ loop-less c = omega arith
 loop-again : tie.Need-loop-again Inv-loop μ-loop
 loop-again c =
     let l = c .before .before .before .before in
-    next (l .before .loop .inv) (in-a l) (faultless _ (c .before .is-ambiguous .ensures ∙ cell-is l) (c .if1 .left)) refl
+    scan-next (l .before .loop .inv) (in-a l) (faultless _ (c .before .is-ambiguous .ensures ∙ cell-is l) (c .if1 .left)) refl
 
 returns-2 : tie.Need-returns-2 Inv-loop μ-loop
-returns-2 c = done (c .before .loop .inv) (omega arith)
+returns-2 c = scan-done (c .before .loop .inv) (omega arith)
 
 pub check-ambiguous-at-spec : {M : Type 1} → statement M
 check-ambiguous-at-spec =

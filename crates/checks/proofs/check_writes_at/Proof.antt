@@ -9,7 +9,7 @@ use lib.Bits.{bitAnd}
 use lib.Dec.{eqb}
 use lib.ListN.{getD}
 use Rattle.labels.specs.Checks.{writesIn}
-use Rattle.refusal.proofs.Checks.{Undecided, start, stop, next, done}
+use Rattle.refusal.proofs.Checks.{Undecided, scan-start, scan-stop, scan-next, scan-done}
 use Rattle.refusal.specs.Checks.{holds}
 use Rattle.routine.specs.Layout.{arrays}
 use Rattle.refusal.specs.declared.Refusal.the-variants.{WritesInArgument}
@@ -25,7 +25,7 @@ abbrev μ-loop : tie.MeasureT-loop
 μ-loop file v uses masks m a₀ a = m - a
 
 loop-holds : tie.Need-loop-holds Inv-loop μ-loop
-loop-holds c = start _ _
+loop-holds c = scan-start _ _
 
 -- in the loop there is such an array, and its cell is in the table
 in-a : (c : tie.In-loop Inv-loop μ-loop) → c .before .loop .a < arrays (c .before .before .before .before .args .file .now)
@@ -69,7 +69,7 @@ cell-is c =
 returns : tie.Need-returns Inv-loop μ-loop
 returns c =
     let l = c .before .before .before in
-    stop (l .before .loop .inv) (in-a l) (faulty _ (c .before .is-write .ensures ∙ cell-is l) (c .if1 .taken)) refl
+    scan-stop (l .before .loop .inv) (in-a l) (faulty _ (c .before .is-write .ensures ∙ cell-is l) (c .if1 .taken)) refl
 
 add-a : tie.Need-add-a Inv-loop μ-loop
 add-a c = omega arith
@@ -80,10 +80,10 @@ loop-less c = omega arith
 loop-again : tie.Need-loop-again Inv-loop μ-loop
 loop-again c =
     let l = c .before .before .before in
-    next (l .before .loop .inv) (in-a l) (faultless _ (c .before .is-write .ensures ∙ cell-is l) (c .if1 .left)) refl
+    scan-next (l .before .loop .inv) (in-a l) (faultless _ (c .before .is-write .ensures ∙ cell-is l) (c .if1 .left)) refl
 
 returns-2 : tie.Need-returns-2 Inv-loop μ-loop
-returns-2 c = done (c .before .loop .inv) (omega arith)
+returns-2 c = scan-done (c .before .loop .inv) (omega arith)
 
 pub check-writes-at-spec : {M : Type 1} → statement M
 check-writes-at-spec =

@@ -4,7 +4,7 @@ use mathlib.Core.Path.{refl}
 use Prim.Native.Nat.{_+_, _-_, _*_}
 use native.Mathlib.Omega.{arith}
 use Rattle.flow.specs.Solver.{handed}
-use Rattle.words.proofs.Fills.{Filling, begin, onward, finish}
+use Rattle.words.proofs.Filling.{Filling, fill-begin, fill-next, fill-end}
 use Rattle.flow.proofs.handed.Statement.{statement}
 use Rattle.flow.proofs.handed.Tie as tie
 
@@ -15,7 +15,7 @@ abbrev μ-loop : tie.MeasureT-loop
 μ-loop gives passes sets u row₀ a₀ row a = 8 - a
 
 loop-holds : tie.Need-loop-holds Inv-loop μ-loop
-loop-holds c = begin _ refl
+loop-holds c = fill-begin _ refl
 
 mul-at : tie.Need-mul-at Inv-loop μ-loop
 mul-at c = omega arith
@@ -56,10 +56,10 @@ loop-less c = omega arith
 loop-again : tie.Need-loop-again Inv-loop μ-loop
 loop-again c =
     let l = c .before .before .before .before in
-    onward (l .loop .inv) (c .before .before .before .loop-test .taken) refl
+    fill-next (l .loop .inv) (c .before .before .before .loop-test .taken) refl
 
 returns : tie.Need-returns Inv-loop μ-loop
-returns c = finish (c .before .loop .inv) (c .loop-test .left)
+returns c = fill-end (c .before .loop .inv) (c .loop-test .left)
 
 pub handed-spec : {M : Type 1} → statement M
 handed-spec =

@@ -13,7 +13,7 @@ use Rattle.sets.specs.Sets.{minus}
 use Rattle.flow.specs.Solver.{grown}
 use Rattle.words.specs.Tables.{withRow}
 use Rattle.words.proofs.Rows.{row-other}
-use Rattle.words.proofs.Fills.{Filling, begin, onward, still, finish}
+use Rattle.words.proofs.Filling.{Filling, fill-begin, fill-next, fill-behind, fill-end}
 use Rattle.flow.proofs.join.Statement.{statement}
 use Rattle.flow.proofs.join.Tie as tie
 
@@ -27,7 +27,7 @@ abbrev μ-loop : tie.MeasureT-loop
 
 loop-holds : tie.Need-loop-holds Inv-loop μ-loop
 unfolding withRow
-loop-holds c = (refl, refl, begin _ (c .before .pre .1))
+loop-holds c = (refl, refl, fill-begin _ (c .before .pre .1))
 
 mul-at : tie.Need-mul-at Inv-loop μ-loop
 mul-at c = omega arith
@@ -85,8 +85,8 @@ loop-again c =
     ap (λ (t : List ℕ). getD t (8 * v + a) 0) (l .loop .inv .0) ∙ row-other (s .args .sets .now) v _ a (8 * v + a) (λ b h e. omega arith) in (
       ap₂ (λ (t : List ℕ) (x : ℕ). set t (8 * v + a) (bitOr x (getD (s .args .t3) a 0))) (l .loop .inv .0) old ∙ ap (grown (s .args .sets .now) v (s .args .t3)) (sym (add-one a)),
       length-set (l .loop .sets) _ _ ∙ l .loop .inv .1,
-      onward (l .loop .inv .2) (c .before .before .loop-test .taken)
-          (ap₂ bitOr (still (l .loop .inv .2) (c .before .before .loop-test .taken)) (c .difference .ensures ∙ ap (minus (getD (s .args .t3) a 0)) old)),
+      fill-next (l .loop .inv .2) (c .before .before .loop-test .taken)
+          (ap₂ bitOr (fill-behind (l .loop .inv .2) (c .before .before .loop-test .taken)) (c .difference .ensures ∙ ap (minus (getD (s .args .t3) a 0)) old)),
     )
 
 same-length : tie.Need-same-length Inv-loop μ-loop
@@ -96,7 +96,7 @@ returns : tie.Need-returns Inv-loop μ-loop
 returns c =
     let l = c .before .loop in
     let a = c .before .before .before .args in
-    (finish (l .inv .2) (c .loop-test .left), l .inv .0 ∙ ap (grown (a .sets .now) (a .v) (a .t3)) (le-antisymm (l .inv .2 .within) (c .loop-test .left)))
+    (fill-end (l .inv .2) (c .loop-test .left), l .inv .0 ∙ ap (grown (a .sets .now) (a .v) (a .t3)) (le-antisymm (l .inv .2 .within) (c .loop-test .left)))
 
 pub join-spec : {M : Type 1} → statement M
 join-spec =

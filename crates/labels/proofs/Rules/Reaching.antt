@@ -15,7 +15,7 @@ use Rattle.words.proofs.Tests.{at-cond, cond-not, either, or-iff, and-iff, eqb-
 use Rattle.flow.proofs.Paths.{list-iff}
 use Rattle.routine.specs.Layout.{entry}
 use Rattle.sets.specs.Sets.{has}
-use Rattle.sets.proofs.Laws.{has-zero, same}
+use Rattle.sets.proofs.Laws.{has-zero, same-members}
 use Rattle.labels.specs.Events.{width, everyVersion, edgeBytes, event, version}
 use Rattle.routine.specs.Arrays.{kind, initial, isInOrInout}
 use Rattle.labels.proofs.Rules.Proper.{Proper}
@@ -120,7 +120,7 @@ module _ (file : List ℕ) (a : ℕ) (proper : Proper file a) (v : ℕ) where
 
   -- unreachable vertices are accepted; their reaching sets are empty
   pub reaching-none : T (not (isReached file v)) → reachingOf file a v ≡ 0
-  reaching-none n = same width (reachingOf file a v) 0 reaching-fits (pow-pos width) (λ k _. is-false _ (not-T (has (reachingOf file a v) k) (none k)) ∙ sym (has-zero k))
+  reaching-none n = same-members width (reachingOf file a v) 0 reaching-fits (pow-pos width) (λ k _. is-false _ (not-T (has (reachingOf file a v) k) (none k)) ∙ sym (has-zero k))
     where
       none : (k : ℕ) → T (has (reachingOf file a v) k) → ⊥
       none k h =

@@ -3,7 +3,7 @@
 use mathlib.Core.Path.{refl}
 use Prim.Native.Nat.{_-_}
 use borrow.Author.Needs.{needs}
-use Rattle.words.proofs.Fills.{Filling, begin, onward, finish}
+use Rattle.words.proofs.Filling.{Filling, fill-begin, fill-next, fill-end}
 use Rattle.order.proofs.identity.Statement.{statement}
 use Rattle.order.proofs.identity.Tie as tie
 
@@ -14,7 +14,7 @@ abbrev μ-loop : tie.MeasureT-loop
 μ-loop t₀ j₀ j-end t j = j-end - j
 
 loop-holds : tie.Need-loop-holds Inv-loop μ-loop
-loop-holds c = begin _ refl
+loop-holds c = fill-begin _ refl
 
 cast-t : tie.Need-cast-t Inv-loop μ-loop
 cast-t c = search needs
@@ -32,13 +32,13 @@ loop-less : tie.Need-loop-less Inv-loop μ-loop
 loop-less c = search needs
 
 loop-again : tie.Need-loop-again Inv-loop μ-loop
-loop-again c = onward (c .before .loop .inv) (c .loop-test .taken) refl
+loop-again c = fill-next (c .before .loop .inv) (c .loop-test .taken) refl
 
 same-length : tie.Need-same-length Inv-loop μ-loop
 same-length c = c .before .loop .inv .sized
 
 returns : tie.Need-returns Inv-loop μ-loop
-returns c = finish (c .before .loop .inv) (c .loop-test .left)
+returns c = fill-end (c .before .loop .inv) (c .loop-test .left)
 
 pub identity-spec : {M : Type 1} → statement M
 identity-spec =

@@ -6,7 +6,7 @@ use Prim.Native.Nat.{ℕ, _+_, _-_}
 use native.Mathlib.Omega.{arith}
 use borrow.Author.Needs.{needs}
 use lib.ListN.{length}
-use Rattle.refusal.proofs.Checks.{Undecided, start, stop, next, done}
+use Rattle.refusal.proofs.Checks.{Undecided, scan-start, scan-stop, scan-next, scan-done}
 use Rattle.path.specs.EdgeTable.{arrivalBy}
 use Rattle.path.specs.Paths.{steps, arrivalCheck}
 use Rattle.path.proofs.Paths.{arrivals}
@@ -27,7 +27,7 @@ sub-n : tie.Need-sub-n Inv-loop μ-loop
 sub-n c = search needs
 
 loop-holds : tie.Need-loop-holds Inv-loop μ-loop
-loop-holds c = start _ _
+loop-holds c = scan-start _ _
 
 check-arrival-requires : tie.Need-check-arrival-requires Inv-loop μ-loop
 check-arrival-requires c κs =
@@ -45,7 +45,7 @@ enum-told : tie.Need-enum-told Inv-loop μ-loop
 enum-told c = search needs
 
 returns : tie.Need-returns Inv-loop μ-loop
-returns c = stop (c .before .before .before .before .loop .inv) (omega arith) (told (c .before .before)) (c .enum-told .given .1) ∙ arrivals _ _
+returns c = scan-stop (c .before .before .before .before .loop .inv) (omega arith) (told (c .before .before)) (c .enum-told .given .1) ∙ arrivals _ _
 
 enum-told-2 : tie.Need-enum-told-2 Inv-loop μ-loop
 enum-told-2 c = search needs
@@ -57,10 +57,10 @@ loop-less : tie.Need-loop-less Inv-loop μ-loop
 loop-less c = omega arith
 
 loop-again : tie.Need-loop-again Inv-loop μ-loop
-loop-again c = next (c .before .before .before .before .loop .inv) (omega arith) (told (c .before .before)) (c .enum-told2 .given .1)
+loop-again c = scan-next (c .before .before .before .before .loop .inv) (omega arith) (told (c .before .before)) (c .enum-told2 .given .1)
 
 returns-2 : tie.Need-returns-2 Inv-loop μ-loop
-returns-2 c = done (c .before .loop .inv) (omega arith) ∙ arrivals _ _
+returns-2 c = scan-done (c .before .loop .inv) (omega arith) ∙ arrivals _ _
 
 pub check-arrivals-by-spec : {M : Type 1} → statement M
 check-arrivals-by-spec =

@@ -1,7 +1,7 @@
 -- `plan_with` meets its contract: 20 and 21, the reply, and where it is no refusal the tables and the plan.
 -- Assumes nothing.
 use mathlib.Core.Path.{_∙_}
-use Rattle.plan.proofs.Ways.{denied-planned, passed, fits, written-planned}
+use Rattle.plan.proofs.Ways.{denied-planned, plan-passed, plan-fits, written-planned}
 use borrow.Author.Needs.{needs}
 use Rattle.plan.proofs.plan_with.Statement.{statement}
 use Rattle.plan.proofs.plan_with.Tie as tie
@@ -74,7 +74,7 @@ tabulate-requires c κs =
     let s = start x in
     let p = s .pre in
     let k = x .prepare in
-    let all = passed (s .args .file .now) (s .args .out .now) (q .reply .ensures .answer) (c .before .before .before .before .before .before .before .enum-told2 .given .1) in
+    let all = plan-passed (s .args .file .now) (s .args .out .now) (q .reply .ensures .answer) (c .before .before .before .before .before .before .before .enum-told2 .given .1) in
     (p .0, (k .ensures .0, (k .ensures .1 .0, (k .ensures .1 .1 .0, (p .1 .1 .1 .1 .0, (k .kept .1 .1 .1 .1 .1 .1 .0 ∙ p .1 .1 .1 .1 .1 .0, (k .ensures .1 .1 .1 .reaches (k .ensures .1 .1 .1 .answers ∙ all), k .kept .1 .1 .1 .1 .1 .1 .1 .1 .0 ∙ p .1 .1 .1 .1 .1 .1 .1 .1)))))))
 
 write-requires : tie.Need-write-requires
@@ -83,7 +83,7 @@ write-requires c κs =
     let q = replied t in
     let s = start (prepared q) in
     let e = t .before .before .before .before .before .before .before .before .enum-told2 .given .1 in
-    (s .pre .0, (q .reply .ensures .counts _ e, (t .tabulate .ensures, fits (s .args .file .now) (s .args .out .now) (q .reply .ensures .answer) e)))
+    (s .pre .0, (q .reply .ensures .counts _ e, (t .tabulate .ensures, plan-fits (s .args .file .now) (s .args .out .now) (q .reply .ensures .answer) e)))
 
 same-length-8 : tie.Need-same-length-8
 same-length-8 c = c .before .before .write .kept .1 .1 .1 .1 .1 .1 .1 .0

@@ -7,7 +7,7 @@ use Rattle.planbytes.specs.Plan.{planLength}
 use Rattle.planbytes.proofs.Sizes.{length-is}
 use Rattle.refusal.specs.declared.Refusal.the-variants.{ShortPlanBuffer}
 use Rattle.refusal.specs.declared.Reply.the-variants.{Written, Denied}
-use Rattle.plan.proofs.Ways.{denied-way, short-way, written-way, not-written}
+use Rattle.plan.proofs.Ways.{plan-denied, plan-short, plan-written, not-written}
 use borrow.Author.Needs.{needs}
 use Rattle.plan.proofs.reply.Statement.{statement}
 use Rattle.plan.proofs.reply.Tie as tie
@@ -27,7 +27,7 @@ returns : tie.Need-returns
 returns c =
     let s = c .before .before .before .before .before .before in
     record {
-      answer = denied-way (s .args .file .now) (s .args .size) (s .pre .1 .0) (c .before .checked .given .1);
+      answer = plan-denied (s .args .file .now) (s .args .size) (s .pre .1 .0) (c .before .checked .given .1);
       counts = λ n e. not-written e;
     }
 
@@ -55,7 +55,7 @@ returns-2 c =
     record {
       answer =
           ap (λ (n : ℕ). Denied (ShortPlanBuffer n)) needed
-          ∙ short-way (s .args .file .now) (s .args .size) (s .pre .1 .0) (k .before .before .enum-told .given .1) (omega (arith, needed, c .if1 .taken));
+          ∙ plan-short (s .args .file .now) (s .args .size) (s .pre .1 .0) (k .before .before .enum-told .given .1) (omega (arith, needed, c .if1 .taken));
       counts = λ n e. not-written e;
     }
 
@@ -71,7 +71,7 @@ returns-3 c =
     record {
       answer =
           ap Written needed
-          ∙ written-way (s .args .file .now) (s .args .size) (s .pre .1 .0) (k .before .before .enum-told .given .1) (omega (arith, needed, c .if1 .left));
+          ∙ plan-written (s .args .file .now) (s .args .size) (s .pre .1 .0) (k .before .before .enum-told .given .1) (omega (arith, needed, c .if1 .left));
       counts = λ n e. k .label-count .ensures .0;
     }
 

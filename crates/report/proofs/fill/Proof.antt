@@ -4,7 +4,7 @@ use Prim.Native.Nat.{_-_}
 use native.Mathlib.Omega.{arith}
 use borrow.Author.Needs.{needs}
 use Rattle.routine.specs.Layout.{vertices}
-use Rattle.words.proofs.Fills.{Filling, begin, onward, finish}
+use Rattle.words.proofs.Filling.{Filling, fill-begin, fill-next, fill-end}
 use Rattle.report.specs.References.{referencesAt}
 use Rattle.report.proofs.fill.Statement.{statement}
 use Rattle.report.proofs.fill.Tie as tie
@@ -16,7 +16,7 @@ abbrev μ-loop : tie.MeasureT-loop
 μ-loop file h counts₀ n v₀ counts v = n - v
 
 loop-holds : tie.Need-loop-holds Inv-loop μ-loop
-loop-holds c = begin _ (omega arith)
+loop-holds c = fill-begin _ (omega arith)
 
 references-at-requires : tie.Need-references-at-requires Inv-loop μ-loop
 references-at-requires c κs = search needs
@@ -34,13 +34,13 @@ loop-less : tie.Need-loop-less Inv-loop μ-loop
 loop-less c = omega arith
 
 loop-again : tie.Need-loop-again Inv-loop μ-loop
-loop-again c = onward (c .before .before .loop .inv) (omega arith) (c .references-at .ensures .0)
+loop-again c = fill-next (c .before .before .loop .inv) (omega arith) (c .references-at .ensures .0)
 
 same-length : tie.Need-same-length Inv-loop μ-loop
 same-length c = omega (arith, c .before .loop .inv .sized)
 
 returns : tie.Need-returns Inv-loop μ-loop
-returns c = finish (c .before .loop .inv) (omega arith)
+returns c = fill-end (c .before .loop .inv) (omega arith)
 
 pub fill-spec : {M : Type 1} → statement M
 fill-spec =

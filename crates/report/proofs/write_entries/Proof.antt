@@ -4,7 +4,7 @@ use mathlib.Core.Path.{_≡_, sym}
 use Prim.Native.Nat.{_*_, _-_}
 use native.Mathlib.Omega.{arith}
 use lib.ListN.{length}
-use Rattle.words.proofs.Filling.{Filled, begin, lies, lent, next, same, end}
+use Rattle.words.proofs.Buffers.{Filled, begin, lies, lent, next-row, buffer-length, end}
 use Rattle.report.specs.Bytes.{entryBytes, stateOf, entriesOf}
 use Rattle.report.proofs.Bytes.{entries-length}
 use Rattle.report.proofs.write_entries.Statement.{statement}
@@ -53,10 +53,10 @@ loop-less c = omega arith
 loop-again : tie.Need-loop-again Inv-loop μ-loop
 loop-again c =
     let l = c .before .before .before .before .before .before in
-    next (l .loop .inv) (here l) (omega arith) {ys = c .before .before .write-entry .last .0} (c .before .before .write-entry .ensures)
+    next-row (l .loop .inv) (here l) (omega arith) {ys = c .before .before .write-entry .last .0} (c .before .before .write-entry .ensures)
 
 same-length : tie.Need-same-length Inv-loop μ-loop
-same-length c = same (c .before .loop .inv)
+same-length c = buffer-length (c .before .loop .inv)
 
 returns : tie.Need-returns Inv-loop μ-loop
 returns c = end (c .before .loop .inv) (omega arith)

@@ -5,7 +5,7 @@ use Prim.Native.Nat.{ℕ}
 use native.Mathlib.Omega.{arith}
 use Rattle.refusal.specs.declared.Refusal.the-variants.{ShortReportBuffer}
 use Rattle.refusal.specs.declared.Reply.the-variants.{Written, Denied}
-use Rattle.run.proofs.Ways.{denied-way, path-way, short-way, written-way}
+use Rattle.run.proofs.Ways.{run-denied, run-path-denied, run-short, run-written}
 use borrow.Author.Needs.{needs}
 use Rattle.run.proofs.reply.Statement.{statement}
 use Rattle.run.proofs.reply.Tie as tie
@@ -20,7 +20,7 @@ enum-known-checked c = search needs
 returns : tie.Need-returns
 returns c =
     let s = c .before .before .before .before .before .before in
-    denied-way (s .args .file .now) (s .args .path .now) (s .args .size) (s .pre .1 .0) (c .before .checked .given .1)
+    run-denied (s .args .file .now) (s .args .path .now) (s .args .size) (s .pre .1 .0) (c .before .checked .given .1)
 
 enum-told : tie.Need-enum-told
 enum-told c = search needs
@@ -35,7 +35,7 @@ returns-2 : tie.Need-returns-2
 returns-2 c =
     let f = c .before .before .before in
     let s = start f in
-    path-way (s .args .file .now) (s .args .path .now) (s .args .size) (s .pre .1 .0) (f .before .enum-told .given .1) (f .check .ensures) (c .before .followed .given .1)
+    run-path-denied (s .args .file .now) (s .args .path .now) (s .args .size) (s .pre .1 .0) (f .before .enum-told .given .1) (f .check .ensures) (c .before .followed .given .1)
 
 enum-told-2 : tie.Need-enum-told-2
 enum-told-2 c = search needs
@@ -55,7 +55,7 @@ returns-3 c =
     let f = l .before .before .before .before in
     let s = start f in
     ap (λ (n : ℕ). Denied (ShortReportBuffer n)) (l .length .ensures)
-    ∙ short-way (s .args .file .now) (s .args .path .now) (s .args .size) (s .pre .1 .0) (f .before .enum-told .given .1) (f .check .ensures) (l .before .before .enum-told2 .given .1) (omega (arith, l .length .ensures))
+    ∙ run-short (s .args .file .now) (s .args .path .now) (s .args .size) (s .pre .1 .0) (f .before .enum-told .given .1) (f .check .ensures) (l .before .before .enum-told2 .given .1) (omega (arith, l .length .ensures))
 
 same-length-2 : tie.Need-same-length-2
 same-length-2 c = search needs
@@ -66,7 +66,7 @@ returns-4 c =
     let f = l .before .before .before .before in
     let s = start f in
     ap Written (l .length .ensures)
-    ∙ written-way (s .args .file .now) (s .args .path .now) (s .args .size) (s .pre .1 .0) (f .before .enum-told .given .1) (f .check .ensures) (l .before .before .enum-told2 .given .1) (omega (arith, l .length .ensures))
+    ∙ run-written (s .args .file .now) (s .args .path .now) (s .args .size) (s .pre .1 .0) (f .before .enum-told .given .1) (f .check .ensures) (l .before .before .enum-told2 .given .1) (omega (arith, l .length .ensures))
 
 pub reply-spec : {M : Type 1} → statement M
 reply-spec =

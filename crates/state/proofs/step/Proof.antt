@@ -37,7 +37,7 @@ use denote.Triple.Table.{entered, cited}
 use denote.Triple.Walked.{says, Stays, stay-ref, walkOf, goes-ref, Walks, ends-at, walked, walk-meets}
 use denote.Triple.Clauses.{ensured, lasts}
 use Rattle.state.specs.declared.State.{State}
-use Rattle.state.proofs.Lent.{R, mach, rows, Numbers, spelled, told, Label, labelOf, numbers, values, words, stays, after, Ready, typed, go, owns-numbers, learns, answers}
+use Rattle.state.proofs.Lent.{R, mach, numberTypes, Numbers, spelled, told, Label, labelOf, numbers, values, labelWords, stays, afterLabel, LabelReady, typed, go, owns-numbers, learns, answers}
 use Rattle.state.proofs.State as T
 use Rattle.state.proofs.State.Laws as T′
 use Rattle.state.proofs.labelled_by as by-value
@@ -58,41 +58,41 @@ module _ {M : Type 1} (𝓤 : URA M) (H : Heap 𝓤) (A : Atoms 𝓤) (at-mem : 
   ByValue = tripleOf 𝓤 H A by-value.signature (by-value.spec 𝓤 H A at-mem run)
 
   -- of what it ensures, the clause alone: it has no `&mut`, so what is said of last values is dropped
-  is-after : (a : Label) (h r : State) → ent 𝓤 (ensured 𝓤 H A by-value.ended (by-value.clauses 𝓤 H A at-mem run) tt (h, numbers a) tt r) (fact 𝓤 (r ≡ after a h))
-  is-after a h r = exE 𝓤 _ (λ ws. snd∗ 𝓤 (sem 𝓤 H A (lasts by-value.ended tt (h, numbers a) ws)) (fact 𝓤 (r ≡ after a h)))
+  is-after : (a : Label) (h r : State) → ent 𝓤 (ensured 𝓤 H A by-value.ended (by-value.clauses 𝓤 H A at-mem run) tt (h, numbers a) tt r) (fact 𝓤 (r ≡ afterLabel a h))
+  is-after a h r = exE 𝓤 _ (λ ws. snd∗ 𝓤 (sem 𝓤 H A (lasts by-value.ended tt (h, numbers a) ws)) (fact 𝓤 (r ≡ afterLabel a h)))
 
 module _ {M : Type 1} (𝓤 : URA M) (H : Heap 𝓤) (A : Atoms 𝓤) (W : Given 𝓤 H A) (at-mem : Memory → SProp 𝓤) (run : Routine → Fun 𝓤) (κ : Lft) (q : Share) (b o : ℕ) (γ : GName) (h : State) (a : Label) where
   abbrev x : RefT State × Numbers
   x = (record { ptr = (b, o); name = γ; now = h }, numbers a)
 
-  abbrev at : List Val × Valss rows
+  abbrev at : List Val × Valss numberTypes
   at = (vptr b o ∷ [], values a)
 
   abbrev Post : Val → SProp 𝓤
   Post = walkOf 𝓤 H A step.ended stayed (step.clauses 𝓤 H A at-mem run) .post (((κ, tt), (q, tt), tt, x, at), tt)
 
-  exits : (r : State) → r ≡ after a h → ent 𝓤 (sep 𝓤 (A .obs γ (R .coded .code r)) (sep 𝓤 (A .bor κ (Body (mem R) b o γ)) (A .lft κ q))) (Post vunit)
+  exits : (r : State) → r ≡ afterLabel a h → ent 𝓤 (sep 𝓤 (A .obs γ (R .coded .code r)) (sep 𝓤 (A .bor κ (Body (mem R) b o γ)) (A .lft κ q))) (Post vunit)
   exits r e =
       qed W (‵ (fobs γ (R .coded .code r)) ∷ ‵ (fbor κ (Body (mem R) b o γ)) ∷ ‵ (flft κ q) ∷ []) ∵
       suffices ! _ (ends-at 𝓤 H A step.ended stayed (step.clauses 𝓤 H A at-mem run) W (((κ, tt), (q, tt), tt, x, at), tt) vunit tt (r, (tt, (tt, (tt, (tt, tt))))) (tt, (tt, (tt, (tt, (tt, tt)))))) $ says ! e $
       nothing ! $ move ! (3 ∷ 0 ∷ []) $ join ! $ frame ! $ feqI ! (List Val) (vptr b o ∷ []) (vptr b o ∷ []) refl $ fjoin3 ! $
-      use0 W (‵ (owns rows (numbers a) (values a))) (owns-numbers 𝓤 H A W a) $ move ! (1 ∷ 0 ∷ []) $ fjoin ! $
+      use0 W (‵ (owns numberTypes (numbers a) (values a))) (owns-numbers 𝓤 H A W a) $ move ! (1 ∷ 0 ∷ []) $ fjoin ! $
       feqI ! (List Val) (vunit ∷ []) (vunit ∷ []) refl $ move ! (1 ∷ 0 ∷ []) $ done !
 
   -- what `labelled_by`'s triple binds outside
   abbrev passed : ByValue 𝓤 H A at-mem run .Ghost
   passed = ((tt, tt, tt, (h, numbers a), (mach h ∷ [], values a)), tt)
 
-  module _ (ready : Ready a h) where
+  module _ (ready : LabelReady a h) where
     goes : ent 𝓤 (sem 𝓤 H A (R .own h (mach h ∷ []))) (ByValue 𝓤 H A at-mem run .pre passed)
     goes =
         qed W (‵ (R .own h (mach h ∷ [])) ∷ []) ∵ suffices ! _ (answers 𝓤 a h (onEntry 𝓤 H A by-value.signature tt tt (h, numbers a) (mach h ∷ [], values a)) H A W ready) $
-        use0 W (‵ (owns rows (numbers a) (values a))) (owns-numbers 𝓤 H A W a) $ move ! (1 ∷ 0 ∷ []) $ fjoin ! $ nothing ! $ done !
+        use0 W (‵ (owns numberTypes (numbers a) (values a))) (owns-numbers 𝓤 H A W a) $ move ! (1 ∷ 0 ∷ []) $ fjoin ! $ nothing ! $ done !
 
     module _ (C : Calls 𝓤 H) (Λ : Loops 𝓤 H) (fm : FmC 𝓤 H (W .laws) C) (known : Triple 𝓤 (C #state·labelled-by) (ByValue 𝓤 H A at-mem run)) where
-      walk : ent 𝓤 (onEntry 𝓤 H A step.signature (κ, tt) (q, tt) x at) (WpFn 𝓤 H C Λ code.function (vptr b o ∷ words a) Post)
+      walk : ent 𝓤 (onEntry 𝓤 H A step.signature (κ, tt) (q, tt) x at) (WpFn 𝓤 H C Λ code.function (vptr b o ∷ labelWords a) Post)
       walk =
-          qed W ((‵ (flft κ q) ⊛ ‵ ftrue) ∷ ‵ (owns (MutRef (named 0) κ R ∷ rows) x at) ∷ []) ∵ enter ! C Λ code.function (vptr b o ∷ words a) _ $
+          qed W ((‵ (flft κ q) ⊛ ‵ ftrue) ∷ ‵ (owns (MutRef (named 0) κ R ∷ numberTypes) x at) ∷ []) ∵ enter ! C Λ code.function (vptr b o ∷ labelWords a) _ $
           alloc1 ! (λ l₀. alloc1 ! (λ l₁. alloc1 ! (λ l₂. alloc1 ! (λ l₃. alloc1 ! (λ l₄. alloc1 ! (λ l₅. alloc1 ! (λ l₆. alloc1 ! (λ l₇. alloc0 ! $ params1 ! $
           pass1 ! (init ! 12 refl (tt, tt)) $ pass1 ! (init ! 10 refl (tt, record { fits = a .letter-fits })) $ pass1 ! (init ! 8 refl (tt, record { fits = a .version-fits })) $
           pass1 ! (init ! 6 refl (tt, record { fits = a .keep-fits })) $ pass1 ! (init ! 4 refl (tt, record { fits = a .callers-fits })) $ pass0 ! $
@@ -106,7 +106,7 @@ module _ {M : Type 1} (𝓤 : URA M) (H : Heap 𝓤) (A : Atoms 𝓤) (W : Given
           calls-at ! fm (ByValue 𝓤 H A at-mem run) known passed
           (and-then ! (load ! (from ! (stop !)) (look ! 7 refl)) (and-then ! (load ! (from ! (stop !)) (look ! 17 refl)) (and-then ! (load ! (from ! (stop !)) (look ! 15 refl)) (and-then ! (load ! (from ! (stop !)) (look ! 13 refl)) (and-then ! (load ! (from ! (stop !)) (look ! 11 refl)) (no-more !)))))) (λ v.
           use1 W (later (some (λ (r : State). (‵ ftrue ⊛ ‵ (R .own r (v ∷ []))) ⊛ raw (ensured 𝓤 H A by-value.ended (by-value.clauses 𝓤 H A at-mem run) tt (h, numbers a) tt r)))) (id⊢ 𝓤 _) $ await ! tt $ pick ! (λ r.
-          split ! $ move ! (1 ∷ []) $ use1 W (raw (fact 𝓤 (r ≡ after a h))) (is-after 𝓤 H A at-mem run a h r) $ heard ! (r ≡ after a h) (λ e. split ! $ drop ! $
+          split ! $ move ! (1 ∷ []) $ use1 W (raw (fact 𝓤 (r ≡ afterLabel a h))) (is-after 𝓤 H A at-mem run a h r) $ heard ! (r ≡ afterLabel a h) (λ e. split ! $ drop ! $
           peeks ! R (Is R) (shows 𝓤 H A R) r (v ∷ []) (λ is′.
           -- [what the new state owns; the old one's cell; the open borrow; obs; auth; true; what the numbers own; _7; …; room for _6; …]
           land ! (from ! (stop !)) (init ! 9 refl (typed 𝓤 H A W r _ is′)) $

@@ -42,7 +42,7 @@ use denote.Triple.Walked.{says, Stays, stay-none, walkOf, goes-none, Walks, ends
 use denote.Triple.Clauses.{ensured, lasts}
 use denote.Exit.{yes}
 use Rattle.state.specs.declared.State.{State}
-use Rattle.state.proofs.Lent.{R, mach, rows, Numbers, spelled, told, Label, labelOf, numbers, values, words, stays, after, Ready, typed, go, owns-numbers, learns, answers}
+use Rattle.state.proofs.Lent.{R, mach, numberTypes, Numbers, spelled, told, Label, labelOf, numbers, values, labelWords, stays, afterLabel, LabelReady, typed, go, owns-numbers, learns, answers}
 use Rattle.state.proofs.State as T
 use Rattle.state.proofs.State.Laws as T′
 use Rattle.state.proofs.step as step
@@ -77,12 +77,12 @@ module _ {M : Type 1} (𝓤 : URA M) (H : Heap 𝓤) (A : Atoms 𝓤) (W : Given
 
 module _ {M : Type 1} (𝓤 : URA M) (H : Heap 𝓤) (A : Atoms 𝓤) (W : Given 𝓤 H A) (at-mem : Memory → SProp 𝓤) (run : Routine → Fun 𝓤) (s : State) (is : Is R s (mach s ∷ [])) (a : Label) where
   abbrev next : State
-  next = after a s
+  next = afterLabel a s
 
   abbrev x : State × Numbers
   x = (s, numbers a)
 
-  abbrev at : List Val × Valss rows
+  abbrev at : List Val × Valss numberTypes
   at = (mach s ∷ [], values a)
 
   abbrev Post : Val → SProp 𝓤
@@ -92,7 +92,7 @@ module _ {M : Type 1} (𝓤 : URA M) (H : Heap 𝓤) (A : Atoms 𝓤) (W : Given
   exits =
       qed W (‵ (R .own next (mach next ∷ [])) ∷ []) ∵
       suffices ! _ (ends-at 𝓤 H A stepped.ended stayed (stepped.clauses 𝓤 H A at-mem run) W ((tt, tt, tt, x, at), tt) (mach next) next (tt, (tt, (tt, (tt, (tt, tt))))) (tt, (tt, (tt, (tt, (tt, tt)))))) $ says ! refl $
-      use0 W (‵ (owns rows (numbers a) (values a))) (owns-numbers 𝓤 H A W a) $ owned ! R (Is R) (LL.makes T.the-type T′.the-plain 𝓤 H A) s _ is $ fjoin ! $ nothing ! $ done !
+      use0 W (‵ (owns numberTypes (numbers a) (values a))) (owns-numbers 𝓤 H A W a) $ owned ! R (Is R) (LL.makes T.the-type T′.the-plain 𝓤 H A) s _ is $ fjoin ! $ nothing ! $ done !
 
   module _ (α l : ℕ) (δ : GName) where
     -- the reference that is passed: to the local, under the name δ
@@ -103,11 +103,11 @@ module _ {M : Type 1} (𝓤 : URA M) (H : Heap 𝓤) (A : Atoms 𝓤) (W : Given
     abbrev passed : Step 𝓤 H A at-mem run .Ghost
     passed = (((α ∷ [], tt), (fullShare, tt), tt, (ref, numbers a), (vptr l 0 ∷ [], values a)), tt)
 
-    goes : Ready a s → ent 𝓤 (sep 𝓤 (A .lft (α ∷ []) fullShare) (sem 𝓤 H A (MutRef (named 0) (α ∷ []) R .own ref (vptr l 0 ∷ [])))) (Step 𝓤 H A at-mem run .pre passed)
+    goes : LabelReady a s → ent 𝓤 (sep 𝓤 (A .lft (α ∷ []) fullShare) (sem 𝓤 H A (MutRef (named 0) (α ∷ []) R .own ref (vptr l 0 ∷ [])))) (Step 𝓤 H A at-mem run .pre passed)
     goes ready =
         qed W (‵ (flft (α ∷ []) fullShare) ∷ ‵ (MutRef (named 0) (α ∷ []) R .own ref (vptr l 0 ∷ [])) ∷ []) ∵
         suffices ! _ (answers 𝓤 a s (onEntry 𝓤 H A step.signature (α ∷ [], tt) (fullShare, tt) (ref, numbers a) (vptr l 0 ∷ [], values a)) H A W ready) $
-        nothing ! $ move ! (1 ∷ 0 ∷ []) $ join ! $ frame ! $ use0 W (‵ (owns rows (numbers a) (values a))) (owns-numbers 𝓤 H A W a) $ move ! (1 ∷ 0 ∷ []) $ fjoin ! $ done !
+        nothing ! $ move ! (1 ∷ 0 ∷ []) $ join ! $ frame ! $ use0 W (‵ (owns numberTypes (numbers a) (values a))) (owns-numbers 𝓤 H A W a) $ move ! (1 ∷ 0 ∷ []) $ fjoin ! $ done !
 
     -- what `step` ensures: the reference's last value
     last-is : ent 𝓤 (ensured 𝓤 H A step.ended (step.clauses 𝓤 H A at-mem run) (α ∷ [], tt) (ref, numbers a) tt tt) (A .res δ (R .coded .code next))
@@ -126,10 +126,10 @@ module _ {M : Type 1} (𝓤 : URA M) (H : Heap 𝓤) (A : Atoms 𝓤) (W : Given
         use1 W (later (some (λ (r : Unit {0}). ((‵ (flft (α ∷ []) fullShare) ⊛ ‵ ftrue) ⊛ ‵ (Nothing .own r (v ∷ []))) ⊛ raw (ensured 𝓤 H A step.ended (step.clauses 𝓤 H A at-mem run) (α ∷ [], tt) (ref, numbers a) tt r)))) (id⊢ 𝓤 _) $ await ! tt $ pick ! (λ r.
         split ! $ move ! (1 ∷ []) $ use1 W (‵ (fres δ (R .coded .code next))) last-is $ move ! (1 ∷ []) $ split ! $ move ! (1 ∷ []) $ feqL ! (λ e. at-once ! $ check ! (ap only e) $ split ! $ keep ! (0 ∷ 2 ∷ []) $ done !))
 
-  module _ (ready : Ready a s) (C : Calls 𝓤 H) (Λ : Loops 𝓤 H) (fm : FmC 𝓤 H (W .laws) C) (known : Triple 𝓤 (C #state·step) (Step 𝓤 H A at-mem run)) where
-    walk : ent 𝓤 (onEntry 𝓤 H A stepped.signature tt tt x at) (WpFn 𝓤 H C Λ code.function (mach s ∷ words a) Post)
+  module _ (ready : LabelReady a s) (C : Calls 𝓤 H) (Λ : Loops 𝓤 H) (fm : FmC 𝓤 H (W .laws) C) (known : Triple 𝓤 (C #state·step) (Step 𝓤 H A at-mem run)) where
+    walk : ent 𝓤 (onEntry 𝓤 H A stepped.signature tt tt x at) (WpFn 𝓤 H C Λ code.function (mach s ∷ labelWords a) Post)
     walk =
-        qed W (‵ ftrue ∷ ‵ (owns (R ∷ rows) x at) ∷ []) ∵ enter ! C Λ code.function (mach s ∷ words a) _ $
+        qed W (‵ ftrue ∷ ‵ (owns (R ∷ numberTypes) x at) ∷ []) ∵ enter ! C Λ code.function (mach s ∷ labelWords a) _ $
         alloc1 ! (λ l₀. alloc1 ! (λ l₁. alloc1 ! (λ l₂. alloc1 ! (λ l₃. alloc1 ! (λ l₄. alloc1 ! (λ l₅. alloc1 ! (λ l₆. alloc1 ! (λ l₇. alloc1 ! (λ l₈. alloc0 ! $ params1 ! $
         pass1 ! (init ! 14 refl (typed 𝓤 H A W s _ is)) $ pass1 ! (init ! 12 refl (tt, record { fits = a .letter-fits })) $ pass1 ! (init ! 10 refl (tt, record { fits = a .version-fits })) $
         pass1 ! (init ! 8 refl (tt, record { fits = a .keep-fits })) $ pass1 ! (init ! 6 refl (tt, record { fits = a .callers-fits })) $ pass0 ! $

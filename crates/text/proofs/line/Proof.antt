@@ -7,7 +7,7 @@ use borrow.Author.Needs.{needs}
 use lib.ListN.{length}
 use lib.Seq.{length-take-le}
 use Rattle.words.specs.Tables.{rows}
-use Rattle.words.proofs.Filling.{Filled, begin, same, end, lends, lies, next, onward, all, lies-all}
+use Rattle.words.proofs.Buffers.{Filled, begin, buffer-length, end, lends, lies, next-row, onward, all, lies-all}
 use Rattle.text.specs.Text.{cell}
 use Rattle.text.proofs.Cells.{cell-most, cells-most}
 use Rattle.text.proofs.line.Statement.{statement}
@@ -72,12 +72,12 @@ loop-less c = omega arith
 loop-again : tie.Need-loop-again Inv-loop μ-loop
 loop-again c =
     let l = c .before .before .before .before .before .before .before in (
-      next (l .loop .inv .0) (l .loop .inv .1) (omega arith) (c .before .before .put-cell .ensures .1),
+      next-row (l .loop .inv .0) (l .loop .inv .1) (omega arith) (c .before .before .put-cell .ensures .1),
       onward (l .loop .inv .0) (l .loop .inv .1) (c .before .before .put-cell .ensures .0),
     )
 
 same-length : tie.Need-same-length Inv-loop μ-loop
-same-length c = same (c .before .loop .inv .0)
+same-length c = buffer-length (c .before .loop .inv .0)
 
 returns : tie.Need-returns Inv-loop μ-loop
 returns c =

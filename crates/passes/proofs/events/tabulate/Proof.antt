@@ -6,7 +6,7 @@ use Rattle.labels.specs.Events.{versionOf, versionSet}
 use Rattle.passes.specs.Tables.{cellEvent}
 use Rattle.labels.specs.Uses.{useGives}
 use Rattle.routine.specs.declared.action.Action.{Action}
-use Rattle.words.proofs.Fills.{Filling, begin, onward, finish}
+use Rattle.words.proofs.Filling.{Filling, fill-begin, fill-next, fill-end}
 use native.Mathlib.Omega.{arith}
 use borrow.Author.Needs.{needs}
 use Rattle.passes.proofs.Cells.{cell-event, cells-table, cell-below}
@@ -27,7 +27,7 @@ loop-holds : tie.Need-loop-holds Inv-loop μ-loop
 loop-holds c =
     let s = c .before .before .before .before in
     let all = ap (λ (n : ℕ). 8 * n) (sym (s .pre .0 .heads .vertices-are)) in
-    (begin _ (s .pre .1 .0 ∙ all), begin _ (s .pre .1 .1 ∙ all))
+    (fill-begin _ (s .pre .1 .0 ∙ all), fill-begin _ (s .pre .1 .1 ∙ all))
 
 cell-requires : tie.Need-cell-requires Inv-loop μ-loop
 cell-requires c κs = let s = c .before .before .before .before .before .before in (s .pre .0, omega (arith, s .pre .0 .heads .vertices-are))
@@ -59,8 +59,8 @@ loop-less c = omega arith
 loop-again : tie.Need-loop-again Inv-loop μ-loop
 loop-again c =
     let l = c .before .before .before .before in (
-      onward (l .loop .inv .0) (c .before .before .before .loop-test .taken) (c .before .version-set .ensures ∙ ap versionSet (c .before .before .cell .ensures)),
-      onward (l .loop .inv .1) (c .before .before .before .loop-test .taken) (c .gives-of .ensures ∙ ap useGives (c .before .before .cell .ensures)),
+      fill-next (l .loop .inv .0) (c .before .before .before .loop-test .taken) (c .before .version-set .ensures ∙ ap versionSet (c .before .before .cell .ensures)),
+      fill-next (l .loop .inv .1) (c .before .before .before .loop-test .taken) (c .gives-of .ensures ∙ ap useGives (c .before .before .cell .ensures)),
     )
 
 same-length : tie.Need-same-length Inv-loop μ-loop
@@ -75,8 +75,8 @@ returns c =
     let s = c .before .before .before .before .before .before in
     let well = s .pre .0 .well in
     let all = ap (λ (n : ℕ). 8 * n) (s .pre .0 .heads .vertices-are) in (
-      cells-table well (λ i. versionSet (cellEvent (s .args .file .now) i)) all (finish (l .inv .0) (c .loop-test .left)) (λ a v in-a in-v. ap versionSet (cell-event well v in-a)),
-      cells-table well (λ i. useGives (cellEvent (s .args .file .now) i)) all (finish (l .inv .1) (c .loop-test .left)) (λ a v in-a in-v. ap useGives (cell-event well v in-a)),
+      cells-table well (λ i. versionSet (cellEvent (s .args .file .now) i)) all (fill-end (l .inv .0) (c .loop-test .left)) (λ a v in-a in-v. ap versionSet (cell-event well v in-a)),
+      cells-table well (λ i. useGives (cellEvent (s .args .file .now) i)) all (fill-end (l .inv .1) (c .loop-test .left)) (λ a v in-a in-v. ap useGives (cell-event well v in-a)),
     )
 
 pub tabulate-spec : {M : Type 1} → statement M

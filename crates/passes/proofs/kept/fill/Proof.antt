@@ -9,7 +9,7 @@ use Rattle.labels.specs.Events.{everyVersion}
 use Rattle.labels.specs.Kept.{isNOrR}
 use Rattle.labels.specs.Letters.{useOfByte}
 use Rattle.labels.specs.Uses.{isN}
-use Rattle.words.proofs.Fills.{Filling, begin, onward, finish}
+use Rattle.words.proofs.Filling.{Filling, fill-begin, fill-next, fill-end}
 use native.Mathlib.Omega.{arith}
 use borrow.Author.Needs.{needs}
 use Rattle.passes.proofs.kept.fill.Statement.{statement}
@@ -24,7 +24,7 @@ abbrev μ-loop : tie.MeasureT-loop
 μ-loop versions letters gives₀ passes₀ n i₀ gives passes i = n - i
 
 loop-holds : tie.Need-loop-holds Inv-loop μ-loop
-loop-holds c = (begin _ (c .before .before .before .before .pre .1 .0), begin _ (c .before .before .before .before .pre .1 .1))
+loop-holds c = (fill-begin _ (c .before .before .before .before .pre .1 .0), fill-begin _ (c .before .before .before .before .pre .1 .1))
 
 mul-version : tie.Need-mul-version Inv-loop μ-loop
 mul-version c = omega arith
@@ -69,8 +69,8 @@ loop-again : tie.Need-loop-again Inv-loop μ-loop
 loop-again c =
     let l = c .before .before .before .before .before .before .before in
     let version = getD (l .before .before .before .before .before .args .versions .now) (l .loop .i) 0 in (
-      onward (l .loop .inv .0) (c .before .before .before .before .before .before .loop-test .taken) (c .before .before .set-if .ensures ∙ ap (λ (b : Bool). cond b version 0) (c .before .before .before .leaves .ensures)),
-      onward (l .loop .inv .1) (c .before .before .before .before .before .before .loop-test .taken) (c .every-if .ensures ∙ ap (λ (b : Bool). cond (eqb version 0 || b) everyVersion 0) (c .before .goes-on .ensures)),
+      fill-next (l .loop .inv .0) (c .before .before .before .before .before .before .loop-test .taken) (c .before .before .set-if .ensures ∙ ap (λ (b : Bool). cond b version 0) (c .before .before .before .leaves .ensures)),
+      fill-next (l .loop .inv .1) (c .before .before .before .before .before .before .loop-test .taken) (c .every-if .ensures ∙ ap (λ (b : Bool). cond (eqb version 0 || b) everyVersion 0) (c .before .goes-on .ensures)),
     )
 
 same-length : tie.Need-same-length Inv-loop μ-loop
@@ -80,7 +80,7 @@ same-length-2 : tie.Need-same-length-2 Inv-loop μ-loop
 same-length-2 c = omega arith
 
 returns : tie.Need-returns Inv-loop μ-loop
-returns c = (finish (c .before .loop .inv .0) (c .loop-test .left), finish (c .before .loop .inv .1) (c .loop-test .left))
+returns c = (fill-end (c .before .loop .inv .0) (c .loop-test .left), fill-end (c .before .loop .inv .1) (c .loop-test .left))
 
 pub fill-spec : {M : Type 1} → statement M
 fill-spec =

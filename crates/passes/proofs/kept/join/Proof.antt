@@ -7,7 +7,7 @@ use lib.Bits.{bitOr}
 use lib.ListN.{getD}
 use Rattle.labels.specs.Kept.{isNOrR}
 use Rattle.labels.specs.Letters.{useOfByte}
-use Rattle.words.proofs.Fills.{Filling, begin, onward, finish, still}
+use Rattle.words.proofs.Filling.{Filling, fill-begin, fill-next, fill-end, fill-behind}
 use native.Mathlib.Omega.{arith}
 use borrow.Author.Needs.{needs}
 use Rattle.passes.proofs.kept.join.Statement.{statement}
@@ -20,7 +20,7 @@ abbrev μ-loop : tie.MeasureT-loop
 μ-loop letters leaving sets₀ n i₀ sets i = n - i
 
 loop-holds : tie.Need-loop-holds Inv-loop μ-loop
-loop-holds c = begin _ refl
+loop-holds c = fill-begin _ refl
 
 mul-sets : tie.Need-mul-sets Inv-loop μ-loop
 mul-sets c = omega arith
@@ -58,15 +58,15 @@ loop-less c = omega arith
 loop-again : tie.Need-loop-again Inv-loop μ-loop
 loop-again c =
     let l = c .before .before .before .before .before .before in
-    onward (l .loop .inv) (c .before .before .before .before .before .loop-test .taken)
+    fill-next (l .loop .inv) (c .before .before .before .before .before .loop-test .taken)
     (ap (bitOr (getD (l .before .before .before .before .args .leaving .now) (l .loop .i) 0))
-    (c .set-if .ensures ∙ ap₂ (λ (b : Bool) (m : ℕ). cond b m 0) (c .before .before .goes-on .ensures) (still (l .loop .inv) (c .before .before .before .before .before .loop-test .taken))))
+    (c .set-if .ensures ∙ ap₂ (λ (b : Bool) (m : ℕ). cond b m 0) (c .before .before .goes-on .ensures) (fill-behind (l .loop .inv) (c .before .before .before .before .before .loop-test .taken))))
 
 same-length : tie.Need-same-length Inv-loop μ-loop
 same-length c = omega arith
 
 returns : tie.Need-returns Inv-loop μ-loop
-returns c = finish (c .before .loop .inv) (c .loop-test .left)
+returns c = fill-end (c .before .loop .inv) (c .loop-test .left)
 
 pub join-spec : {M : Type 1} → statement M
 join-spec =

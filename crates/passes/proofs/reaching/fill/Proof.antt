@@ -9,7 +9,7 @@ use Rattle.labels.specs.Events.{everyVersion}
 use Rattle.labels.specs.Letters.{useOfByte}
 use Rattle.passes.specs.Tables.{reachedCell}
 use Rattle.labels.specs.Uses.{isN}
-use Rattle.words.proofs.Fills.{Filling, begin, onward, finish}
+use Rattle.words.proofs.Filling.{Filling, fill-begin, fill-next, fill-end}
 use native.Mathlib.Omega.{arith}
 use borrow.Author.Needs.{needs}
 use Rattle.passes.proofs.reaching.fill.Statement.{statement}
@@ -24,7 +24,7 @@ abbrev μ-loop : tie.MeasureT-loop
 μ-loop versions reached letters gives₀ passes₀ n i₀ gives passes i = n - i
 
 loop-holds : tie.Need-loop-holds Inv-loop μ-loop
-loop-holds c = (begin _ (c .before .before .before .before .before .pre .1 .1 .0), begin _ (c .before .before .before .before .before .pre .1 .1 .1))
+loop-holds c = (fill-begin _ (c .before .before .before .before .before .pre .1 .1 .0), fill-begin _ (c .before .before .before .before .before .pre .1 .1 .1))
 
 shared-slice-read-leaves : tie.Need-shared-slice-read-leaves Inv-loop μ-loop
 shared-slice-read-leaves c = omega arith
@@ -79,8 +79,8 @@ loop-again c =
     let l = c .before .before .before .before .before .before .before .before .before in
     let version = getD (l .before .before .before .before .before .before .args .versions .now) (l .loop .i) 0 in
     let kept = c .before .before .before .before .set-if .ensures ∙ ap (λ (b : Bool). cond b version 0) (c .before .before .before .before .before .before .leaves .ensures) in (
-      onward (l .loop .inv .0) (c .before .before .before .before .before .before .before .before .loop-test .taken) (c .before .set-if2 .ensures ∙ ap₂ (λ (b : Bool) (x : ℕ). cond b x 0) (c .before .before .is-reached .ensures) kept),
-      onward (l .loop .inv .1) (c .before .before .before .before .before .before .before .before .loop-test .taken) (c .every-if .ensures ∙ ap (λ (x : ℕ). cond (eqb x 0) everyVersion 0) kept),
+      fill-next (l .loop .inv .0) (c .before .before .before .before .before .before .before .before .loop-test .taken) (c .before .set-if2 .ensures ∙ ap₂ (λ (b : Bool) (x : ℕ). cond b x 0) (c .before .before .is-reached .ensures) kept),
+      fill-next (l .loop .inv .1) (c .before .before .before .before .before .before .before .before .loop-test .taken) (c .every-if .ensures ∙ ap (λ (x : ℕ). cond (eqb x 0) everyVersion 0) kept),
     )
 
 same-length : tie.Need-same-length Inv-loop μ-loop
@@ -90,7 +90,7 @@ same-length-2 : tie.Need-same-length-2 Inv-loop μ-loop
 same-length-2 c = omega arith
 
 returns : tie.Need-returns Inv-loop μ-loop
-returns c = (finish (c .before .loop .inv .0) (c .loop-test .left), finish (c .before .loop .inv .1) (c .loop-test .left))
+returns c = (fill-end (c .before .loop .inv .0) (c .loop-test .left), fill-end (c .before .loop .inv .1) (c .loop-test .left))
 
 pub fill-spec : {M : Type 1} → statement M
 fill-spec =

@@ -4,7 +4,7 @@ use mathlib.Core.Path.{refl}
 use mathlib.Core.Bool.{cond}
 use Prim.Native.Nat.{_-_}
 use lib.Dec.{ltb}
-use Rattle.words.proofs.Fills.{Filling, begin, onward, finish}
+use Rattle.words.proofs.Filling.{Filling, fill-begin, fill-next, fill-end}
 use native.Mathlib.Omega.{arith}
 use borrow.Author.Needs.{needs}
 use Rattle.passes.proofs.reaching.fill_reached.Statement.{statement}
@@ -17,7 +17,7 @@ abbrev μ-loop : tie.MeasureT-loop
 μ-loop gives₀ passes₀ n i₀ gives passes i = n - i
 
 loop-holds : tie.Need-loop-holds Inv-loop μ-loop
-loop-holds c = (begin _ refl, begin _ (c .before .before .pre))
+loop-holds c = (fill-begin _ refl, fill-begin _ (c .before .before .pre))
 
 set-if-requires : tie.Need-set-if-requires Inv-loop μ-loop
 set-if-requires c κs = search needs
@@ -43,7 +43,7 @@ loop-less c = omega arith
 loop-again : tie.Need-loop-again Inv-loop μ-loop
 loop-again c =
     let l = c .before .before in
-    (onward (l .loop .inv .0) (c .before .loop-test .taken) (c .set-if .ensures), onward (l .loop .inv .1) (c .before .loop-test .taken) refl)
+    (fill-next (l .loop .inv .0) (c .before .loop-test .taken) (c .set-if .ensures), fill-next (l .loop .inv .1) (c .before .loop-test .taken) refl)
 
 same-length : tie.Need-same-length Inv-loop μ-loop
 same-length c = omega arith
@@ -52,7 +52,7 @@ same-length-2 : tie.Need-same-length-2 Inv-loop μ-loop
 same-length-2 c = omega arith
 
 returns : tie.Need-returns Inv-loop μ-loop
-returns c = (finish (c .before .loop .inv .0) (c .loop-test .left), finish (c .before .loop .inv .1) (c .loop-test .left))
+returns c = (fill-end (c .before .loop .inv .0) (c .loop-test .left), fill-end (c .before .loop .inv .1) (c .loop-test .left))
 
 pub fill-reached-spec : {M : Type 1} → statement M
 fill-reached-spec =

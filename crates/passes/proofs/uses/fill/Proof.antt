@@ -3,7 +3,7 @@
 use Prim.Native.Nat.{_-_}
 use lib.ListN.{getD}
 use Rattle.labels.specs.Uses.{passesBy}
-use Rattle.words.proofs.Fills.{Filling, begin, onward, finish}
+use Rattle.words.proofs.Filling.{Filling, fill-begin, fill-next, fill-end}
 use native.Mathlib.Omega.{arith}
 use borrow.Author.Needs.{needs}
 use Rattle.passes.proofs.uses.fill.Statement.{statement}
@@ -16,7 +16,7 @@ abbrev μ-loop : tie.MeasureT-loop
 μ-loop uses passes₀ n i₀ passes i = n - i
 
 loop-holds : tie.Need-loop-holds Inv-loop μ-loop
-loop-holds c = begin _ (c .before .before .pre)
+loop-holds c = fill-begin _ (c .before .before .pre)
 
 mul-passes-by : tie.Need-mul-passes-by Inv-loop μ-loop
 mul-passes-by c = omega arith
@@ -40,13 +40,13 @@ loop-less : tie.Need-loop-less Inv-loop μ-loop
 loop-less c = omega arith
 
 loop-again : tie.Need-loop-again Inv-loop μ-loop
-loop-again c = onward (c .before .before .before .loop .inv) (c .before .before .loop-test .taken) (c .passes-by .ensures)
+loop-again c = fill-next (c .before .before .before .loop .inv) (c .before .before .loop-test .taken) (c .passes-by .ensures)
 
 same-length : tie.Need-same-length Inv-loop μ-loop
 same-length c = omega arith
 
 returns : tie.Need-returns Inv-loop μ-loop
-returns c = finish (c .before .loop .inv) (c .loop-test .left)
+returns c = fill-end (c .before .loop .inv) (c .loop-test .left)
 
 pub fill-spec : {M : Type 1} → statement M
 fill-spec =

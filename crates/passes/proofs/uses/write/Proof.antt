@@ -5,7 +5,7 @@ use Prim.Native.Nat.{_-_}
 use lib.ListN.{getD}
 use Rattle.labels.specs.Letters.{letterByte}
 use Rattle.labels.specs.Uses.{letterOf}
-use Rattle.words.proofs.Fills.{Filling, begin, onward, finish}
+use Rattle.words.proofs.Filling.{Filling, fill-begin, fill-next, fill-end}
 use native.Mathlib.Omega.{arith}
 use borrow.Author.Needs.{needs}
 use Rattle.passes.proofs.uses.write.Statement.{statement}
@@ -18,7 +18,7 @@ abbrev μ-loop : tie.MeasureT-loop
 μ-loop sets letters₀ n i₀ letters i = n - i
 
 loop-holds : tie.Need-loop-holds Inv-loop μ-loop
-loop-holds c = begin _ (c .before .before .pre)
+loop-holds c = fill-begin _ (c .before .before .pre)
 
 mul-of-set : tie.Need-mul-of-set Inv-loop μ-loop
 mul-of-set c = omega arith
@@ -42,13 +42,13 @@ loop-less : tie.Need-loop-less Inv-loop μ-loop
 loop-less c = omega arith
 
 loop-again : tie.Need-loop-again Inv-loop μ-loop
-loop-again c = onward (c .before .before .before .before .loop .inv) (c .before .before .before .loop-test .taken) (c .letter .ensures ∙ ap letterByte (c .before .of-set .ensures))
+loop-again c = fill-next (c .before .before .before .before .loop .inv) (c .before .before .before .loop-test .taken) (c .letter .ensures ∙ ap letterByte (c .before .of-set .ensures))
 
 same-length : tie.Need-same-length Inv-loop μ-loop
 same-length c = omega arith
 
 returns : tie.Need-returns Inv-loop μ-loop
-returns c = finish (c .before .loop .inv) (c .loop-test .left)
+returns c = fill-end (c .before .loop .inv) (c .loop-test .left)
 
 pub write-spec : {M : Type 1} → statement M
 write-spec =

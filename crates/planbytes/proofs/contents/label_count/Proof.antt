@@ -7,7 +7,7 @@ use lib.ListN.{length, set, length-set}
 use Rattle.planbytes.specs.Plan.{labelsBefore, labelCount}
 use Rattle.planbytes.proofs.Sizes.{before-more, before-few, firsts-done}
 use Rattle.routine.specs.Layout.{vertices}
-use Rattle.words.proofs.Fills.{Filling, begin, onward}
+use Rattle.words.proofs.Filling.{Filling, fill-begin, fill-next}
 use Rattle.planbytes.proofs.contents.label_count.Statement.{statement}
 use Rattle.planbytes.proofs.contents.label_count.Tie as tie
 
@@ -26,7 +26,7 @@ few c =
 
 loop-holds : tie.Need-loop-holds Inv-loop μ-loop
 unfolding labelsBefore
-loop-holds c = (omega arith, refl, begin _ (c .before .before .before .pre .1 .1))
+loop-holds c = (omega arith, refl, fill-begin _ (c .before .before .before .pre .1 .1))
 
 cast-firsts : tie.Need-cast-firsts Inv-loop μ-loop
 cast-firsts c = omega (arith, few (c .before))
@@ -60,7 +60,7 @@ loop-again c =
     let t = l .loop .inv in (
       omega arith,
       before-more (s .args .file .now) (l .loop .v) (t .1) (c .labels-at .ensures .0),
-      onward (t .2) (omega (arith, c .before .loop-test .taken, s .pre .0 .heads .vertices-are)) (t .1),
+      fill-next (t .2) (omega (arith, c .before .loop-test .taken, s .pre .0 .heads .vertices-are)) (t .1),
     )
 
 -- ---- at the end

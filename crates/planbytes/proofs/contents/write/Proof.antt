@@ -5,8 +5,8 @@ use native.Mathlib.Omega.{arith}
 use borrow.Author.Needs.{needs}
 use Rattle.planbytes.specs.Plan.{contentsEntry, contents}
 use Rattle.routine.specs.Layout.{vertices}
-use Rattle.words.proofs.Filling.{Filled, begin, same, end, lies, lent, next}
-use Rattle.planbytes.proofs.Sizes.{Entry, entry, entry-at}
+use Rattle.words.proofs.Buffers.{Filled, begin, buffer-length, end, lies, lent, next-row}
+use Rattle.planbytes.proofs.Sizes.{Entry, entry-holds, entry-at}
 use Rattle.planbytes.proofs.contents.write.Statement.{statement}
 use Rattle.planbytes.proofs.contents.write.Tie as tie
 
@@ -25,7 +25,7 @@ loop-holds c =
 here : (c : tie.In-loop Inv-loop μ-loop) → let s = c .before .before .before .before .before in Entry (s .args .file .now) (s .args .firsts .now) (c .before .loop .v)
 here c =
     let s = c .before .before .before .before .before in
-    entry (s .args .file .now) (s .pre .0 .heads .laid) (s .pre .1 .0) (omega (arith, c .loop-test .taken, s .pre .0 .heads .vertices-are))
+    entry-holds (s .args .file .now) (s .pre .0 .heads .laid) (s .pre .1 .0) (omega (arith, c .loop-test .taken, s .pre .0 .heads .vertices-are))
 
 mul-first : tie.Need-mul-first Inv-loop μ-loop
 mul-first c = omega arith
@@ -86,11 +86,11 @@ loop-again c =
     let l = c .before .before .before .before .before .before .before in
     let file = l .before .before .before .before .args .file .now in
     let e = here (c .before .before .before .before .before .before) in
-    next (l .loop .inv) (entry-at file (l .loop .v)) (omega arith) {ys = c .before .before .write-entry .last .0}
+    next-row (l .loop .inv) (entry-at file (l .loop .v)) (omega arith) {ys = c .before .before .write-entry .last .0}
     (rw (← e .count-is, ← e .first-is) (c .before .before .write-entry .ensures))
 
 same-length : tie.Need-same-length Inv-loop μ-loop
-same-length c = same (c .before .loop .inv)
+same-length c = buffer-length (c .before .loop .inv)
 
 returns : tie.Need-returns Inv-loop μ-loop
 unfolding contents

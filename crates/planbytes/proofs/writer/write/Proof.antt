@@ -9,7 +9,7 @@ use lib.ListN.{length, take, drop}
 use Rattle.planbytes.specs.Plan.{labelCount, contents, labels, planHead, planBytes, planLength}
 use Rattle.routine.specs.Layout.{vertices}
 use Rattle.words.specs.Tables.{wrote}
-use Rattle.words.proofs.Filling.{Front, starts, lends, more}
+use Rattle.words.proofs.Buffers.{Front, starts, lends, more}
 use Rattle.planbytes.proofs.Sizes.{labels-few, labels-length, labels-at, plan-length}
 use Rattle.planbytes.proofs.writer.write.Statement.{statement}
 use Rattle.planbytes.proofs.writer.write.Tie as tie

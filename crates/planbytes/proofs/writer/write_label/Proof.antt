@@ -9,12 +9,12 @@ use lib.ListN.{length, getD}
 use Rattle.labels.specs.Events.{event, isLabel, versionSet}
 use Rattle.planbytes.specs.Plan.{labelBytes, labelEntry}
 use Rattle.words.specs.Tables.{wrote}
-use Rattle.planbytes.proofs.Cells.{labelled, unlabelled, Within, within, no-version, some-version, made}
+use Rattle.planbytes.proofs.Cells.{labelled-bytes, unlabelled-bytes, CellWithin, cells-within, no-version, some-version, made}
 use Rattle.planbytes.proofs.writer.write_label.Statement.{statement}
 use Rattle.planbytes.proofs.writer.write_label.Tie as tie
 
-places : (s : tie.Start) → Within (8 * s .args .v + s .args .a) (s .args .versions .now) (s .args .letters .now) (s .args .reaching .now) (s .args .kept .now)
-places s = within (s .pre .0) (s .pre .1 .1 .0) (s .pre .1 .0) (s .pre .1 .1 .1 .0)
+places : (s : tie.Start) → CellWithin (8 * s .args .v + s .args .a) (s .args .versions .now) (s .args .letters .now) (s .args .reaching .now) (s .args .kept .now)
+places s = cells-within (s .pre .0) (s .pre .1 .1 .0) (s .pre .1 .0) (s .pre .1 .1 .1 .0)
 
 holds-version : (s : tie.Start) → getD (s .args .versions .now) (8 * s .args .v + s .args .a) 0 ≡ versionSet (event (s .args .file .now) (s .args .a) (s .args .v))
 holds-version s = s .pre .1 .1 .1 .0 .versions-are .cells (s .args .a) (s .args .v) (s .pre .1 .1 .0) (s .pre .1 .0)
@@ -26,7 +26,7 @@ has-label : (c : tie.Else1) → isLabel (start c .args .file .now) (start c .arg
 has-label c = some-version (start c .args .file .now) (start c .args .a) (start c .args .v) (holds-version (start c)) (c .if1 .left)
 
 is-entry : (c : tie.Else1) → labelEntry (start c .args .file .now) (start c .args .v) (start c .args .a) ≡ labelBytes (start c .args .file .now) (start c .args .v) (start c .args .a)
-is-entry c = labelled _ _ _ (has-label c)
+is-entry c = labelled-bytes _ _ _ (has-label c)
 
 mul-at : tie.Need-mul-at
 mul-at c = omega (arith, places (c .before .before .before .before .before .before))
@@ -43,7 +43,7 @@ shared-slice-read-version c = omega (arith, places (c .before .before .before .b
 returns : tie.Need-returns
 returns c =
     let s = c .before .before .before .before .before .before .before .before in
-    let e = unlabelled (s .args .file .now) (s .args .v) (s .args .a) (no-version (s .args .file .now) (s .args .a) (s .args .v) (holds-version s) (c .if1 .taken)) in
+    let e = unlabelled-bytes (s .args .file .now) (s .args .v) (s .args .a) (no-version (s .args .file .now) (s .args .a) (s .args .v) (holds-version s) (c .if1 .taken)) in
     (sym (ap length e), sym (ap (wrote (s .args .out .now)) e))
 
 shared-slice-read-letter : tie.Need-shared-slice-read-letter

@@ -8,7 +8,7 @@ use lib.ListN.{length}
 use Rattle.planbytes.specs.Plan.{labelRow, labels}
 use Rattle.routine.specs.Layout.{vertices}
 use Rattle.words.specs.Tables.{rows}
-use Rattle.words.proofs.Filling.{Filled, begin, same, end, fits, lies, lent, next, onward}
+use Rattle.words.proofs.Buffers.{Filled, begin, buffer-length, end, row-room, lies, lent, next-row, onward}
 use Rattle.planbytes.proofs.writer.write_labels.Statement.{statement}
 use Rattle.planbytes.proofs.writer.write_labels.Tie as tie
 
@@ -40,7 +40,7 @@ write-row-requires c κs =
 add-at : tie.Need-add-at Inv-loop μ-loop
 add-at c =
     let l = c .before .before .before .before .before .loop in
-    omega (arith, fits (l .inv .0) (l .inv .1) (omega arith))
+    omega (arith, row-room (l .inv .0) (l .inv .1) (omega arith))
 
 add-v : tie.Need-add-v Inv-loop μ-loop
 add-v c = omega arith
@@ -51,12 +51,12 @@ loop-less c = omega arith
 loop-again : tie.Need-loop-again Inv-loop μ-loop
 loop-again c =
     let l = c .before .before .before .before .before in (
-      next (l .loop .inv .0) (l .loop .inv .1) (omega arith) (c .before .before .write-row .ensures .1),
+      next-row (l .loop .inv .0) (l .loop .inv .1) (omega arith) (c .before .before .write-row .ensures .1),
       onward (l .loop .inv .0) (l .loop .inv .1) (c .before .before .write-row .ensures .0),
     )
 
 same-length : tie.Need-same-length Inv-loop μ-loop
-same-length c = same (c .before .loop .inv .0)
+same-length c = buffer-length (c .before .loop .inv .0)
 
 returns : tie.Need-returns Inv-loop μ-loop
 unfolding labels

@@ -8,7 +8,7 @@ use lib.ListN.{length}
 use Rattle.planbytes.specs.Plan.{labelEntry, labelRow}
 use Rattle.routine.specs.Layout.{arrays}
 use Rattle.words.specs.Tables.{rows, wrote}
-use Rattle.words.proofs.Filling.{Filled, begin, same, end, fits, lies, lent, next, onward, all}
+use Rattle.words.proofs.Buffers.{Filled, begin, buffer-length, end, row-room, lies, lent, next-row, onward, all}
 use Rattle.planbytes.proofs.Cells.{no-version}
 use Rattle.planbytes.proofs.Sizes.{row-none}
 use Rattle.planbytes.proofs.writer.write_row.Statement.{statement}
@@ -53,7 +53,7 @@ write-label-requires c κs =
 add-at : tie.Need-add-at Inv-loop μ-loop
 add-at c =
     let l = c .before .before .before .before .before in
-    omega (arith, fits (l .loop .inv .0) (l .loop .inv .1) (omega arith), l .before .before .before .before .before .before .before .before .before .good .1 .1 .1 .1 .1 .1 .1 .0)
+    omega (arith, row-room (l .loop .inv .0) (l .loop .inv .1) (omega arith), l .before .before .before .before .before .before .before .before .before .good .1 .1 .1 .1 .1 .1 .1 .0)
 
 add-a : tie.Need-add-a Inv-loop μ-loop
 add-a c = omega arith
@@ -64,12 +64,12 @@ loop-less c = omega arith
 loop-again : tie.Need-loop-again Inv-loop μ-loop
 loop-again c =
     let l = c .before .before .before .before .before in (
-      next (l .loop .inv .0) (l .loop .inv .1) (omega arith) (c .before .before .write-label .ensures .1),
+      next-row (l .loop .inv .0) (l .loop .inv .1) (omega arith) (c .before .before .write-label .ensures .1),
       onward (l .loop .inv .0) (l .loop .inv .1) (c .before .before .write-label .ensures .0),
     )
 
 same-length : tie.Need-same-length Inv-loop μ-loop
-same-length c = same (c .before .loop .inv .0)
+same-length c = buffer-length (c .before .loop .inv .0)
 
 returns-2 : tie.Need-returns-2 Inv-loop μ-loop
 unfolding labelRow

@@ -10,7 +10,7 @@ use Rattle.words.proofs.Sums.{any-none, any-next}
 use Rattle.routine.specs.declared.array.ArrayRecord.{ArrayRecord}
 use Rattle.routine.specs.Actions.{isReference, isRemap, wrong, actionCheck, rowCheck}
 use Rattle.routine.specs.Layout.{arrays}
-use Rattle.refusal.proofs.Checks.{Undecided, start, stop, next, done}
+use Rattle.refusal.proofs.Checks.{Undecided, scan-start, scan-stop, scan-next, scan-done}
 use Rattle.routine.proofs.Rows.{among, one-test}
 use Rattle.routine.proofs.action.check_row.Statement.{statement}
 use Rattle.routine.proofs.action.check_row.Tie as tie
@@ -28,7 +28,7 @@ is-terminal-requires : tie.Need-is-terminal-requires Inv-loop μ-loop
 is-terminal-requires c κs = search needs
 
 loop-holds : tie.Need-loop-holds Inv-loop μ-loop
-loop-holds c = (start _ _, sym (any-none _), sym (any-none _))
+loop-holds c = (scan-start _ _, sym (any-none _), sym (any-none _))
 
 at-requires : tie.Need-at-requires Inv-loop μ-loop
 at-requires c κs = search needs
@@ -63,7 +63,7 @@ unfolding rowCheck
 returns c =
     let w = c .before .before in
     let l = w .before .before .before .before in
-    stop (l .loop .inv .0) (omega (arith, w .before .before .before .loop-test .taken, l .before .before .before .pre .0 .arrays-are)) (rw (c .place .ensures .0, turn w, c .before .if1 .taken)) refl
+    scan-stop (l .loop .inv .0) (omega (arith, w .before .before .before .loop-test .taken, l .before .before .before .pre .0 .arrays-are)) (rw (c .place .ensures .0, turn w, c .before .if1 .taken)) refl
 
 is-reference-requires : tie.Need-is-reference-requires Inv-loop μ-loop
 is-reference-requires c κs = search needs
@@ -82,14 +82,14 @@ loop-again c =
     let w = c .before .before .before in
     let l = w .before .before .before .before in
     let x = w .before .before .at .ensures in (
-      next (l .loop .inv .0) (omega arith) (rw (turn w, c .before .before .if1 .left)) refl,
+      scan-next (l .loop .inv .0) (omega arith) (rw (turn w, c .before .before .if1 .left)) refl,
       any-next _ (l .loop .a) (l .loop .inv .1) (c .before .is-reference .ensures ∙ ap isReference x),
       any-next _ (l .loop .a) (l .loop .inv .2) (c .is-remap .ensures ∙ ap isRemap x),
     )
 
 returns-2 : tie.Need-returns-2 Inv-loop μ-loop
 unfolding rowCheck
-returns-2 c = done (c .before .loop .inv .0) (omega arith)
+returns-2 c = scan-done (c .before .loop .inv .0) (omega arith)
 
 pub check-row-spec : {M : Type 1} → statement M
 check-row-spec =
