@@ -64,12 +64,12 @@ module _ (file path before : List ℕ) {reply : Reply} (is : reply ≡ written (
     unfolding runnerCheck
     after-20 = passed-right (programmerCheck file) _ (written-passed (runnerCheck file path (length before)) (reportLength file path) (sym is ∙ e))
 
-    pub passed : pathCheck file path ≡ Passed
-    passed = passed-left (pathCheck file path) _ after-20
+    pub run-passed : pathCheck file path ≡ Passed
+    run-passed = passed-left (pathCheck file path) _ after-20
 
-    pub fits : length (reportBytes file path) ≤ length before
-    fits =
+    pub run-fits : length (reportBytes file path) ≤ length before
+    run-fits =
         omega (arith, report-length file path, leb-true (reportLength file path) (length before) (holds-true _ _ (passed-right (pathCheck file path) _ after-20)))
 
     pub written-ran : {after : List ℕ} → WellFormed file → after ≡ wrote before (reportBytes file path) → RanRead file path before reply after
-    written-ran well w = record { answer = is; buffer = rw e w; demand = rw e (demand3 file path well passed) }
+    written-ran well w = record { answer = is; buffer = rw e w; demand = rw e (demand3 file path well run-passed) }

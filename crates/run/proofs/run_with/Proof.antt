@@ -1,7 +1,7 @@
 -- `run_with` meets its contract: 20 and 21, the reply, and where it is no refusal the tables, the walk and the report.
 -- Assumes nothing.
 use mathlib.Core.Path.{_∙_}
-use Rattle.run.proofs.Ways.{denied-ran, passed, fits, written-ran}
+use Rattle.run.proofs.Ways.{denied-ran, run-passed, run-fits, written-ran}
 use borrow.Author.Needs.{needs}
 use Rattle.run.proofs.run_with.Statement.{statement}
 use Rattle.run.proofs.run_with.Tie as tie
@@ -80,7 +80,7 @@ write-requires c κs =
     let q = replied t in
     let s = start (checked q) in
     let e = t .before .before .before .before .before .before .before .before .enum-told2 .given .1 in
-    (s .pre .0, (passed (s .args .file .now) (s .args .path .now) (s .args .out .now) (q .reply .ensures) e, (t .tabulate .ensures, fits (s .args .file .now) (s .args .path .now) (s .args .out .now) (q .reply .ensures) e)))
+    (s .pre .0, (run-passed (s .args .file .now) (s .args .path .now) (s .args .out .now) (q .reply .ensures) e, (t .tabulate .ensures, run-fits (s .args .file .now) (s .args .path .now) (s .args .out .now) (q .reply .ensures) e)))
 
 same-length-9 : tie.Need-same-length-9
 same-length-9 c = c .before .before .write .kept .1 .1 .1 .1 .1 .0
