@@ -3,9 +3,9 @@
 -- Assumes nothing.
 use mathlib.Core.Path.{_≡_}
 use mathlib.Core.Bool.{cond}
-use mathlib.Core.List.{List, [], _∷_, _++_}
+use mathlib.Core.List.{List, [], _∷_}
 use mathlib.Core.Option.{Option, none, some}
-use Prim.Native.Nat.{ℕ, zero, suc}
+use Prim.Native.Nat.{ℕ}
 use lib.Dec.{eqb}
 use lib.ListN.{length}
 use Rattle.labels.specs.Events.{isLabel, version}
@@ -26,6 +26,7 @@ use Rattle.path.specs.Paths.{steps}
 use Rattle.walk.specs.Report.{reportBytes}
 use Rattle.demand.specs.Run.{stateAfter, runRecords}
 use Rattle.report.specs.declared.record.Record.{Record}
+use Rattle.words.specs.Tables.{rows}
 
 -- ---- a line of the planner's listing
 
@@ -40,14 +41,9 @@ lineAt file v a =
     (line v a (useOf file a v) (cond (isN (useOf file a v)) none (some (version file a v))) (reachingOf file a v) (keptOf file a v) ∷ [])
     []
 
--- n lists of lines, one after the other
-abbrev pub gathered : (ℕ → List Line) → ℕ → List Line
-gathered f zero = []
-gathered f (suc n) = gathered f n ++ f n
-
 -- by vertex, then array
 abbrev pub linesOf : List ℕ → List Line
-linesOf file = gathered (λ v. gathered (lineAt file v) (arrays file)) (vertices file)
+linesOf file = rows (λ v. rows (lineAt file v) (arrays file)) (vertices file)
 
 -- ---- what a read sees
 

@@ -9,7 +9,7 @@ ghost use mathlib.Core.Bool.{true};
 ghost use Prim.Native.Nat.{ℕ, _+_, _*_, _≤_, _<_};
 ghost use lib.ListN.{length, getD};
 ghost use Rattle.labels.specs.Routines.{ReadAs};
-ghost use Rattle.planbytes.specs.Plan.{labelCount, planHead, labelEntry, labelRow, labels, planBytes};
+ghost use Rattle.planbytes.specs.Plan.{planHead, labelEntry, labelRow, labels, planBytes};
 ghost use Rattle.planbytes.specs.Tables.{Tabled, Firsts, Leaving};
 ghost use Rattle.routine.specs.Layout.{arrays, vertices};
 ghost use Rattle.words.specs.Tables.{wrote};

@@ -16,7 +16,6 @@ ghost use Rattle.state.specs.Moves.{moves, isD, copiesStamp, targetStamp
 ghost use Rattle.state.specs.Start.{started};
 ghost use Rattle.state.specs.States.{hasCurrent, emptied, Current};
 ghost use Rattle.state.specs.Vertex.{relabelled, Visits};
-ghost use Rattle.sets.specs.Sets.{has};
 
 // The current version, or 255 for none; the set of live versions; a stamp for each version; the copies counted.
 pub struct State {
