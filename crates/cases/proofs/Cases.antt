@@ -6,7 +6,7 @@ use Prim.Native.Nat.{ℕ}
 use borrow.Author.Needs.{needs}
 use lib.Count.{ones}
 use Rattle.cases.specs.Cases.{AllHold, P, Q, path2, path4, cases}
-use Rattle.plan.specs.Calls.{planOf}
+use Rattle.planned.specs.Calls.{planOf}
 use Rattle.planbytes.specs.Plan.{planBytes}
 use Rattle.routine.specs.Arrays.{arrayOf}
 use Rattle.routine.specs.Layout.{headerOf}

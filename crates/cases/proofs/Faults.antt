@@ -7,7 +7,7 @@ use native.Mathlib.Omega.{arith}
 use lib.Count.{ones}
 use lib.ListN.{length, getD}
 use Rattle.cases.specs.Faults.{zeros, RefusesAll, P-with-nothing, PlanOfPForAll, WritesNoPlan, InventsRecords, InventsCopies, WritesNoReport}
-use Rattle.plan.specs.Calls.{planOf, planInto, Planned}
+use Rattle.planned.specs.Calls.{planOf, planInto, Planned}
 use Rattle.planbytes.specs.Plan.{planBytes}
 use Rattle.refusal.specs.declared.Reply.{Reply}
 use Rattle.refusal.specs.declared.Reply.the-variants.{Written, Denied}

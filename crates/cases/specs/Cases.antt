@@ -14,7 +14,7 @@ use Rattle.labels.specs.Reaching.{reachingOf}
 use Rattle.labels.specs.Uses.{isN, useOf}
 use Rattle.labels.specs.declared.Use.{Use}
 use Rattle.labels.specs.declared.Use.the-variants.{N, D, R, W}
-use Rattle.plan.specs.Calls.{planOf, planOutcome}
+use Rattle.planned.specs.Calls.{planOf, planOutcome}
 use Rattle.planbytes.specs.Plan.{planBytes}
 use Rattle.routine.specs.Layout.{arrays, vertices}
 use Rattle.refusal.specs.Refusals.{refused}

@@ -3,7 +3,7 @@
 use mathlib.Core.List.{List, [], _∷_}
 use Prim.Native.Nat.{ℕ}
 use lib.ListN.{replicate}
-use Rattle.plan.specs.Calls.{Planned}
+use Rattle.planned.specs.Calls.{Planned}
 use Rattle.planbytes.specs.Plan.{planBytes}
 use Rattle.refusal.specs.declared.Refusal.{Refusal}
 use Rattle.refusal.specs.declared.Reply.{Reply}

@@ -1,20 +1,16 @@
 // The call that plans a routine (document 01).
 use passes::tables;
-use planbytes::contents;
 use planbytes::writer;
-use refusal::Refusal;
 use refusal::Reply;
-use refusal::Verdict;
 use routine::header::Header;
 use routine::reader;
 use routine::reader::Answer;
 ghost use mathlib.Core.Path.{_≡_};
 ghost use Prim.Native.Nat.{_*_, _≤_};
 ghost use lib.ListN.{length};
-ghost use Rattle.labels.specs.Checks.{programmerCheck};
 ghost use Rattle.labels.specs.Routines.{ReadAs, EdgeOrder};
 ghost use Rattle.passes.specs.Tables.{Versions, UseGives, Reached};
-ghost use Rattle.plan.specs.Calls.{Replied, PlannedRead, Planned};
+ghost use Rattle.planned.specs.Calls.{PlannedRead, Planned};
 ghost use Rattle.planbytes.specs.Tables.{Tabled};
 ghost use Rattle.routine.specs.Layout.{vertices, edges};
 
@@ -56,32 +52,6 @@ fn tabulate(
     tables::kept(file, h, order, versions, letters, kept, uses, passes);
 }
 
-// The reply, with a buffer of `size` bytes: 20 and 21 as they were answered, then 1. Fills in the index of each vertex's first label.
-fn reply(
-    file: &[u8],
-    h: Header,
-    size: usize,
-    checked: Verdict,
-    versions: &[u16],
-    firsts: &mut [u16],
-) -> Reply
-    requires { ⌜ ReadAs (now file) h ⌝ }
-    requires { ⌜ checked ≡ programmerCheck (now file) ⌝ }
-    requires { ⌜ Versions (now file) (now versions) ⌝ }
-    requires { ⌜ length (now firsts) ≡ 8 * vertices (now file) ⌝ }
-    ensures { λ r. ⌜ Replied (now (file .entry)) size r (now (firsts .exit)) ⌝ }
-{
-    if let Verdict::Failed(r) = checked {
-        return Reply::Denied(r);
-    }
-    let count = contents::label_count(file, h, versions, firsts);
-    let needed = contents::plan_length(h, count);
-    if size < needed {
-        return Reply::Denied(Refusal::ShortPlanBuffer { needed });
-    }
-    Reply::Written(needed)
-}
-
 // Plans a routine that was read. `order` holds an entry for each edge, the other tables eight for each vertex.
 fn plan_with(
     file: &[u8],
@@ -119,7 +89,7 @@ fn plan_with(
         passes,
     );
     // from here on `gives` holds the index of each vertex's first label
-    let reply = reply(file, h, out.len(), checked, versions, gives);
+    let reply = planned::reply(file, h, out.len(), checked, versions, gives);
     if let Reply::Denied(_) = reply {
         return reply;
     }

@@ -5,7 +5,7 @@ use mathlib.Core.List.{List}
 use Prim.Native.Nat.{ℕ}
 use lib.ListN.{length}
 use Rattle.labels.specs.Demand.{Demand2}
-use Rattle.plan.specs.Calls.{planOf, planOutcome, planInto}
+use Rattle.planned.specs.Calls.{planOf, planOutcome, planInto}
 use Rattle.refusal.specs.declared.Outcome.{Outcome}
 use Rattle.refusal.specs.declared.Verdict.the-variants.{Passed}
 use Rattle.routine.specs.Reader.{readCheck}

@@ -3,7 +3,7 @@
 use mathlib.Core.Path.{sym, ap, _∙_}
 use lib.ListN.{length}
 use Rattle.refusal.specs.Replies.{replyOutcome}
-use Rattle.plan.specs.Calls.{planOf, planCheck, plannerCheck}
+use Rattle.planned.specs.Calls.{planOf, planCheck, plannerCheck}
 use Rattle.planbytes.specs.Plan.{planBytes, planLength}
 use Rattle.labels.proofs.Rules.Demand.{demand2}
 use Rattle.routine.proofs.Accepted.{accepted, passed-read, refused-way, read-way, unwritten}

@@ -1,7 +1,7 @@
 -- `plan_with` meets its contract: 20 and 21, the reply, and where it is no refusal the tables and the plan.
 -- Assumes nothing.
 use mathlib.Core.Path.{_∙_}
-use Rattle.plan.proofs.Ways.{denied-planned, plan-passed, plan-fits, written-planned}
+use Rattle.planned.proofs.Ways.{denied-planned, plan-passed, plan-fits, written-planned}
 use borrow.Author.Needs.{needs}
 use Rattle.plan.proofs.plan_with.Statement.{statement}
 use Rattle.plan.proofs.plan_with.Tie as tie

@@ -1,7 +1,7 @@
 -- `hpf_plan` meets its contract: the answer of `plan`, in numbers.
 -- Assumes nothing.
 use mathlib.Core.Path.{ap, _∙_}
-use Rattle.plan.specs.Calls.{planInto}
+use Rattle.planned.specs.Calls.{planInto}
 use Rattle.refusal.specs.declared.Reply.{Reply}
 use borrow.Author.Needs.{needs}
 use Rattle.remap.proofs.hpf_plan.Statement.{statement}

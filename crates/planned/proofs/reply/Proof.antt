@@ -7,10 +7,10 @@ use Rattle.planbytes.specs.Plan.{planLength}
 use Rattle.planbytes.proofs.Sizes.{length-is}
 use Rattle.refusal.specs.declared.Refusal.the-variants.{ShortPlanBuffer}
 use Rattle.refusal.specs.declared.Reply.the-variants.{Written, Denied}
-use Rattle.plan.proofs.Ways.{plan-denied, plan-short, plan-written, not-written}
+use Rattle.planned.proofs.Ways.{plan-denied, plan-short, plan-written, not-written}
 use borrow.Author.Needs.{needs}
-use Rattle.plan.proofs.reply.Statement.{statement}
-use Rattle.plan.proofs.reply.Tie as tie
+use Rattle.planned.proofs.reply.Statement.{statement}
+use Rattle.planned.proofs.reply.Tie as tie
 
 -- from the count to the start
 abbrev start : tie.After-label-count → tie.Start

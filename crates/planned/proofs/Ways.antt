@@ -7,7 +7,7 @@ use native.Mathlib.Omega.{arith}
 use borrow.Author.Tests.{le-leb, lt-leb, leb-true}
 use lib.ListN.{length}
 use Rattle.labels.specs.Checks.{programmerCheck}
-use Rattle.plan.specs.Calls.{plannerCheck, planInto, PlannedRead}
+use Rattle.planned.specs.Calls.{plannerCheck, planInto, PlannedRead}
 use Rattle.planbytes.specs.Plan.{planBytes, planLength}
 use Rattle.planbytes.proofs.Sizes.{plan-length}
 use Rattle.refusal.specs.Replies.{written}
