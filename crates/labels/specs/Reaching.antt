@@ -23,11 +23,12 @@ abbrev pub ArrivesBy : List ℕ → List ℕ → ℕ → Type 0
 ArrivesBy file [] v = v ≡ entry
 ArrivesBy file (u ∷ us) v = (u ≡ entry) × Joined (edgeBytes file) u us v
 
--- the version of the last vertex of a list that passes a test
+-- the later of two versions, if there is one
 abbrev pub orLast : Option ℕ → Option ℕ → Option ℕ
 orLast earlier none = earlier
 orLast earlier (some k) = some k
 
+-- the version of the last vertex of a list that passes a test
 abbrev pub lastVersion : (ℕ → Bool) → (ℕ → ℕ) → List ℕ → Option ℕ
 lastVersion test version [] = none
 lastVersion test version (u ∷ us) = orLast (cond (test u) (some (version u)) none) (lastVersion test version us)

@@ -93,7 +93,7 @@ fn two_rows_of_labels(mut edges: Vec<(u16, u16)>) -> Draft {
 
 /// The entry has an edge to each vertex but the exit, and a chain runs against the numbers: in
 /// sweeps by number facts travel one vertex a sweep.
-pub fn slowest_chain() -> Draft {
+pub fn chain_from_entry() -> Draft {
     let exit = MAX_VERTICES as u16 - 1;
     let mut edges = vec![(1, exit)];
     edges.extend((1..exit).map(|vertex| (0, vertex)));
@@ -101,11 +101,11 @@ pub fn slowest_chain() -> Draft {
     two_rows_of_labels(edges)
 }
 
-/// `slowest_chain` with edges to the next vertex and loops at each: a depth-first search settles
+/// `chain_from_entry` with edges to the next vertex and loops at each: a depth-first search settles
 /// the vertices by number too, and facts still travel one vertex a sweep.
 pub fn against_the_search() -> Draft {
     let exit = MAX_VERTICES as u16 - 1;
-    let mut edges = slowest_chain().edges;
+    let mut edges = chain_from_entry().edges;
     edges.extend((2..exit).map(|vertex| (vertex, vertex)));
     edges.extend((2..exit - 1).map(|vertex| (vertex, vertex + 1)));
     two_rows_of_labels(edges)
@@ -168,7 +168,7 @@ pub fn at_limits(rng: &mut Rng) -> Vec<Draft> {
         Draft::one_array(INOUT, 16, 15, &[], &[(0, 1)]),
         largest_plan(),
         largest_report(),
-        slowest_chain(),
+        chain_from_entry(),
         against_the_search(),
         ring_of_labels(),
     ];
