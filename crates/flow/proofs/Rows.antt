@@ -20,14 +20,14 @@ use Rattle.words.proofs.Rows.{row-length, row-other, row-at, row-still}
 use Rattle.words.proofs.Tables.{table-length, table-at, zeros-at}
 use Rattle.flow.specs.Order.{Order}
 use Rattle.flow.specs.Paths.{edgeCount}
-use Rattle.flow.specs.Solver.{near, far, turn, handed, relaxed, swept, rounds, solution, column, handedRow, grown, relaxedRow, roundsRow, Ends, Tables, noted, inAll, Altered, Advanced, Solved}
+use Rattle.flow.specs.Solver.{near, far, turn, handed, relaxed, swept, rounds, solution, column, handedRow, grown, relaxedRow, roundsRow, Ends, Tables, noted, inAll, Altered, Advanced, Going, Solved}
 use Rattle.flow.proofs.Rounds.{turn-lt, near-lt, far-lt, swept-keeps, rounds-keeps, rounds-both}
 use Rattle.flow.proofs.Exact.{or-le, or-subset, after, ends-alike}
 
 -- ---- a row that grows
 
 -- what a set of the row grows to
-abbrev grows : List ℕ → ℕ → List ℕ → ℕ → ℕ
+abbrev pub grows : List ℕ → ℕ → List ℕ → ℕ → ℕ
 grows s v row a = bitOr (getD s (8 * v + a) 0) (getD row a 0)
 
 pub grown-length : (s : List ℕ) (v : ℕ) (row : List ℕ) (m : ℕ) → length (grown s v row m) ≡ length s
@@ -37,10 +37,10 @@ pub grown-at : (s : List ℕ) (v : ℕ) (row : List ℕ) (m a : ℕ) → a < m �
 grown-at s v row = row-at s v (grows s v row)
 
 -- each element is at most the other list's
-abbrev Below : List ℕ → List ℕ → Type 0
+abbrev pub Below : List ℕ → List ℕ → Type 0
 Below s t = (x : ℕ) → getD s x 0 ≤ getD t x 0
 
-below-grown : (s : List ℕ) (v : ℕ) (row : List ℕ) (m : ℕ) → 8 * v + m ≤ length s → Below s (grown s v row m)
+pub below-grown : (s : List ℕ) (v : ℕ) (row : List ℕ) (m : ℕ) → 8 * v + m ≤ length s → Below s (grown s v row m)
 unfolding withRow
 below-grown s v row zero l x = le-refl _
 below-grown s v row (suc m) l x =
@@ -51,7 +51,7 @@ below-grown s v row (suc m) l x =
     ]
 
 -- lists that grow no further than where they began
-squeezed : (s t u : List ℕ) → length t ≡ length s → Below s t → Below t u → u ≡ s → t ≡ s
+pub squeezed : (s t u : List ℕ) → length t ≡ length s → Below s t → Below t u → u ≡ s → t ≡ s
 squeezed s t u e st tu same = ext-getD 0 t s e (λ x l. le-antisymm (subst (λ (y : List ℕ). getD t x 0 ≤ getD y x 0) same (tu x)) (st x))
 
 -- ---- columns
@@ -108,7 +108,7 @@ pub record Notes (note before after : List ℕ) : Type 0 where
   pub none : ((a : ℕ) → a < 8 → getD note a 0 ≡ 0) → after ≡ before
   pub some : after ≡ before → (a : ℕ) → a < 8 → getD note a 0 ≡ 0
 
-notes-none : (s : List ℕ) → Notes (replicate 8 0) s s
+pub notes-none : (s : List ℕ) → Notes (replicate 8 0) s s
 notes-none s = record { none = λ h. refl; some = λ e a l. zeros-at 8 a }
 
 -- what a set lacks, and what it grows by
@@ -124,7 +124,7 @@ module _ (note s t : List ℕ) (v : ℕ) (row : List ℕ) (fits : 8 * v + 8 ≤ 
   noted-at a l = table-at (λ b. bitOr (getD note b 0) (minus (getD row b 0) (getD t (8 * v + b) 0))) 8 a l
 
   -- one row more
-  notes-more : Notes (noted note t v row) s (grown t v row 8)
+  pub notes-more : Notes (noted note t v row) s (grown t v row 8)
   notes-more = record {
     none = λ all.
         let parts : (a : ℕ) → a < 8 → (getD note a 0 ≡ 0) × (minus (getD row a 0) (getD t (8 * v + a) 0) ≡ 0) =
@@ -151,7 +151,7 @@ none-all note zero h = refl
 none-all note (suc m) h = ap₂ bitOr (none-all note m (λ a l. h a (omega arith))) (h m (le-refl (suc m)))
 
 -- a note tells whether a set was altered
-tells : (note s t : List ℕ) (b : Bool) → Notes note s t → b ≡ not (eqb (inAll note 8) 0) → Altered b s t
+pub tells : (note s t : List ℕ) (b : Bool) → Notes note s t → b ≡ not (eqb (inAll note 8) 0) → Altered b s t
 tells note s t b h e = subst (λ (x : Bool). Altered x s t) (sym e) (by (inAll note 8) refl)
   where
     by : (x : ℕ) → inAll note 8 ≡ x → Altered (not (eqb x 0)) s t
@@ -161,10 +161,10 @@ tells note s t b h e = subst (λ (x : Bool). Altered x s t) (sym e) (by (inAll n
 -- ---- the steps of a round
 
 module _ (es : List ℕ) (along : Bool) (gives passes : List ℕ) where
-  abbrev step : List ℕ → ℕ → List ℕ
+  abbrev pub step : List ℕ → ℕ → List ℕ
   step s i = relaxedRow es along gives passes s i
 
-  step-length : (s : List ℕ) (i : ℕ) → length (step s i) ≡ length s
+  pub step-length : (s : List ℕ) (i : ℕ) → length (step s i) ≡ length s
   step-length s i = grown-length s (near es along i) (handedRow gives passes s (far es along i)) 8
 
   -- a round at work: the first j edges of the order have been taken, and the note says what that added
@@ -179,17 +179,17 @@ module _ (es : List ℕ) (along : Bool) (gives passes : List ℕ) where
   sweeping-none order s = record { is = refl; within = zero-le; eight = refl; notes = notes-none s }
 
   module _ {order : List ℕ} (ord : Order (edgeCount es) order) where
-    swept-length : (s : List ℕ) (j : ℕ) → j ≤ length order → length (swept step order along s j) ≡ length s
+    pub swept-length : (s : List ℕ) (j : ℕ) → j ≤ length order → length (swept step order along s j) ≡ length s
     swept-length s = swept-keeps ord along step (λ t. length t ≡ length s) (λ t i l e. step-length t i ∙ e) s refl
 
     pub rounds-length : (s : List ℕ) (r : ℕ) → length (rounds step order along s r) ≡ length s
     rounds-length s = rounds-keeps ord along step (λ t. length t ≡ length s) (λ t i l e. step-length t i ∙ e) s refl
 
     -- the row of an edge's near end
-    near-fits : (s t : List ℕ) (i : ℕ) → Tables es gives passes s → length t ≡ length s → i < edgeCount es → 8 * near es along i + 8 ≤ length t
+    pub near-fits : (s t : List ℕ) (i : ℕ) → Tables es gives passes s → length t ≡ length s → i < edgeCount es → 8 * near es along i + 8 ≤ length t
     near-fits s t i h e l = omega (arith, near-lt (h .ends) along i l, h .whole)
 
-    swept-below : (s : List ℕ) → Tables es gives passes s → (j : ℕ) → j ≤ length order → (length (swept step order along s j) ≡ length s) × Below s (swept step order along s j)
+    pub swept-below : (s : List ℕ) → Tables es gives passes s → (j : ℕ) → j ≤ length order → (length (swept step order along s j) ≡ length s) × Below s (swept step order along s j)
     swept-below s h =
         swept-keeps ord along step (λ t. (length t ≡ length s) × Below s t)
         (λ t i l b. (step-length t i ∙ b .0, λ x. le-trans (b .1 x) (below-grown t (near es along i) (handedRow gives passes t (far es along i)) 8 (near-fits s t i h (b .0) l) x)))
@@ -241,13 +241,7 @@ module _ (es order : List ℕ) (along : Bool) (gives passes : List ℕ) (n : ℕ
   abbrev made : ℕ → List ℕ
   made r = roundsRow es order along gives passes n r
 
-  -- r rounds, each of which altered a set
-  pub record Going (t : List ℕ) (r : ℕ) : Type 0 where
-    pub sets : t ≡ made r
-    pub most : r ≤ n
-    pub altered : (j : ℕ) → j < r → made (suc j) ≡ made j → ⊥
-
-  pub going-none : (t : List ℕ) → t ≡ replicate (8 * n) 0 → Going t 0
+  pub going-none : (t : List ℕ) → t ≡ replicate (8 * n) 0 → Going es order along gives passes n t 0
   unfolding rounds
   going-none t e = record { sets = e; most = zero-le; altered = λ j h. absurd (omega arith) }
 
@@ -280,12 +274,12 @@ module _ (es order : List ℕ) (along : Bool) (gives passes : List ℕ) (n : ℕ
     further r h = columns-all n (made (suc r)) (made r) (made-length ord (suc r)) (made-length ord r) (λ a l. column-ends a l (suc r) (omega arith) ∙ sym (column-ends a l r h))
 
     -- one more, and whether it altered a set
-    module _ (t u : List ℕ) (b : Bool) (r : ℕ) (g : Going t r) (x : Advanced (swept (relaxedRow es along gives passes) order along t (length order)) t b u) where
+    module _ (t u : List ℕ) (b : Bool) (r : ℕ) (g : Going es order along gives passes n t r) (x : Advanced (swept (relaxedRow es along gives passes) order along t (length order)) t b u) where
       now-made : u ≡ made (suc r)
       unfolding rounds
       now-made = x .sets ∙ ap (λ (s : List ℕ). swept (relaxedRow es along gives passes) order along s (length order)) (g .sets)
 
-      pub going-more : b ≡ true → Going u (r + 1)
+      pub going-more : b ≡ true → Going es order along gives passes n u (r + 1)
       going-more did =
           let new : made (suc r) ≡ made r → ⊥ = λ same. subst (λ (y : Bool). Altered y t u) did (x .told) (now-made ∙ same ∙ sym (g .sets)) in
           record {

@@ -88,6 +88,12 @@ relaxedRow es along gives passes sets i = grown sets (near es along i) (handedRo
 abbrev pub roundsRow : List ℕ → List ℕ → Bool → List ℕ → List ℕ → ℕ → ℕ → List ℕ
 roundsRow es order along gives passes n r = rounds (relaxedRow es along gives passes) order along (replicate (8 * n) 0) r
 
+-- r rounds over the empty sets of n vertices, each of which altered a set
+pub record Going (es order : List ℕ) (along : Bool) (gives passes : List ℕ) (n : ℕ) (t : List ℕ) (r : ℕ) : Type 0 where
+  pub sets : t ≡ roundsRow es order along gives passes n r
+  pub most : r ≤ n
+  pub altered : (j : ℕ) → j < r → roundsRow es order along gives passes n (suc j) ≡ roundsRow es order along gives passes n j → ⊥
+
 -- ---- the number of rounds: every earlier round altered a set, the last none, and there are at most as many as vertices and one more
 pub record Rounds (es order : List ℕ) (along : Bool) (gives passes : List ℕ) (n r : ℕ) : Type 0 where
   pub some : 0 < r

@@ -1,5 +1,5 @@
-// One solver on version sets over the edges of a routine: bit k is in the set of a vertex if a path from it, through vertices that
-// pass k, arrives at a vertex that gives k. It goes by rounds over the edges until a round alters no set.
+// Paths over the edges of a routine, and rounds over these edges that fill in sets: bit k is in the set of a vertex if a path from it,
+// through vertices that pass k, arrives at a vertex that gives k.
 // A table has eight columns, one for each array that a routine may have: the set of vertex v in column a stands at 8 v + a.
 ghost use mathlib.Core.Path.{_≡_};
 ghost use mathlib.Core.Bool.{true, false, cond, not};
@@ -8,13 +8,13 @@ ghost use lib.Dec.{eqb};
 ghost use lib.ListN.{length, replicate};
 ghost use Rattle.flow.specs.Order.{Order};
 ghost use Rattle.flow.specs.Paths.{edgeCount};
-ghost use Rattle.flow.specs.Solver.{near, far, handedRow, grown, relaxedRow, swept, noted, inAll, rowCount, Tables, Advanced, Solved};
+ghost use Rattle.flow.specs.Solver.{near, far, handedRow, grown, relaxedRow, swept, noted, inAll, Tables, Advanced};
 
 // Columns of a table.
 pub const COLUMNS: usize = 8;
 
 // Empties every set.
-fn clear(sets: &mut [u16])
+pub fn clear(sets: &mut [u16])
     ensures { λ r. ⌜ now (sets .exit) ≡ replicate (length (now (sets .entry))) 0 ⌝ }
 {
     for v in 0..sets.len() {
@@ -23,13 +23,29 @@ fn clear(sets: &mut [u16])
 }
 
 // One of two numbers, by a flag.
-fn pick(first: bool, a: usize, b: usize) -> usize
+pub fn pick(first: bool, a: usize, b: usize) -> usize
     ensures { λ r. ⌜ r ≡ cond first a b ⌝ }
 {
     if first {
         return a;
     }
     b
+}
+
+// The end of edge i whose sets grow.
+pub fn near_end(edges: &[u8], along: bool, i: usize) -> usize
+    requires { ⌜ i < edgeCount (now edges) ⌝ }
+    ensures { λ r. ⌜ r ≡ near (now (edges .entry)) along i ⌝ }
+{
+    words::at(edges, 4 * i + pick(along, 0, 2))
+}
+
+// The end that they grow from.
+pub fn far_end(edges: &[u8], along: bool, i: usize) -> usize
+    requires { ⌜ i < edgeCount (now edges) ⌝ }
+    ensures { λ r. ⌜ r ≡ far (now (edges .entry)) along i ⌝ }
+{
+    words::at(edges, 4 * i + pick(along, 2, 0))
 }
 
 // What vertex u hands on in each column: what it gives, and what it holds and passes.
@@ -70,7 +86,7 @@ fn join(sets: &mut [u16], v: usize, row: [u16; COLUMNS], note: [u16; COLUMNS]) -
 }
 
 // Takes edge i: its near end's sets grow by what the far end hands on. Adds to a note what they did not have.
-fn relax(
+pub fn relax(
     edges: &[u8],
     along: bool,
     gives: &[u16],
@@ -86,14 +102,14 @@ fn relax(
         (handedRow (now (gives .entry)) (now (passes .entry)) (now (sets .entry)) (far (now (edges .entry)) along i)) ⌝ }
     ensures { λ _. ⌜ now (sets .exit) ≡ relaxedRow (now (edges .entry)) along (now (gives .entry)) (now (passes .entry)) (now (sets .entry)) i ⌝ }
 {
-    let near = words::at(edges, 4 * i + pick(along, 0, 2));
-    let far = words::at(edges, 4 * i + pick(along, 2, 0));
+    let near = near_end(edges, along, i);
+    let far = far_end(edges, along, i);
     let row = handed(gives, passes, sets, far);
     join(sets, near, row, note)
 }
 
 // Whether a note has anything in it.
-fn any(note: [u16; COLUMNS]) -> bool
+pub fn any(note: [u16; COLUMNS]) -> bool
     ensures { λ r. ⌜ r ≡ not (eqb (inAll note 8) 0) ⌝ }
 {
     let mut all: u16 = 0;
@@ -143,7 +159,7 @@ fn rise(edges: &[u8], order: &[u16], gives: &[u16], passes: &[u16], sets: &mut [
 }
 
 // Takes every edge once. A loop of its own for each direction is faster than one that asks for it at each edge.
-fn round(
+pub fn round(
     edges: &[u8],
     order: &[u16],
     along: bool,
@@ -162,27 +178,4 @@ fn round(
         return fall(edges, order, gives, passes, sets);
     }
     rise(edges, order, gives, passes, sets)
-}
-
-// Fills in the sets of all vertices in every column, and returns the number of rounds. The last round alters no set.
-pub fn solve(
-    edges: &[u8],
-    order: &[u16],
-    along: bool,
-    gives: &[u16],
-    passes: &[u16],
-    sets: &mut [u16],
-) -> usize
-    requires { ⌜ Order (edgeCount (now edges)) (now order) ⌝ }
-    requires { ⌜ Tables (now edges) (now gives) (now passes) (now sets) ⌝ }
-    ensures { λ r. ⌜ Solved
-        (now (edges .entry)) (now (order .entry)) along (now (gives .entry)) (now (passes .entry)) (rowCount (now (sets .entry)))
-        r (now (sets .exit)) ⌝ }
-{
-    clear(sets);
-    let mut r: usize = 0;
-    while round(edges, order, along, gives, passes, sets) {
-        r += 1;
-    }
-    r + 1
 }

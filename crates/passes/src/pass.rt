@@ -35,5 +35,5 @@ pub fn solve(
     ensures { λ _. ⌜ Pass (now (file .entry)) along (now (gives .entry)) (now (passes .entry)) (now (sets .exit)) ⌝ }
 {
     let at = h.edges_at();
-    flow::solve(&file[at..], order, along, gives, passes, sets);
+    solver::solve(&file[at..], order, along, gives, passes, sets);
 }

@@ -38,6 +38,16 @@ pub bit-has : (m k : ℕ) → bit m k ≡ 1 → has m k ≡ true
 unfolding has
 bit-has m k h = eq-eqb (bit m k) 1 h
 
+-- a bit that is 0
+no-bit : (m k : ℕ) → bit m k ≡ 0 → has m k ≡ false
+unfolding has
+no-bit m k e = ap (λ (x : ℕ). eqb x 1) e
+
+-- a mask shifted down
+pub has-shr : (m j k : ℕ) → has (m / 2 ^ j) k ≡ has m (j + k)
+unfolding has bit
+has-shr m j k = ap (λ (x : ℕ). eqb (x % 2) 1) (shr-shr m j k)
+
 pub has-suc : (m k : ℕ) → has m (suc k) ≡ has (m / 2) k
 unfolding has
 has-suc m k = ap (λ (n : ℕ). eqb n 1) (bit-suc m k)
@@ -228,6 +238,17 @@ lowest-has (suc w) m some fits = go (m % 2) refl (λ half. lowest-has w (m / 2) 
     go : (d : ℕ) → m % 2 ≡ d → (0 < m / 2 → has (m / 2) (trailingZeros w (m / 2)) ≡ true) → has m (under d (trailingZeros w (m / 2))) ≡ true
     go zero e half = has-suc m (trailingZeros w (m / 2)) ∙ half (omega arith)
     go (suc d) e half = bit-has m 0 (omega (arith, bit-zero m))
+
+-- and nothing below them is
+pub lowest-none : (w m k : ℕ) → k < trailingZeros w m → has m k ≡ false
+unfolding trailingZeros
+lowest-none zero m k h = absurd (omega arith)
+lowest-none (suc w) m k h = go (m % 2) refl (lowest-none w (m / 2)) k h
+  where
+    go : (d : ℕ) → m % 2 ≡ d → ((j : ℕ) → j < trailingZeros w (m / 2) → has (m / 2) j ≡ false) → (j : ℕ) → j < under d (trailingZeros w (m / 2)) → has m j ≡ false
+    go zero e half zero l = no-bit m 0 (bit-zero m ∙ e)
+    go zero e half (suc j) l = has-suc m j ∙ half j (le-of-suc-le-suc l)
+    go (suc d) e half j l = absurd (omega arith)
 
 pub lowest-below : (w m : ℕ) → 0 < m → m < 2 ^ w → trailingZeros w m < w
 lowest-below w m some fits =

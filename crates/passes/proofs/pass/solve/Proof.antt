@@ -14,7 +14,7 @@ use Rattle.labels.specs.Events.{edgeBytes}
 use Rattle.passes.specs.Tables.{Pass}
 use Rattle.routine.specs.Layout.{vertices}
 use Rattle.passes.proofs.Cells.{edges-inside, edges-part}
-use Rattle.labels.proofs.Rules.Proper.{ends-within}
+use Rattle.labels.proofs.Rules.Proper.{edge-count, ends-within}
 use Rattle.passes.proofs.pass.solve.Statement.{statement}
 use Rattle.passes.proofs.pass.solve.Tie as tie
 
@@ -50,14 +50,21 @@ solve-requires c κs =
     let file = s .args .file .now in
     let lent = edges-part (s .pre .0) (e .edges-at .ensures) in
     let size = s .pre .1 .1 .1 .1 in
-    let rows : vertices file ≡ rowCount (s .args .sets .now) = sym (rows-are file (s .args .sets .now) size) in (
+    let rows : vertices file ≡ rowCount (s .args .sets .now) = sym (rows-are file (s .args .sets .now) size) in
+    let limits = s .pre .0 .well .laid .limits in (
       subst (λ (es : List ℕ). Order (edgeCount es) (s .args .order .now)) (sym lent) (s .pre .1 .0),
-      record {
-        ends = subst (Ends _) rows (subst (λ (es : List ℕ). Ends es (vertices file)) (sym lent) (ends-within file (s .pre .0 .well)));
-        whole = size ∙ ap (λ (n : ℕ). 8 * n) rows;
-        gives-all = s .pre .1 .1 .0 ∙ sym size;
-        passes-all = s .pre .1 .1 .1 .0 ∙ sym size;
-      },
+      (
+        omega (arith, ap edgeCount lent, edge-count file (s .pre .0 .well .laid), limits .few-edges),
+        (
+          record {
+            ends = subst (Ends _) rows (subst (λ (es : List ℕ). Ends es (vertices file)) (sym lent) (ends-within file (s .pre .0 .well)));
+            whole = size ∙ ap (λ (n : ℕ). 8 * n) rows;
+            gives-all = s .pre .1 .1 .0 ∙ sym size;
+            passes-all = s .pre .1 .1 .1 .0 ∙ sym size;
+          },
+          omega (arith, rows, limits .few-vertices),
+        ),
+      ),
     )
 
 same-length : tie.Need-same-length
