@@ -46,30 +46,32 @@ above : (m b k : ℕ) → b ≤ k → has (m / 2 ^ b) (k - b) ≡ has m k
 above m b k h = has-shr m b (k - b) ∙ ap (has m) (let e : b + (k - b) ≡ k = omega arith in e)
 
 pub next-end : (m b : ℕ) → b ≤ 64 → 64 ≤ b → NextPending m b 64
-next-end m b h l = record { onward = h; most = le-refl 64; shut = λ k from up. absurd (omega arith) }
+next-end m b h l = record { onward = h; most = le-refl 64; shut = λ k from up. absurd (omega arith); found = λ l. absurd (omega arith) }
 
 pub next-none : (m b : ℕ) → b ≤ 64 → m / 2 ^ b ≡ 0 → NextPending m b 64
 next-none m b h none = record {
   onward = h;
   most = le-refl 64;
   shut = λ k from up. sym (above m b k from) ∙ ap (λ (x : ℕ). has x (k - b)) none ∙ has-zero (k - b);
+  found = λ l. absurd (omega arith);
 }
 
 pub next-some : (m b : ℕ) → m < 2 ^ 64 → b ≤ 64 → (m / 2 ^ b ≡ 0 → ⊥) → NextPending m b (b + trailingZeros 64 (m / 2 ^ b))
 next-some m b fits h some = record {
   onward = omega arith;
   most = elim (decLt 64 (b + z)) [
-    | yes l ↦ absurd (true≢false (sym found ∙ has-out 64 m (b + z) fits (omega arith)))
+    | yes l ↦ absurd (true≢false (sym lowest ∙ has-out 64 m (b + z) fits (omega arith)))
     | no l ↦ omega arith
   ];
   shut = λ k from up. sym (above m b k from) ∙ lowest-none 64 (m / 2 ^ b) (k - b) (omega arith);
+  found = λ _. lowest;
 }
   where
     z : ℕ
     z = trailingZeros 64 (m / 2 ^ b)
 
-    found : has m (b + z) ≡ true
-    found =
+    lowest : has m (b + z) ≡ true
+    lowest =
         sym (has-shr m b z)
         ∙ lowest-has 64 (m / 2 ^ b) (⊎-elim (λ e. absurd (some e)) (λ l. l) (eq-zero-or-pos (m / 2 ^ b))) (lt-of-le-of-lt (shr-le m b) fits)
 

@@ -17,6 +17,7 @@ pub record NextPending (pending b r : ℕ) : Type 0 where
   pub onward : b ≤ r
   pub most : r ≤ 64
   pub shut : (k : ℕ) → b ≤ k → k < r → has pending k ≡ false
+  pub found : r < 64 → has pending r ≡ true
 
 -- each edge's block is marked at its far end
 pub record Marked (es order : List ℕ) (along : Bool) (marks : List ℕ) : Type 0 where
