@@ -10,7 +10,9 @@ use Rattle.routine.specs.declared.action.Action.{Action}
 use Rattle.routine.specs.declared.action.Action.the-variants.{Nothing, Reference, Remap, Unknown}
 use Rattle.routine.specs.Actions.{action, isRemap}
 use Rattle.routine.specs.Arrays.{arrayOf, kind, initial, isArgument}
-use Rattle.routine.specs.Layout.{entry, exit, edgesAt}
+use Rattle.routine.specs.Layout.{vertices, entry, exit, edgesAt}
+use Rattle.flow.specs.Solver.{solution}
+use Rattle.words.specs.Tables.{table}
 
 -- the width of a version set, for all label rules
 abbrev pub width : ℕ
@@ -23,6 +25,11 @@ everyVersion = 2 ^ width - 1
 -- the bytes of the edges
 abbrev pub edgeBytes : List ℕ → List ℕ
 edgeBytes file = drop (edgesAt file) file
+
+-- the sets that the solver makes of what each vertex gives and passes, along the edges or against them
+abbrev pub solvedSets : List ℕ → Bool → (ℕ → ℕ) → (ℕ → ℕ) → List ℕ
+solvedSets file along gives passes =
+    solution (edgeBytes file) along (table gives (vertices file)) (table passes (vertices file)) (vertices file)
 
 -- ---- events: entry labels every array as a remapping to its initial version; exit labels every argument so
 

@@ -9,12 +9,10 @@ use lib.Dec.{T}
 use lib.ListN.{getD}
 use Rattle.flow.specs.Paths.{Path}
 use Rattle.flow.specs.Solver.{solution}
-use Rattle.routine.specs.Layout.{vertices}
 use Rattle.labels.specs.declared.Use.{Use}
 use Rattle.labels.specs.declared.Use.the-variants.{N, D, R, W}
-use Rattle.labels.specs.Events.{everyVersion, edgeBytes, event, isLabel, version}
-use Rattle.labels.specs.Uses.{useOf, isKept, Leaves}
-use Rattle.words.specs.Tables.{table}
+use Rattle.labels.specs.Events.{everyVersion, edgeBytes, solvedSets, event, isLabel, version}
+use Rattle.labels.specs.Uses.{Finds, useOf, isKept, Leaves}
 
 -- the letters whose kept set goes on to the next label
 abbrev pub isNOrR : Use → Bool
@@ -31,11 +29,8 @@ passesKept file a v = not (isLabel file a v) || isNOrR (useOf file a v)
 -- ---- by paths
 
 -- some path from v arrives at a label that leaves with k while every label from v up to it, v included and it excluded, is N or R
-pub record KeepsFor (file : List ℕ) (a v k : ℕ) : Type 0 where
-  pub place : ℕ
-  pub here : T (isNOrR (useOf file a v))
-  pub path : Path (edgeBytes file) (passesKept file a) v place
-  pub leaves : Leaves file a place k
+abbrev pub KeepsFor : List ℕ → ℕ → ℕ → ℕ → Type 0
+KeepsFor file a v k = T (isNOrR (useOf file a v)) × Finds (Path (edgeBytes file) (passesKept file a)) (λ w. Leaves file a w k) v
 
 -- k is in the kept set of v: the leaving version if there is one; also each that v keeps for a later label
 abbrev pub InKept : List ℕ → ℕ → ℕ → ℕ → Type 0
@@ -51,9 +46,7 @@ leavingSet file a v = cond (isKept file a v) (2 ^ version file a v) 0
 -- what the vertices keep for later labels
 unfoldable pub keptSets : List ℕ → ℕ → List ℕ
 unfolding solution leavingSet passesKept
-keptSets file a =
-    solution (edgeBytes file) true (table (leavingSet file a) (vertices file))
-    (table (λ v. cond (passesKept file a v) everyVersion 0) (vertices file)) (vertices file)
+keptSets file a = solvedSets file true (leavingSet file a) (λ v. cond (passesKept file a v) everyVersion 0)
 
 -- the kept set at v, computed
 unfoldable pub keptOf : List ℕ → ℕ → ℕ → ℕ

@@ -9,16 +9,15 @@ use lib.ListN.{getD}
 use Rattle.flow.specs.Paths.{Path}
 use Rattle.flow.specs.Solver.{solution}
 use Rattle.routine.specs.Actions.{isReference}
-use Rattle.routine.specs.Layout.{vertices, exit}
+use Rattle.routine.specs.Layout.{exit}
 use Rattle.routine.specs.declared.action.Access.the-variants.{Read, Define, Modify}
 use Rattle.routine.specs.declared.action.Action.{Action}
 use Rattle.routine.specs.declared.action.Action.the-variants.{Nothing, Reference, Remap, Unknown}
 use Rattle.sets.specs.Sets.{has}
 use Rattle.labels.specs.declared.Use.{Use}
 use Rattle.labels.specs.declared.Use.the-variants.{N, D, R, W}
-use Rattle.labels.specs.Events.{edgeBytes, event, isLabel, version, isRead, isDefine, isWrite, needsValue}
+use Rattle.labels.specs.Events.{edgeBytes, solvedSets, event, isLabel, version, isRead, isDefine, isWrite, needsValue}
 use Rattle.routine.specs.Arrays.{kind, isIn}
-use Rattle.words.specs.Tables.{table}
 
 -- ---- segments
 
@@ -30,17 +29,19 @@ Segment file a v w = Path (edgeBytes file) (λ u. not (isLabel file a u)) v w
 abbrev pub UndefinedSegment : List ℕ → ℕ → ℕ → ℕ → Type 0
 UndefinedSegment file a v w = Path (edgeBytes file) (λ u. not (isLabel file a u) && not (isDefine (event file a u))) v w
 
--- some segment from v meets an event that passes the test
-pub record Meets (file : List ℕ) (a : ℕ) (test : Action → Bool) (v : ℕ) : Type 0 where
+-- a path of this kind from v arrives at a vertex of which something holds
+pub record Finds (Way : ℕ → ℕ → Type 0) (Met : ℕ → Type 0) (v : ℕ) : Type 0 where
   pub place : ℕ
-  pub segment : Segment file a v place
-  pub met : T (test (event file a place))
+  pub way : Way v place
+  pub met : Met place
+
+-- some segment from v meets an event that passes the test
+abbrev pub Meets : List ℕ → ℕ → (Action → Bool) → ℕ → Type 0
+Meets file a test v = Finds (Segment file a) (λ w. T (test (event file a w))) v
 
 -- some segment from v meets such an event without a define before it
-pub record MeetsUndefined (file : List ℕ) (a : ℕ) (test : Action → Bool) (v : ℕ) : Type 0 where
-  pub place : ℕ
-  pub segment : UndefinedSegment file a v place
-  pub met : T (test (event file a place))
+abbrev pub MeetsUndefined : List ℕ → ℕ → (Action → Bool) → ℕ → Type 0
+MeetsUndefined file a test v = Finds (UndefinedSegment file a) (λ w. T (test (event file a w))) v
 
 -- ---- use, one letter, by segments
 
@@ -99,9 +100,7 @@ passesBy gives = cond (eqb gives 0b0010) 0b0000 (cond (eqb gives 0b1001) 0b1101 
 -- the sets of use of the vertices
 unfoldable pub useSets : List ℕ → ℕ → List ℕ
 unfolding solution event
-useSets file a =
-    solution (edgeBytes file) true (table (λ v. useGives (event file a v)) (vertices file))
-    (table (λ v. usePasses (event file a v)) (vertices file)) (vertices file)
+useSets file a = solvedSets file true (λ v. useGives (event file a v)) (λ v. usePasses (event file a v))
 
 -- the letter that a set of use says
 abbrev pub letterOf : ℕ → Use
@@ -127,6 +126,5 @@ unfolding event useOf
 isKept file a v = isLabel file a v && not (isN (useOf file a v))
 
 -- v is a label that leaves with version k
-pub record Leaves (file : List ℕ) (a v k : ℕ) : Type 0 where
-  pub kept : T (isKept file a v)
-  pub with-version : version file a v ≡ k
+abbrev pub Leaves : List ℕ → ℕ → ℕ → ℕ → Type 0
+Leaves file a v k = T (isKept file a v) × (version file a v ≡ k)

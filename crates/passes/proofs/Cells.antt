@@ -19,7 +19,7 @@ use Rattle.words.proofs.Tests.{at-cond}
 use Rattle.words.proofs.Written.{partFrom, part-is}
 use Rattle.words.proofs.Rows.{row-length, row-other, row-at}
 use Rattle.words.proofs.Tables.{table-length, table-at, table-ext}
-use Rattle.labels.specs.Events.{edgeBytes, event, version, versionOf}
+use Rattle.labels.specs.Events.{edgeBytes, solvedSets, event, version, versionOf}
 use Rattle.labels.specs.Routines.{ReadAs}
 use Rattle.labels.proofs.Rules.Events.{version-fits}
 use Rattle.labels.proofs.Rules.Proper.{proper}
@@ -80,7 +80,7 @@ module _ {file : List ℕ} (well : WellFormed file) where
 
   -- the sets that a pass leaves
   pub cells-solved : (G P : ℕ → ℕ → ℕ) {gives passes sets : List ℕ} {along : Bool} → Cells file G gives → Cells file P passes → Pass file along gives passes sets
-      → Cells file (λ a v. getD (solution (edgeBytes file) along (table (G a) (vertices file)) (table (P a) (vertices file)) (vertices file)) v 0) sets
+      → Cells file (λ a v. getD (solvedSets file along (G a) (P a)) v 0) sets
   cells-solved G P {gives} {passes} {sets} {along} g p h = record {
     size = h .size;
     cells = λ a v in-a in-v.

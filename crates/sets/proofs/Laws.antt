@@ -165,12 +165,17 @@ has-cond true m k = refl
 has-cond false m k = has-zero k
 
 -- of a full set
-pub has-full : (w k : ℕ) → k < w → has (2 ^ w - 1) k ≡ true
+has-full : (w k : ℕ) → k < w → has (2 ^ w - 1) k ≡ true
 has-full zero k h = absurd (omega arith)
 has-full (suc w) zero h = bit-has _ 0 (omega (arith, bit-zero (2 ^ suc w - 1), pow-suc 2 w, pow-pos w))
 has-full (suc w) (suc k) h =
     let e : (2 ^ suc w - 1) / 2 ≡ 2 ^ w - 1 = omega (arith, pow-suc 2 w) in
     has-suc _ k ∙ ap (λ (m : ℕ). has m k) e ∙ has-full w k (le-of-suc-le-suc h)
+
+-- of a set that is full where a test passes, and empty elsewhere
+pub has-full-if : (w k : ℕ) → k < w → (b : Bool) → has (cond b (2 ^ w - 1) 0) k ≡ b
+has-full-if w k h true = has-full w k h
+has-full-if w k h false = has-zero k
 
 pub has-out : (w m k : ℕ) → m < 2 ^ w → w ≤ k → has m k ≡ false
 unfolding has bit

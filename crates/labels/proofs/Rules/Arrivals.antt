@@ -1,27 +1,24 @@
 -- Paths from the entry: which vertices they reach, and which vertex of a kind is the last on them.
 -- Assumes nothing.
 use mathlib.Core.Path.{_≡_, refl, ap, subst, _∙_}
-use mathlib.Core.Bool.{Bool, true, false, not, cond, and-true}
+use mathlib.Core.Bool.{Bool, true, false, not, cond}
 use mathlib.Core.List.{List, [], _∷_, _++_}
 use mathlib.Core.Logic.{_↔_, _⊎_, inl, inr, ⊎-elim}
 use mathlib.Core.Option.{Option, none, some, Option·none-ne-some}
 use Prim.Native.Nat.{ℕ}
-use lib.Dec.{T, eqb}
+use lib.Dec.{T, eqb, lit<}
 use lib.Ieee.Bits.{is-true, is-false}
 use Rattle.flow.specs.Paths.{Edge, Path, last, next, Joined, AllPass}
-use Rattle.flow.specs.Solver.{Ends}
+use Rattle.flow.specs.Solver.{Leads, Ends}
 use Rattle.words.proofs.Tests.{either, or-iff, eqb-iff}
 use Rattle.flow.proofs.Paths.{list-iff, extend}
 use Rattle.routine.specs.Layout.{vertices, entry}
 use Rattle.sets.specs.Sets.{has}
-use Rattle.sets.proofs.Laws.{has-cond}
+use Rattle.sets.proofs.Laws.{has-full-if}
 use Rattle.labels.specs.Events.{edgeBytes}
 use Rattle.labels.specs.Reaching.{ArrivesBy, orLast, lastVersion, reachedSets, isReached}
-use Rattle.labels.proofs.Rules.Tables.{Finds, solved}
-
-one-if : (b : Bool) → has (cond b 1 0) 0 ≡ b
-unfolding has
-one-if b = has-cond b 1 0 ∙ and-true b
+use Rattle.labels.specs.Uses.{Finds}
+use Rattle.labels.proofs.Rules.Tables.{solved}
 
 all-pass : (us : List ℕ) → AllPass (λ u. true) us
 all-pass [] = tt
@@ -30,10 +27,10 @@ all-pass (u ∷ us) = (tt, all-pass us)
 -- ---- which vertices are reached
 
 module _ (file : List ℕ) (ends : Ends (edgeBytes file) (vertices file)) where
-  from-entry : (v : ℕ) → T (isReached file v) ↔ ((v ≡ entry) ⊎ Finds (edgeBytes file) false (λ u. true) (λ u. u ≡ entry) v)
+  from-entry : (v : ℕ) → T (isReached file v) ↔ ((v ≡ entry) ⊎ Finds (Leads (edgeBytes file) false (λ u. true)) (λ u. u ≡ entry) v)
   unfolding isReached reachedSets has
   from-entry v = or-iff (eqb v entry) _ (eqb-iff v entry)
-      (solved (edgeBytes file) false _ _ (vertices file) ends (λ u. true) (λ u. u ≡ entry) 0 (λ u. rw (one-if (eqb u entry)) (eqb-iff u entry)) (λ w m u. refl) v)
+      (solved (edgeBytes file) false (λ u. cond (eqb u entry) 1 0) _ (vertices file) ends (λ u. true) (λ u. u ≡ entry) 0 (λ u. rw (has-full-if 1 0 (lit< tt) (eqb u entry)) (eqb-iff u entry)) (λ w m u. refl) v)
 
   -- v is reached exactly if some path from the entry arrives at it
   pub reached-exact : (v : ℕ) → T (isReached file v) ↔ ((before : List ℕ) × ArrivesBy file before v)
@@ -42,7 +39,7 @@ module _ (file : List ℕ) (ends : Ends (edgeBytes file) (vertices file)) where
     λ p. from-entry v .1 (go (p .0) (p .1)),
   )
     where
-      go : (before : List ℕ) → ArrivesBy file before v → (v ≡ entry) ⊎ Finds (edgeBytes file) false (λ u. true) (λ u. u ≡ entry) v
+      go : (before : List ℕ) → ArrivesBy file before v → (v ≡ entry) ⊎ Finds (Leads (edgeBytes file) false (λ u. true)) (λ u. u ≡ entry) v
       go [] e = inl e
       go (u ∷ us) p = inr (record { place = u; way = list-iff (edgeBytes file) (λ u. true) u v .1 (record { inner = us; joined = p .1; pass = all-pass us }); met = p .0 })
 
@@ -77,7 +74,7 @@ module _ (q : ℕ → Bool) (version : ℕ → ℕ) where
   module _ (file : List ℕ) (ends : Ends (edgeBytes file) (vertices file)) where
     -- a reached vertex of the kind that has version k and leads to v past no other
     abbrev pub Carried : ℕ → ℕ → Type 0
-    Carried v k = Finds (edgeBytes file) false (λ x. not (q x)) (λ w. (T (isReached file w) × T (q w)) × (version w ≡ k)) v
+    Carried v k = Finds (Leads (edgeBytes file) false (λ x. not (q x))) (λ w. (T (isReached file w) × T (q w)) × (version w ≡ k)) v
 
     -- the last vertex of the kind, where the vertices from u on lead to v: such a one, or none
     abbrev pub Last : ℕ → ℕ → Option ℕ → Type 0

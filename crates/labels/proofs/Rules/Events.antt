@@ -16,25 +16,25 @@ use Rattle.routine.specs.Arrays.{kind, isArgument}
 use Rattle.routine.specs.Layout.{entry, exit}
 use Rattle.labels.proofs.Rules.Proper.{Proper}
 
--- the version is below the width
-abbrev Fits : Action → Type 0
-Fits x = versionOf x < width
+-- its version is below the width
+abbrev InWidth : Action → Type 0
+InWidth x = versionOf x < width
 
-action-fits : (b : ℕ) → Fits (actionOf b)
+action-fits : (b : ℕ) → InWidth (actionOf b)
 unfolding actionOf
 action-fits b =
-    at-cond Fits (eqb b 0x00) (λ _. lit< tt) (λ _.
-    at-cond Fits (eqb b 0x10) (λ _. lit< tt) (λ _.
-    at-cond Fits (eqb b 0x20) (λ _. lit< tt) (λ _.
-    at-cond Fits (eqb b 0x30) (λ _. lit< tt) (λ _.
-    at-cond Fits (ltb b 0x40) (λ _. lit< tt) (λ _.
-    at-cond Fits (ltb b 0x50) (λ h. omega (arith, ltb-true b 0x50 h)) (λ _. lit< tt))))))
+    at-cond InWidth (eqb b 0x00) (λ _. lit< tt) (λ _.
+    at-cond InWidth (eqb b 0x10) (λ _. lit< tt) (λ _.
+    at-cond InWidth (eqb b 0x20) (λ _. lit< tt) (λ _.
+    at-cond InWidth (eqb b 0x30) (λ _. lit< tt) (λ _.
+    at-cond InWidth (ltb b 0x40) (λ _. lit< tt) (λ _.
+    at-cond InWidth (ltb b 0x50) (λ h. omega (arith, ltb-true b 0x50 h)) (λ _. lit< tt))))))
 
 -- every version is below the width
 pub version-fits : (file : List ℕ) (a : ℕ) → Proper file a → (v : ℕ) → version file a v < width
 unfolding version event action
 version-fits file a proper v =
-    at-cond Fits (eqb v entry || (eqb v (exit file) && isArgument (kind file a))) (λ _. proper .initial-fits) (λ _. action-fits (actionByte file v a))
+    at-cond InWidth (eqb v entry || (eqb v (exit file) && isArgument (kind file a))) (λ _. proper .initial-fits) (λ _. action-fits (actionByte file v a))
 
 -- what holds of each kind of event holds of every event
 pub by-event : (P : Action → Type 0) → P Nothing → P (Reference Read) → P (Reference Define) → P (Reference Modify)

@@ -24,18 +24,14 @@ module _ (file : List ℕ) (a : ℕ) (proper : Proper file a) (v : ℕ) where
   -- the leaving version if there is one
   leaving-exact : (k : ℕ) → T (has (leavingSet file a v) k) ↔ Leaves file a v k
   unfolding leavingSet
-  leaving-exact k =
-      let f = member-cond (isKept file a v) (2 ^ version file a v) k Iff·rfl (member-single (version file a v) k) in
-      (λ h. let l = f .0 h in record { kept = l .0; with-version = l .1 }, λ l. f .1 (l .kept, l .with-version))
+  leaving-exact k = member-cond (isKept file a v) (2 ^ version file a v) k Iff·rfl (member-single (version file a v) k)
 
   -- what an N or R label keeps for later ones
   keeps-exact : (k : ℕ) → T (has (cond (isNOrR (useOf file a v)) (getD (keptSets file a) v 0) 0) k) ↔ KeepsFor file a v k
   unfolding keptSets leavingSet
   keeps-exact k =
-      let f = member-cond (isNOrR (useOf file a v)) (getD (keptSets file a) v 0) k Iff·rfl (versions-exact file a proper true _ _ (isKept file a) (passesKept file a) (λ u. refl) (λ u. refl) _ (λ u. Iff·rfl) v k) in (
-        λ h. let o = f .0 h in record { place = o .1 .place; here = o .0; path = o .1 .way; leaves = record { kept = o .1 .met .0; with-version = o .1 .met .1 } },
-        λ o. f .1 (o .here, record { place = o .place; way = o .path; met = (o .leaves .kept, o .leaves .with-version) }),
-      )
+      member-cond (isNOrR (useOf file a v)) (getD (keptSets file a) v 0) k Iff·rfl
+      (versions-exact file a proper true _ _ (isKept file a) (passesKept file a) (λ u. refl) (λ u. refl) _ (λ u. Iff·rfl) v k)
 
   -- kept set: the leaving version; also that of each label that some path arrives at while every label from here up to it is N or R
   pub kept-exact : (k : ℕ) → T (has (keptOf file a v) k) ↔ InKept file a v k

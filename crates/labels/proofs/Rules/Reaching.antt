@@ -11,6 +11,7 @@ use lib.ListN.{getD}
 use lib.Pow.{pow-pos}
 use lib.Ieee.Bits.{is-false}
 use Rattle.flow.specs.Paths.{Edge, Joined}
+use Rattle.flow.specs.Solver.{Leads}
 use Rattle.words.proofs.Tests.{at-cond, cond-not, either, or-iff, and-iff, eqb-iff}
 use Rattle.flow.proofs.Paths.{list-iff}
 use Rattle.routine.specs.Layout.{entry}
@@ -20,9 +21,8 @@ use Rattle.labels.specs.Events.{width, everyVersion, edgeBytes, event, v
 use Rattle.routine.specs.Arrays.{kind, initial, isInOrInout}
 use Rattle.labels.proofs.Rules.Proper.{Proper}
 use Rattle.labels.specs.Reaching.{ArrivesBy, lastVersion, orInitial, Reaches, isReached, reachGives, reachPasses, reachSets, reachingOf}
-use Rattle.labels.specs.Uses.{isKept}
+use Rattle.labels.specs.Uses.{Finds, isKept}
 use Rattle.labels.proofs.Rules.Arrivals.{reached-exact, last-none, Last, last-of, last-exact}
-use Rattle.labels.proofs.Rules.Tables.{Finds}
 use Rattle.flow.proofs.Members.{member-cond, member-single}
 use Rattle.labels.proofs.Rules.Versions.{single-fits, versions-exact, versions-fit}
 
@@ -59,7 +59,7 @@ module _ (file : List ℕ) (a : ℕ) (proper : Proper file a) (v k : ℕ) where
 
   -- a reached vertex, kept or the entry of in and inout, that has version k and leads to v past no kept label
   abbrev Found : Type 0
-  Found = Finds (edgeBytes file) false (λ u. not (isKept file a u))
+  Found = Finds (Leads (edgeBytes file) false (λ u. not (isKept file a u)))
       (λ u. (T (isReached file u) × (T (isKept file a u) ⊎ ((u ≡ entry) × T (isInOrInout (kind file a))))) × (version file a u ≡ k)) v
 
   sets-exact : T (has (getD (reachSets file a) v 0) k) ↔ Found

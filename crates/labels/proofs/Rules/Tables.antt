@@ -14,6 +14,7 @@ use Rattle.flow.specs.Solver.{Leads, Ends, solution}
 use Rattle.words.proofs.Tests.{either}
 use Rattle.flow.proofs.Paths.{path-ends}
 use Rattle.flow.proofs.Exact.{exact}
+use Rattle.labels.specs.Uses.{Finds}
 use Rattle.words.specs.Tables.{table}
 use Rattle.words.proofs.Tables.{table-length, table-at}
 
@@ -43,16 +44,10 @@ module _ {es : List ℕ} {n : ℕ} (ends : Ends es n) where
 
 -- ---- what the sets hold
 
--- a path from v, along the edges or against them, through vertices that pass a test, to one of which something holds
-pub record Finds (es : List ℕ) (along : Bool) (through : ℕ → Bool) (Met : ℕ → Type 0) (v : ℕ) : Type 0 where
-  pub place : ℕ
-  pub way : Leads es along through v place
-  pub met : Met place
-
 -- where k is given exactly where Met holds, and then passed exactly where the test is, the set of v holds k exactly if such a path is found
 pub solved : (es : List ℕ) (along : Bool) (gives passes : ℕ → ℕ) (n : ℕ) → Ends es n → (through : ℕ → Bool) (Met : ℕ → Type 0) (k : ℕ)
     → ((u : ℕ) → T (has (gives u) k) ↔ Met u) → ((w : ℕ) → Met w → (u : ℕ) → has (passes u) k ≡ through u)
-    → (v : ℕ) → T (has (getD (solution es along (table gives n) (table passes n) n) v 0) k) ↔ Finds es along through Met v
+    → (v : ℕ) → T (has (getD (solution es along (table gives n) (table passes n) n) v 0) k) ↔ Finds (Leads es along through) Met v
 solved es along gives passes n ends through Met k given passed v = (
   λ h. let o = exact es along (table gives n) (table passes n) n ends v k .0 h in
       let l = leads-ends ends _ along v (o .giver) (o .way) in

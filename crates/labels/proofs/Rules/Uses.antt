@@ -19,9 +19,9 @@ use Rattle.labels.specs.declared.Use.the-variants.{N, D, R, W}
 use Rattle.labels.specs.Events.{edgeBytes, event, isRead, isDefine, isWrite, needsValue}
 use Rattle.routine.specs.Arrays.{kind}
 use Rattle.labels.proofs.Rules.Proper.{Proper}
-use Rattle.labels.specs.Uses.{Segment, UndefinedSegment, Meets, MeetsUndefined, Unused, Rule, exitUse, IsUse, useGives, usePasses, useSets, letterOf, useOf}
+use Rattle.labels.specs.Uses.{Segment, UndefinedSegment, Finds, Meets, MeetsUndefined, Unused, Rule, exitUse, IsUse, useGives, usePasses, useSets, letterOf, useOf}
 use Rattle.labels.proofs.Rules.Events.{by-event}
-use Rattle.labels.proofs.Rules.Tables.{Finds, solved}
+use Rattle.labels.proofs.Rules.Tables.{solved}
 use Rattle.words.proofs.Tests.{or-left, eqb-iff}
 
 -- ---- the rules leave one letter at most
@@ -32,16 +32,16 @@ module _ (file : List ℕ) (a v : ℕ) where
   read-reference m =
       record {
         place = m .place;
-        segment = m .segment;
+        way = m .way;
         met = by-event (λ x. T (isRead x) → T (isReference x)) (λ h. h) (λ h. h) (λ h. tt) (λ h. tt) (λ k h. h) (λ h. h) (event file a (m .place)) (m .met);
       }
 
   -- a read is met without a define before it, or a define is met
   read-first : Meets file a isRead v → MeetsUndefined file a needsValue v ⊎ Meets file a isWrite v
   read-first m = ⊎-elim
-      (λ t. inl (record { place = m .place; segment = t; met = search or-left }))
-      (λ t. inr (record { place = t .vertex; segment = weaken (λ u h. search and-l) (t .arrives); met = search or-left }))
-      (split-first (λ u. isDefine (event file a u)) (m .segment))
+      (λ t. inl (record { place = m .place; way = t; met = search or-left }))
+      (λ t. inr (record { place = t .vertex; way = weaken (λ u h. search and-l) (t .arrives); met = search or-left }))
+      (split-first (λ u. isDefine (event file a u)) (m .way))
 
   -- two letters whose rules hold are the same
   pub only-one : (t u : Use) → Rule file a v t → Rule file a v u → t ≡ u
@@ -71,50 +71,39 @@ use-reference = by-event (λ x. has (useGives x) 0 ≡ isReference x) refl refl 
 
 module _ (file : List ℕ) (a : ℕ) (proper : Proper file a) (v : ℕ) where
   -- the use set of v
-  abbrev mask : ℕ
-  mask = getD (useSets file a) v 0
+  abbrev useSet : ℕ
+  useSet = getD (useSets file a) v 0
 
   -- bit k, where events give it and pass it by these tests
   bit-exact : (k : ℕ) (gives passes : Action → Bool) → ((x : Action) → (has (useGives x) k ≡ gives x) × (has (usePasses x) k ≡ passes x))
-      → T (has mask k) ↔ Finds (edgeBytes file) true (λ u. passes (event file a u)) (λ u. T (gives (event file a u))) v
+      → T (has useSet k) ↔ Finds (Path (edgeBytes file) (λ u. passes (event file a u))) (λ u. T (gives (event file a u))) v
   unfolding useSets
   bit-exact k gives passes tests =
       solved (edgeBytes file) true _ _ (vertices file) (proper .ends) _ _ k (λ u. rw (tests (event file a u) .0) Iff·rfl) (λ _ _ u. tests (event file a u) .1) v
 
-  meets-exact : (k : ℕ) (test : Action → Bool) → ((x : Action) → (has (useGives x) k ≡ test x) × (has (usePasses x) k ≡ not (isRemap x)))
-      → T (has mask k) ↔ Meets file a test v
-  meets-exact k test tests =
-      let f = bit-exact k test (λ x. not (isRemap x)) tests in (
-        λ h. let o = f .0 h in record { place = o .place; segment = o .way; met = o .met },
-        λ m. f .1 (record { place = m .place; way = m .segment; met = m .met }),
-      )
-
-  reference-exact : T (has mask 0) ↔ Meets file a isReference v
+  reference-exact : T (has useSet 0) ↔ Meets file a isReference v
   unfolding has
   reference-exact =
-      meets-exact 0 isReference (λ x. (use-reference x, by-event (λ y. has (usePasses y) 0 ≡ not (isRemap y)) refl refl refl refl (λ k. refl) refl x))
+      bit-exact 0 isReference (λ x. not (isRemap x)) (λ x. (use-reference x, by-event (λ y. has (usePasses y) 0 ≡ not (isRemap y)) refl refl refl refl (λ k. refl) refl x))
 
-  undefined-exact : T (has mask 1) ↔ MeetsUndefined file a needsValue v
+  undefined-exact : T (has useSet 1) ↔ MeetsUndefined file a needsValue v
   unfolding has
   undefined-exact =
-      let f = bit-exact 1 needsValue (λ x. not (isRemap x) && not (isDefine x)) (by-event _ (refl, refl) (refl, refl) (refl, refl) (refl, refl) (λ k. (refl, refl)) (refl, refl)) in (
-        λ h. let o = f .0 h in record { place = o .place; segment = o .way; met = o .met },
-        λ m. f .1 (record { place = m .place; way = m .segment; met = m .met }),
-      )
+      bit-exact 1 needsValue (λ x. not (isRemap x) && not (isDefine x)) (by-event _ (refl, refl) (refl, refl) (refl, refl) (refl, refl) (λ k. (refl, refl)) (refl, refl))
 
-  read-exact : T (has mask 2) ↔ Meets file a isRead v
+  read-exact : T (has useSet 2) ↔ Meets file a isRead v
   unfolding has
-  read-exact = meets-exact 2 isRead (by-event _ (refl, refl) (refl, refl) (refl, refl) (refl, refl) (λ k. (refl, refl)) (refl, refl))
+  read-exact = bit-exact 2 isRead (λ x. not (isRemap x)) (by-event _ (refl, refl) (refl, refl) (refl, refl) (refl, refl) (λ k. (refl, refl)) (refl, refl))
 
-  write-exact : T (has mask 3) ↔ Meets file a isWrite v
+  write-exact : T (has useSet 3) ↔ Meets file a isWrite v
   unfolding has
-  write-exact = meets-exact 3 isWrite (by-event _ (refl, refl) (refl, refl) (refl, refl) (refl, refl) (λ k. (refl, refl)) (refl, refl))
+  write-exact = bit-exact 3 isWrite (λ x. not (isRemap x)) (by-event _ (refl, refl) (refl, refl) (refl, refl) (refl, refl) (λ k. (refl, refl)) (refl, refl))
 
   -- ---- the letter
 
   -- away from the exit, the rule of the letter that the use set tells holds
-  letter-rule : Rule file a v (letterOf mask)
-  letter-rule = go (has mask 0) (has mask 1) (has mask 2) (has mask 3) reference-exact undefined-exact read-exact write-exact
+  letter-rule : Rule file a v (letterOf useSet)
+  letter-rule = go (has useSet 0) (has useSet 1) (has useSet 2) (has useSet 3) reference-exact undefined-exact read-exact write-exact
     where
       go : (b₀ b₁ b₂ b₃ : Bool)
           → T b₀ ↔ Meets file a isReference v → T b₁ ↔ MeetsUndefined file a needsValue v → T b₂ ↔ Meets file a isRead v → T b₃ ↔ Meets file a isWrite v
@@ -130,10 +119,10 @@ module _ (file : List ℕ) (a : ℕ) (proper : Proper file a) (v : ℕ) where
   unfolding useOf
   use-exact u = go (eqb v (exit file)) (eqb-iff v (exit file))
     where
-      go : (b : Bool) → T b ↔ (v ≡ exit file) → IsUse file a v u ↔ (u ≡ cond b (exitUse (kind file a)) (letterOf mask))
+      go : (b : Bool) → T b ↔ (v ≡ exit file) → IsUse file a v u ↔ (u ≡ cond b (exitUse (kind file a)) (letterOf useSet))
       go true f = (λ is. is .at-exit (f .0 tt), λ e. record { at-exit = λ _. e; elsewhere = λ n. absurd (n (f .0 tt)) })
       go false f = (
-        λ is. only-one file a v u (letterOf mask) (is .elsewhere (f .1)) letter-rule,
+        λ is. only-one file a v u (letterOf useSet) (is .elsewhere (f .1)) letter-rule,
         λ e. record { at-exit = λ x. absurd (f .1 x); elsewhere = λ _. subst (Rule file a v) (sym e) letter-rule },
       )
 
@@ -160,12 +149,12 @@ module _ (file : List ℕ) (a : ℕ) (proper : Proper file a) (v : ℕ) where
 
   -- N: no segment meets a reference
   pub n-segment : {w : ℕ} → useOf file a v ≡ N → Segment file a v w → T (isReference (event file a w)) → ⊥
-  n-segment {w} e t h = subst (Rule file a v) e (rule t) (record { place = w; segment = t; met = h })
+  n-segment {w} e t h = subst (Rule file a v) e (rule t) (record { place = w; way = t; met = h })
 
   -- D: no segment meets a read, a modify or the next label without a define before it
   pub d-segment : {w : ℕ} → useOf file a v ≡ D → UndefinedSegment file a v w → T (needsValue (event file a w)) → ⊥
-  d-segment {w} e t h = subst (Rule file a v) e (rule t) .1 (record { place = w; segment = t; met = h })
+  d-segment {w} e t h = subst (Rule file a v) e (rule t) .1 (record { place = w; way = t; met = h })
 
   -- R: no segment meets a define or modify
   pub r-segment : {w : ℕ} → useOf file a v ≡ R → Segment file a v w → T (isWrite (event file a w)) → ⊥
-  r-segment {w} e t h = subst (Rule file a v) e (rule t) .1 (record { place = w; segment = t; met = h })
+  r-segment {w} e t h = subst (Rule file a v) e (rule t) .1 (record { place = w; way = t; met = h })

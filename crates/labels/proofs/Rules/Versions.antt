@@ -1,32 +1,26 @@
 -- Version sets that the solver makes: what they hold, and that they fit the width.
 -- Assumes nothing.
-use mathlib.Core.Path.{_≡_, ap, subst, _∙_}
-use mathlib.Core.Bool.{Bool, _&&_, cond, and-true}
+use mathlib.Core.Path.{_≡_, subst}
+use mathlib.Core.Bool.{Bool, cond}
 use mathlib.Core.List.{List}
 use mathlib.Core.Logic.{_↔_}
 use Prim.Native.Nat.{ℕ, _^_, _<_}
 use lib.Dec.{T}
 use lib.ListN.{getD}
 use lib.Pow.{pow-pos, pow-lt}
-use Rattle.flow.specs.Solver.{solution}
+use Rattle.flow.specs.Solver.{Leads}
 use Rattle.flow.proofs.Exact.{solution-fits}
 use Rattle.routine.specs.Layout.{vertices}
 use Rattle.sets.specs.Sets.{has}
-use Rattle.sets.proofs.Laws.{has-cond, has-full}
-use Rattle.labels.specs.Events.{width, everyVersion, edgeBytes, version}
+use Rattle.sets.proofs.Laws.{has-full-if}
+use Rattle.labels.specs.Events.{width, everyVersion, edgeBytes, solvedSets, version}
+use Rattle.labels.specs.Uses.{Finds}
 use Rattle.labels.proofs.Rules.Proper.{Proper}
 use Rattle.labels.proofs.Rules.Events.{version-fits}
-use Rattle.labels.proofs.Rules.Tables.{table-all, Finds, solved}
+use Rattle.labels.proofs.Rules.Tables.{table-all, solved}
 use Rattle.flow.proofs.Members.{member-cond, member-single}
 use Rattle.words.specs.Tables.{table}
 use Rattle.words.proofs.Tests.{at-cond}
-
--- every version where a test passes, else nothing
-all-if : (k : ℕ) → k < width → (b : Bool) → has (cond b everyVersion 0) k ≡ b
-all-if k h b = has-cond b everyVersion k ∙ ap (λ (t : Bool). b && t) (has-full width k h) ∙ and-true b
-
-abbrev sets : List ℕ → Bool → (ℕ → ℕ) → (ℕ → ℕ) → List ℕ
-sets file along gives passes = solution (edgeBytes file) along (table gives (vertices file)) (table passes (vertices file)) (vertices file)
 
 module _ (file : List ℕ) (a : ℕ) (proper : Proper file a) where
   -- a set of one version, or none
@@ -36,12 +30,12 @@ module _ (file : List ℕ) (a : ℕ) (proper : Proper file a) where
   -- where the vertices that pass `test` give their versions, and those that pass `through` pass every version
   module _ (along : Bool) (gives passes : ℕ → ℕ) (test through : ℕ → Bool) (given : (u : ℕ) → gives u ≡ cond (test u) (2 ^ version file a u) 0) where
     pub versions-exact : ((u : ℕ) → passes u ≡ cond (through u) everyVersion 0) → (Test : ℕ → Type 0) → ((u : ℕ) → T (test u) ↔ Test u) → (v k : ℕ)
-        → T (has (getD (sets file along gives passes) v 0) k) ↔ Finds (edgeBytes file) along through (λ u. Test u × (version file a u ≡ k)) v
+        → T (has (getD (solvedSets file along gives passes) v 0) k) ↔ Finds (Leads (edgeBytes file) along through) (λ u. Test u × (version file a u ≡ k)) v
     versions-exact passed Test tests v k =
         solved (edgeBytes file) along gives passes (vertices file) (proper .ends) through _ k
         (λ u. rw (given u) (member-cond (test u) _ k (tests u) (member-single (version file a u) k)))
-        (λ w m u. rw (passed u) (all-if k (subst (λ (j : ℕ). j < width) (m .1) (version-fits file a proper w)) (through u))) v
+        (λ w m u. rw (passed u) (has-full-if width k (subst (λ (j : ℕ). j < width) (m .1) (version-fits file a proper w)) (through u))) v
 
-    pub versions-fit : (v : ℕ) → getD (sets file along gives passes) v 0 < 2 ^ width
+    pub versions-fit : (v : ℕ) → getD (solvedSets file along gives passes) v 0 < 2 ^ width
     versions-fit = solution-fits (edgeBytes file) along (table gives (vertices file)) (table passes (vertices file)) width (vertices file)
         (table-all (λ m. m < 2 ^ width) gives (vertices file) (pow-pos width) (λ u. rw (given u) (single-fits (test u) u)))
