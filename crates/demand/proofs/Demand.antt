@@ -35,7 +35,7 @@ use Rattle.demand.proofs.Along.{Follows, left-copies, run-fits, first-r
 use Rattle.demand.proofs.Invariant.{Sound}
 use Rattle.path.proofs.Paths.{Walk, walk}
 use Rattle.demand.proofs.Planned.{computedPlan, sound}
-use Rattle.words.specs.Tables.{table}
+use Rattle.words.specs.Tables.{table, rows}
 use Rattle.words.proofs.Tables.{rows-same}
 
 -- ---- the version of the last label before a vertex
@@ -97,7 +97,7 @@ module _ {file path : List ℕ} (walk : Walk file path) (a : ℕ) where
 
     -- the last label's version is held
     last-held : (i : ℕ) → lastVersion (isLabel file a) (version file a) (table (vertexAt path) (suc i)) ≡ some (machineAfter file path a (suc i) .held)
-    unfolding machineAfter version
+    unfolding machineAfter version rows
     last-held zero = rw entered
     last-held (suc i) =
         let v = vertexAt path (suc i) in

@@ -2,14 +2,14 @@
 -- Assumes nothing.
 use mathlib.Core.Path.{_≡_, sym, ap, ap₂, subst, _∙_}
 use mathlib.Core.Bool.{Bool, cond}
-use mathlib.Core.List.{List}
+use mathlib.Core.List.{List, [], _∷_}
 use Prim.Native.Nat.{ℕ, _+_, _*_, _/_, _%_, _≤_, _<_}
 use native.Mathlib.Decide.{ℕ-discrete}
 use native.Mathlib.Omega.{arith}
 use borrow.Author.Tests.{lt-ltb, ltb-true}
 use lib.Dec.{ltb}
 use lib.ListN.{length, getD, drop}
-use Rattle.flow.specs.Solver.{solution}
+use Rattle.flow.specs.Solver.{column, solution}
 use Rattle.routine.specs.Layout.{arrays, vertices, edgesAt}
 use Rattle.routine.specs.Reader.{WellFormed}
 use Rattle.routine.specs.declared.action.Action.the-variants.{Nothing}
@@ -18,7 +18,7 @@ use Rattle.words.specs.Tables.{table, withRow}
 use Rattle.words.proofs.Tests.{at-cond}
 use Rattle.words.proofs.Written.{partFrom, part-is}
 use Rattle.words.proofs.Rows.{row-length, row-other, row-at}
-use Rattle.words.proofs.Tables.{table-length, table-at, table-ext}
+use Rattle.words.proofs.Tables.{table-length, table-at, rows-same}
 use Rattle.labels.specs.Events.{edgeBytes, solvedSets, event, version, versionOf}
 use Rattle.labels.specs.Routines.{ReadAs}
 use Rattle.labels.proofs.Rules.Events.{version-fits}
@@ -88,8 +88,12 @@ module _ {file : List ℕ} (well : WellFormed file) where
         ∙ ap (λ (t : List ℕ). getD t v 0)
         (h .solved a (in-eight in-a)
         ∙ ap₂ (λ (x y : List ℕ). solution (edgeBytes file) along x y (vertices file))
-        (table-ext (vertices file) (λ u in-u. g .cells a u in-a in-u)) (table-ext (vertices file) (λ u in-u. p .cells a u in-a in-u)));
+        (same in-a g) (same in-a p));
   }
+    where
+      -- a column of cells is the table of its array
+      same : {f : ℕ → ℕ → ℕ} {s : List ℕ} {a : ℕ} → a < arrays file → Cells file f s → column s (vertices file) a ≡ table (f a) (vertices file)
+      same h c = rows-same _ _ (vertices file) (λ u in-u. ap (λ (x : ℕ). x ∷ []) (c .cells _ u h in-u))
 
 -- ---- by the header
 

@@ -111,7 +111,7 @@ module _ (file : List ℕ) where
   -- where the entry of vertex v stands
   pub entry-at : (v : ℕ) → 4 * v ≡ length (rows (contentsEntry file) v)
   unfolding contentsEntry
-  entry-at v = omega (arith, rows-length (contentsEntry file) 4 (λ v. refl) v)
+  entry-at v = sym (rows-length (contentsEntry file) 4 (λ v. refl) v)
 
   entry-length : (v a : ℕ) → length (labelEntry file v a) ≡ 8 * cond (isLabel file a v) 1 0
   unfolding labelEntry labelBytes

@@ -4,7 +4,6 @@ use mathlib.Core.Path.{_≡_, refl, sym, ap, _∙_}
 use mathlib.Core.Bool.{cond}
 use mathlib.Core.List.{List, [], _∷_, _++_, append-assoc}
 use Prim.Native.Nat.{ℕ, zero, suc, _*_}
-use native.Mathlib.Omega.{arith}
 use lib.ListN.{length}
 use Rattle.report.specs.Bytes.{entryBytes, recordBytes, recordsBytes}
 use Rattle.report.specs.Records.{recordsAt, byStep}
@@ -18,7 +17,7 @@ use Rattle.words.proofs.Tables.{rows-length, rows-same}
 
 -- six bytes an array
 pub entries-length : (state : ℕ → State) (m : ℕ) → length (rows (λ a. entryBytes (state a)) m) ≡ 6 * m
-entries-length state m = omega (arith, rows-length (λ a. entryBytes (state a)) 6 (λ a. refl) m)
+entries-length state m = rows-length (λ a. entryBytes (state a)) 6 (λ a. refl) m
 
 -- ---- records
 

@@ -1,15 +1,14 @@
 -- Laws of the loops that fill a table from the front.
 -- Assumes nothing.
 use mathlib.Core.Path.{_≡_, refl, sym, ap, _∙_}
-use mathlib.Core.List.{List, _++_, append-nil}
+use mathlib.Core.List.{List, [], _∷_, _++_, append-nil}
 use Prim.Native.Nat.{ℕ, _+_, _≤_, _<_}
 use native.Mathlib.Nat.{le-antisymm}
-use native.Mathlib.Numerals.{add-one}
 use native.Mathlib.Omega.{arith}
 use lib.ListN.{length, getD, set, length-set, drop-of-length-le}
 use lib.Seq.{getD-at, drop-cons}
-use Rattle.words.specs.Tables.{table, wrote}
-use Rattle.words.proofs.Tables.{table-length}
+use Rattle.words.specs.Tables.{table, rows, wrote}
+use Rattle.words.proofs.Tables.{table-length, rows-more}
 use Rattle.words.proofs.Written.{write-one}
 
 -- ---- the first i entries filled, the rest as it was
@@ -18,7 +17,7 @@ abbrev pub filled : (ℕ → ℕ) → List ℕ → ℕ → List ℕ
 filled f old i = wrote old (table f i)
 
 filled-more : (f : ℕ → ℕ) (old : List ℕ) (i : ℕ) → i < length old → set (filled f old i) i (f i) ≡ filled f old (i + 1)
-filled-more f old i h = write-one old (table f i) (f i) i (sym (table-length f i)) h ∙ ap (filled f old) (sym (add-one i))
+filled-more f old i h = write-one old (table f i) (f i) i (sym (table-length f i)) h ∙ ap (wrote old) (rows-more (λ j. f j ∷ []) i)
 
 filled-all : (f : ℕ → ℕ) (old : List ℕ) (n : ℕ) → length old ≡ n → filled f old n ≡ table f n
 filled-all f old n h =
@@ -33,6 +32,7 @@ pub record Filling (f : ℕ → ℕ) (n : ℕ) (old new : List ℕ) (v : ℕ) : 
   pub is : new ≡ filled f old v
 
 pub fill-begin : (f : ℕ → ℕ) {n : ℕ} {old : List ℕ} → length old ≡ n → Filling f n old old 0
+unfolding rows
 fill-begin f {n} {old} e = record { within = omega arith; whole = e; sized = e; is = refl }
 
 module _ {f : ℕ → ℕ} {n : ℕ} {old new : List ℕ} {v : ℕ} (t : Filling f n old new v) where

@@ -3,33 +3,12 @@
 use mathlib.Core.Path.{_≡_, refl, sym, ap, ap₂, _∙_}
 use mathlib.Core.List.{List, [], _∷_, _++_}
 use Prim.Native.Nat.{ℕ, zero, suc, _+_, _*_, _≤_, _<_, zero-le}
-use native.Mathlib.Nat.{zero-mul}
 use native.Mathlib.Numerals.{add-one}
 use native.Mathlib.Omega.{arith}
 use borrow.Author.Count.{below-more}
 use lib.ListN.{length, getD, set, replicate, length-append, List·getD-append}
 use lib.Seq.{getD-at, getD-set-same, getD-set-other}
 use Rattle.words.specs.Tables.{table, rows}
-
--- ---- tables of numbers
-
-pub table-length : (f : ℕ → ℕ) (n : ℕ) → length (table f n) ≡ n
-table-length f zero = refl
-table-length f (suc n) =
-    length-append (table f n) (f n ∷ []) ∙ (let e : length (table f n) + 1 ≡ suc n = omega (arith, table-length f n) in e)
-
-pub table-at : (f : ℕ → ℕ) (n v : ℕ) → v < n → getD (table f n) v 0 ≡ f v
-table-at f zero v h = absurd (omega arith)
-table-at f (suc n) v h =
-    below-more (λ u. getD (table f (suc n)) u 0 ≡ f u) n
-    (λ u l. List·getD-append (table f n) (f n ∷ []) 0 u (omega (arith, table-length f n)) ∙ table-at f n u l)
-    (getD-at (table f n) (f n) [] 0 n (table-length f n))
-    v (omega arith)
-
--- tables of equal entries are equal
-pub table-ext : {f g : ℕ → ℕ} (n : ℕ) → ((v : ℕ) → v < n → f v ≡ g v) → table f n ≡ table g n
-table-ext zero h = refl
-table-ext (suc n) h = ap₂ (λ (l : List ℕ) (x : ℕ). l ++ (x ∷ [])) (table-ext n (λ v l. h v (omega arith))) (h n (omega arith))
 
 -- ---- stores
 
@@ -81,10 +60,22 @@ unfolding rows
 rows-most row w each zero = zero-le
 rows-most row w each (suc n) = omega (arith, length-append (rows row n) (row n), each n, rows-most row w each n)
 
--- ---- rows of one width
+-- rows of one width
+pub rows-length : (row : ℕ → List ℕ) (w : ℕ) → ((i : ℕ) → length (row i) ≡ w) → (n : ℕ) → length (rows row n) ≡ w * n
+unfolding rows
+rows-length row w wide zero = omega arith
+rows-length row w wide (suc n) = omega (arith, length-append (rows row n) (row n), wide n, rows-length row w wide n)
 
-module _ (row : ℕ → List ℕ) (w : ℕ) (wide : (a : ℕ) → length (row a) ≡ w) where
-  pub rows-length : (n : ℕ) → length (rows row n) ≡ n * w
-  unfolding rows
-  rows-length zero = sym (zero-mul w)
-  rows-length (suc n) = length-append (rows row n) (row n) ∙ (let e : length (rows row n) + length (row n) ≡ suc n * w = omega (arith, rows-length n, wide n) in e)
+-- ---- tables of numbers: rows of one
+
+pub table-length : (f : ℕ → ℕ) (n : ℕ) → length (table f n) ≡ n
+table-length f n = omega (arith, rows-length (λ i. f i ∷ []) 1 (λ i. refl) n)
+
+pub table-at : (f : ℕ → ℕ) (n v : ℕ) → v < n → getD (table f n) v 0 ≡ f v
+unfolding rows
+table-at f zero v h = absurd (omega arith)
+table-at f (suc n) v h =
+    below-more (λ u. getD (table f (suc n)) u 0 ≡ f u) n
+    (λ u l. List·getD-append (table f n) (f n ∷ []) 0 u (omega (arith, table-length f n)) ∙ table-at f n u l)
+    (getD-at (table f n) (f n) [] 0 n (table-length f n))
+    v (omega arith)

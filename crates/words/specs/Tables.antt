@@ -4,15 +4,14 @@ use mathlib.Core.List.{List, [], _∷_, _++_}
 use Prim.Native.Nat.{ℕ, zero, suc, _+_, _*_}
 use lib.ListN.{length, set, drop}
 
--- a table of n numbers
-abbrev pub table : (ℕ → ℕ) → ℕ → List ℕ
-table f zero = []
-table f (suc n) = table f n ++ (f n ∷ [])
-
 -- n lists, one after the other
 unfoldable pub rows : {A : Type 0} → (ℕ → List A) → ℕ → List A
 rows row zero = []
 rows row (suc n) = rows row n ++ row n
+
+-- a table of n numbers: rows of one
+abbrev pub table : (ℕ → ℕ) → ℕ → List ℕ
+table f n = rows (λ i. f i ∷ []) n
 
 -- a table of eight columns, the entry of row v and column a at 8 v + a: row v with its first m entries replaced
 unfoldable pub withRow : List ℕ → ℕ → (ℕ → ℕ) → ℕ → List ℕ
