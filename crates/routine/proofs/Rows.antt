@@ -1,7 +1,7 @@
 -- Check 15 of a byte is one test: the earlier actions of its row count only by whether one is a reference, and whether one is a remapping.
 -- Assumes nothing.
-use mathlib.Core.Path.{_≡_, refl, ap, ap₂, _∙_}
-use mathlib.Core.Bool.{Bool, true, false, not, _&&_, _||_, cond, and-true, and-false, and-comm, or-false}
+use mathlib.Core.Path.{_≡_, refl, sym, ap, ap₂, _∙_}
+use mathlib.Core.Bool.{Bool, true, false, not, _||_, cond, and-false, and-comm, or-false}
 use mathlib.Core.List.{List}
 use Prim.Native.Nat.{ℕ, zero, suc}
 use native.Mathlib.Nat.{zero-add}
@@ -10,11 +10,11 @@ use Rattle.words.specs.Sums.{anyBelow}
 use Rattle.routine.specs.declared.action.Action.{Action}
 use Rattle.routine.specs.declared.action.Action.the-variants.{Nothing, Reference, Remap, Unknown}
 use Rattle.refusal.specs.declared.Refusal.the-variants.{WrongActionByte}
-use Rattle.routine.specs.Actions.{action, actionByte, isReference, isRemap, isEntryOrExit, mixes, wrong, mixedCheck, actionCheck}
+use Rattle.routine.specs.Actions.{action, actionByte, isReference, isRemap, isEntryOrExit, isMixed, wrong, mixedCheck, actionCheck}
 use Rattle.routine.specs.Arrays.{arrayOf}
 use Rattle.refusal.specs.Checks.{_andThen_, firstFailed}
 use Rattle.routine.specs.Layout.{actionAt}
-use Rattle.routine.specs.Rows.{isNothing, isMixed, isWrong}
+use Rattle.routine.specs.Rows.{isNothing, isWrong}
 use Rattle.refusal.proofs.Checks.{holds-or, first-last}
 
 -- one of the first n actions of vertex v passes the test
@@ -24,44 +24,37 @@ among test file v n = anyBelow (λ a. test (action file v a)) n
 -- ---- only the byte 0 is nothing
 
 -- neither branch is
-neither : (t : Bool) (x y : Action) → isNothing x ≡ false → isNothing y ≡ false → isNothing (cond t x y) ≡ false
-neither true x y e f = e
-neither false x y e f = f
+neither-branch : (t : Bool) (x y : Action) → isNothing x ≡ false → isNothing y ≡ false → isNothing (cond t x y) ≡ false
+neither-branch true x y e f = e
+neither-branch false x y e f = f
 
 -- the first branch only is
-only : (t : Bool) (x : Action) → isNothing x ≡ false → isNothing (cond t Nothing x) ≡ t
-only true x e = refl
-only false x e = e
+first-branch : (t : Bool) (x : Action) → isNothing x ≡ false → isNothing (cond t Nothing x) ≡ t
+first-branch true x e = refl
+first-branch false x e = e
 
 nothing-zero : (file : List ℕ) (v a : ℕ) → isNothing (action file v a) ≡ eqb (actionByte file v a) 0
 unfolding action
-nothing-zero file v a = search (only, neither) depth 8
+nothing-zero file v a = search (first-branch, neither-branch) depth 8
 
 -- ---- mixed with one of the earlier ones
 
--- of no sort: mixed with nothing
-neither-sort : (b c : Bool) → (b && false || c && false) ≡ false
-neither-sort b c = simp (and-false, or-false)
-
--- a reference is mixed with earlier remappings, a remapping with earlier references
-after-remaps : (a b c : Bool) → (a || false || (b && false || c && true)) ≡ (a || c || false)
-after-remaps a b c = simp (and-true, and-false, or-false)
-
-after-references : (a b c : Bool) → (a || (b && true || c && false)) ≡ (a || b)
-after-references a b c = simp (and-true, and-false, or-false)
+-- beside nothing
+mixed-none : (x : Action) → isMixed x false false ≡ false
+mixed-none x = simp (and-false, or-false)
 
 -- one more earlier action
 mixed-more : (x y : Action) (references remaps : Bool) →
-    (isMixed x references remaps || mixes y x) ≡ isMixed x (references || isReference y) (remaps || isRemap y)
-mixed-more Nothing y references remaps = neither-sort (isReference y) (isRemap y)
-mixed-more (Reference r) y references remaps = after-remaps remaps (isReference y) (isRemap y)
-mixed-more (Remap k) y references remaps = after-references references (isReference y) (isRemap y)
-mixed-more Unknown y references remaps = neither-sort (isReference y) (isRemap y)
+    (isMixed x references remaps || isMixed x (isReference y) (isRemap y)) ≡ isMixed x (references || isReference y) (remaps || isRemap y)
+mixed-more Nothing y references remaps = refl
+mixed-more (Reference r) y references remaps = ap₂ _||_ (or-false remaps) (or-false (isRemap y)) ∙ sym (or-false (remaps || isRemap y))
+mixed-more (Remap k) y references remaps = refl
+mixed-more Unknown y references remaps = refl
 
 module _ (file : List ℕ) (v a : ℕ) where
   mixed-among : (n : ℕ) → firstFailed (mixedCheck file v a) 0 n ≡ wrong file v a (isMixed (action file v a) (among isReference file v n) (among isRemap file v n))
   unfolding firstFailed mixedCheck anyBelow
-  mixed-among zero = rw (neither-sort (isReference (action file v a)) (isRemap (action file v a)))
+  mixed-among zero = rw (mixed-none (action file v a))
   mixed-among (suc n) =
       let x = action file v a in
       let y = action file v n in
@@ -69,7 +62,7 @@ module _ (file : List ℕ) (v a : ℕ) where
       let remaps = among isRemap file v n in
       first-last (mixedCheck file v a) 0 n
       ∙ ap₂ _andThen_ (mixed-among n) (ap (mixedCheck file v a) (zero-add n))
-      ∙ holds-or (isMixed x references remaps) (mixes y x) (WrongActionByte (actionAt file v a))
+      ∙ holds-or (isMixed x references remaps) (isMixed x (isReference y) (isRemap y)) (WrongActionByte (actionAt file v a))
       ∙ ap (wrong file v a) (mixed-more x y references remaps)
 
   -- four faults, one refusal

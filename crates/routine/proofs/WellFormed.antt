@@ -14,7 +14,7 @@ use Rattle.routine.specs.declared.action.Action.the-variants.{Nothing, R
 use Rattle.routine.specs.declared.array.ArrayRecord.{ArrayRecord}
 use Rattle.routine.specs.declared.edge.Edge.{Edge}
 use Rattle.refusal.specs.declared.Verdict.the-variants.{Passed}
-use Rattle.routine.specs.Actions.{actionOf, action, actionByte, isKnown, remapsBelow, isEntryOrExit, mixes, mixedCheck, actionCheck}
+use Rattle.routine.specs.Actions.{actionOf, action, actionByte, isKnown, remapsBelow, isReference, isRemap, isEntryOrExit, isMixed, mixedCheck, actionCheck}
 use Rattle.routine.specs.Arrays.{arrayOf, arrayCheck}
 use Rattle.routine.specs.Edges.{edgeOf, before, rises, edgeCheck}
 use Rattle.routine.specs.Layout.{arrays, vertices, edges}
@@ -36,11 +36,11 @@ pub record Within (e : Edge) (n : ℕ) : Type 0 where
 
 -- ---- an action byte that passed
 
-record Sound (file : List ℕ) (v a : ℕ) : Type 0 where
+record PassedAction (file : List ℕ) (v a : ℕ) : Type 0 where
   known : isKnown (action file v a) ≡ true
   below : remapsBelow (action file v a) (arrayOf file a .versions) ≡ true
   zero-there : isEntryOrExit file v ≡ true → action file v a ≡ Nothing
-  alike : (b : ℕ) → b < a → mixes (action file v b) (action file v a) ≡ false
+  alike : (b : ℕ) → b < a → isMixed (action file v a) (isReference (action file v b)) (isRemap (action file v b)) ≡ false
 
 -- not both in the row of the entry or the exit and other than zero
 placed : (row zero : Bool) → not (row && not zero) ≡ true → row ≡ true → zero ≡ true
@@ -50,13 +50,13 @@ zero-nothing : (file : List ℕ) (v a : ℕ) → actionByte file v a ≡ 0 → a
 unfolding action
 zero-nothing file v a e = ap actionOf e
 
-unmixed : (file : List ℕ) (v a b : ℕ) → mixedCheck file v a b ≡ Passed → mixes (action file v b) (action file v a) ≡ false
+unmixed : (file : List ℕ) (v a b : ℕ) → mixedCheck file v a b ≡ Passed → isMixed (action file v a) (isReference (action file v b)) (isRemap (action file v b)) ≡ false
 unfolding mixedCheck
 unmixed file v a b e = search parts
 
-sound : (file : List ℕ) (v a : ℕ) → actionCheck file v a ≡ Passed → Sound file v a
+passed-action : (file : List ℕ) (v a : ℕ) → actionCheck file v a ≡ Passed → PassedAction file v a
 unfolding actionCheck
-sound file v a e =
+passed-action file v a e =
     record {
       known = search parts;
       below = search parts;
@@ -74,22 +74,22 @@ module _ {file : List ℕ} (w : WellFormed file) where
       search parts
 
   module _ {v a : ℕ} (in-v : v < vertices file) (in-a : a < arrays file) where
-    sound-here : Sound file v a
-    sound-here = sound file v a (w .actions-pass v a in-v in-a)
+    passed-here : PassedAction file v a
+    passed-here = passed-action file v a (w .actions-pass v a in-v in-a)
 
     pub action-known : action file v a ≡ Unknown → ⊥
-    action-known e = false≢true (rw e at (sound-here .known))
+    action-known e = false≢true (rw e at (passed-here .known))
 
     pub remap-below : {k : ℕ} → action file v a ≡ Remap k → k < arrayOf file a .versions
-    remap-below {k} e = ltb-true k (arrayOf file a .versions) (rw e at (sound-here .below))
+    remap-below {k} e = ltb-true k (arrayOf file a .versions) (rw e at (passed-here .below))
 
   pub entry-nothing : {a : ℕ} → a < arrays file → action file 0 a ≡ Nothing
-  entry-nothing in-a = sound-here {v = 0} (omega (arith, w .laid .limits)) in-a .zero-there refl
+  entry-nothing in-a = passed-here {v = 0} (omega (arith, w .laid .limits)) in-a .zero-there refl
 
   pub exit-nothing : {a : ℕ} → a < arrays file → action file (vertices file - 1) a ≡ Nothing
   exit-nothing in-a =
       let last = vertices file - 1 in
-      sound-here {v = last} (omega (arith, w .laid .limits)) in-a .zero-there (rw (eq-eqb last last refl, or-true))
+      passed-here {v = last} (omega (arith, w .laid .limits)) in-a .zero-there (rw (eq-eqb last last refl, or-true))
 
   -- a vertex has references or remappings, never both
   pub never-both : {v a b : ℕ} {r : Access} {k : ℕ} → v < vertices file → a < arrays file → b < arrays file →
@@ -98,9 +98,9 @@ module _ {file : List ℕ} (w : WellFormed file) where
       ⊎-elim
       (λ (none : b - a ≡ 0). ⊎-elim
       (λ (same : b ≡ a). let z : _≡_ {A = ℕ} 0 1 = cc in omega arith)
-      (λ less. true≢false (rw (remap, reference) at (sound-here in-v in-a .alike b less)))
+      (λ less. true≢false (rw (reference, remap) at (passed-here in-v in-a .alike b less)))
       (eq-or-lt-of-le {n = b} {m = a} (omega arith)))
-      (λ (some : 0 < b - a). true≢false (rw (reference, remap) at (sound-here in-v in-b .alike a (omega arith))))
+      (λ (some : 0 < b - a). true≢false (rw (remap, reference) at (passed-here in-v in-b .alike a (omega arith))))
       (eq-zero-or-pos (b - a))
 
   pub edge-limits : {i : ℕ} → i < edges file → Within (edgeOf file i) (vertices file)

@@ -66,9 +66,9 @@ remapsBelow Unknown n = true
 abbrev pub isEntryOrExit : List ℕ → ℕ → Bool
 isEntryOrExit file v = eqb v entry || eqb v (exit file)
 
--- a vertex has references or remappings, never both
-abbrev pub mixes : Action → Action → Bool
-mixes x y = isReference x && isRemap y || isRemap x && isReference y
+-- a vertex has references or remappings, never both: a reference beside remappings, or a remapping beside references
+abbrev pub isMixed : Action → Bool → Bool → Bool
+isMixed x references remaps = isReference x && remaps || isRemap x && references
 
 -- refused at its byte
 abbrev pub wrong : List ℕ → ℕ → ℕ → Bool → Verdict
@@ -77,7 +77,8 @@ wrong file v a bad = holds (not bad) (WrongActionByte (actionAt file v a))
 -- mixed with an earlier action of its row
 unfoldable pub mixedCheck : List ℕ → ℕ → ℕ → ℕ → Verdict
 unfolding action
-mixedCheck file v a earlier = wrong file v a (mixes (action file v earlier) (action file v a))
+mixedCheck file v a earlier =
+    wrong file v a (isMixed (action file v a) (isReference (action file v earlier)) (isRemap (action file v earlier)))
 
 -- action unknown, version too large, row of entry or exit not zero, or references and remappings in one row
 unfoldable pub actionCheck : List ℕ → ℕ → ℕ → Verdict

@@ -4,7 +4,7 @@ use mathlib.Core.Bool.{Bool, true, false, not, _&&_, _||_}
 use Prim.Native.Nat.{ℕ}
 use Rattle.routine.specs.declared.action.Action.{Action}
 use Rattle.routine.specs.declared.action.Action.the-variants.{Nothing, Reference, Remap, Unknown}
-use Rattle.routine.specs.Actions.{isKnown, isReference, isRemap, remapsBelow}
+use Rattle.routine.specs.Actions.{isKnown, remapsBelow, isMixed}
 
 -- byte 00
 abbrev pub isNothing : Action → Bool
@@ -13,11 +13,7 @@ isNothing (Reference r) = false
 isNothing (Remap k) = false
 isNothing Unknown = false
 
--- a reference where a remapping stands earlier in the row, or a remapping where a reference does
-abbrev pub isMixed : Action → Bool → Bool → Bool
-isMixed x references remaps = isReference x && remaps || isRemap x && references
-
--- unknown, version too large, not 00 in the row of entry or exit, or mixed
+-- unknown, version too large, not 00 in the row of entry or exit, or mixed with what stands earlier in the row
 abbrev pub isWrong : Action → ℕ → Bool → Bool → Bool → Bool
 isWrong x versions terminal references remaps =
     not (isKnown x)
