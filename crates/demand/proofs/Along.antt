@@ -33,10 +33,10 @@ use Rattle.state.specs.Vertex.{labelled, visited}
 use Rattle.state.proofs.Fits.{started-fits, step-fits}
 use Rattle.state.proofs.States.{below-current}
 use Rattle.demand.proofs.Labels.{Ready, Labelled, labelled-does}
-use Rattle.demand.proofs.Invariant.{Plan, Sound, AfterVertex, Before, label-holds, ready, used, below, visit, alike}
+use Rattle.demand.proofs.Invariant.{ArrayPlan, Sound, AfterVertex, Before, label-holds, ready, used, below, visit, alike}
 
 -- a path of n vertices, and run and machine along it
-pub record Follows (p : Plan) (at : ℕ → ℕ) (n : ℕ) (run : ℕ → State) (machine : ℕ → Machine) : Type 0 where
+pub record Follows (p : ArrayPlan) (at : ℕ → ℕ) (n : ℕ) (run : ℕ → State) (machine : ℕ → Machine) : Type 0 where
   pub short : n ≤ 4096
   pub begins : at 0 ≡ 0
   pub joined : (i : ℕ) → suc i < n → Edge (p .edges) (at i) (at (suc i))
@@ -80,16 +80,16 @@ labelled-home {t} {s} below e g =
     let h = below-current s (omega arith) in
     (c, g .agree (ap isD e) t (subst (λ (k : ℕ). has (s .live) k ≡ true) c (g .sits .lives h)))
 
-module _ {p : Plan} (sound : Sound p) {at : ℕ → ℕ} {n : ℕ} {run : ℕ → State} {machine : ℕ → Machine} (f : Follows p at n run machine) where
+module _ {p : ArrayPlan} (sound : Sound p) {at : ℕ → ℕ} {n : ℕ} {run : ℕ → State} {machine : ℕ → Machine} (f : Follows p at n run machine) where
   initial-below : p .array .initial < 16
   initial-below = sound .below (sound .entry-remaps)
 
   -- the state's fields fit their types
-  pub run-fits : (i : ℕ) → i ≤ n → Fits (run i) i
-  run-fits zero h = rw (f .run-start) (started-fits (p .array) initial-below)
-  run-fits (suc i) h =
+  pub fits-at : (i : ℕ) → i ≤ n → Fits (run i) i
+  fits-at zero h = rw (f .run-start) (started-fits (p .array) initial-below)
+  fits-at (suc i) h =
       rw (f .run-step i)
-      (step-fits (p .array) (p .letter (at i)) (p .keep (at i)) (omega (arith, f .short)) (run-fits i (omega arith))
+      (step-fits (p .array) (p .letter (at i)) (p .keep (at i)) (omega (arith, f .short)) (fits-at i (omega arith))
       (eqb (at i) (p .exit)) (p .event (at i)) (λ k. sound .below))
 
   pub first-remaps : p .event (at 0) ≡ Remap (p .array .initial)
@@ -115,7 +115,7 @@ module _ {p : Plan} (sound : Sound p) {at : ℕ → ℕ} {n : ℕ} {run : ℕ �
 
   before : (i : ℕ) → suc i < n → After i → Before p (at (suc i)) (run (suc i)) (machine (suc i))
   before i h y =
-      record { label = y .0; from = at i; holds = rw (stays i h) (y .1); edge = f .joined i h; sixteen = run-fits (suc i) (omega arith) .stamps .sixteen }
+      record { label = y .0; from = at i; holds = rw (stays i h) (y .1); edge = f .joined i h; sixteen = fits-at (suc i) (omega arith) .stamps .sixteen }
 
   along : (i : ℕ) → i < n → After i
   unfolding labelled referenced

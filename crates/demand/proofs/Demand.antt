@@ -31,10 +31,10 @@ use Rattle.state.specs.Moves.{moves, copiesStamp}
 use Rattle.state.specs.References.{referenced}
 use Rattle.state.specs.Vertex.{labelled, visited}
 use Rattle.demand.specs.Run.{stateAfter, runRecords, copiedBy, copiedAt, stampsCopied}
-use Rattle.demand.proofs.Along.{Follows, left-copies, run-fits, first-remaps, used-at, below-at, alike-at, few-at, home-at}
+use Rattle.demand.proofs.Along.{Follows, left-copies, fits-at, first-remaps, used-at, below-at, alike-at, few-at, home-at}
 use Rattle.demand.proofs.Invariant.{Sound}
 use Rattle.path.proofs.Paths.{Walk, walk}
-use Rattle.demand.proofs.Planned.{computedPlan, sound}
+use Rattle.demand.proofs.Sound.{computedPlan, sound}
 use Rattle.words.specs.Tables.{table, rows}
 use Rattle.words.proofs.Tables.{rows-same}
 
@@ -142,7 +142,7 @@ module _ (file path : List ℕ) (w : WellFormed file) (accepted : pathCheck file
 
   -- every state on the way fits its types
   pub state-fits : (a n : ℕ) → a < arrays file → n ≤ steps path → Fits (stateAfter file path a n) n
-  state-fits a n l = run-fits (plans a l) (follows walks a) n
+  state-fits a n l = fits-at (plans a l) (follows walks a) n
 
   -- and at a reference a version is current
   pub reference-below :

@@ -10,10 +10,10 @@ use native.Mathlib.Omega.{arith}
 use lib.Dec.{T}
 use lib.ListN.{length, getD, set}
 use lib.Seq.{getD-set-same, set-getD}
-use Rattle.flow.specs.Paths.{Edge, Path, last}
+use Rattle.flow.specs.Paths.{Edge, last}
 use Rattle.flow.proofs.Paths.{extend}
 use Rattle.labels.specs.Events.{isDefine, isWrite, needsValue}
-use Rattle.labels.specs.Uses.{isN}
+use Rattle.labels.specs.Uses.{Segment, UndefinedSegment, isN}
 use Rattle.labels.specs.declared.Use.{Use}
 use Rattle.labels.specs.declared.Use.the-variants.{N, D, R, W}
 use Rattle.routine.specs.Actions.{isReference, isRemap}
@@ -34,7 +34,7 @@ use Rattle.state.proofs.States.{below-current}
 use Rattle.demand.proofs.Labels.{Cheap, Ready, labelled-does}
 
 -- one array: the routine's edges, what each vertex does with the array, the letter and kept set of each label, the array's record, the exit
-pub record Plan : Type 0 where
+pub record ArrayPlan : Type 0 where
   pub edges : List ℕ
   pub event : ℕ → Action
   pub letter : ℕ → Use
@@ -42,19 +42,12 @@ pub record Plan : Type 0 where
   pub array : ArrayRecord
   pub exit : ℕ
 
--- a segment, and one on which no define was met before its end
-abbrev pub PlanSegment : Plan → ℕ → ℕ → Type 0
-PlanSegment p v w = Path (p .edges) (λ u. not (isRemap (p .event u))) v w
-
-abbrev pub PlanUndefined : Plan → ℕ → ℕ → Type 0
-PlanUndefined p v w = Path (p .edges) (λ u. not (isRemap (p .event u)) && not (isDefine (p .event u))) v w
-
 -- what the theorem needs of a plan
-pub record Sound (p : Plan) : Type 0 where
+pub record Sound (p : ArrayPlan) : Type 0 where
   -- what N, D and R rule out
-  pub unused : {v w k : ℕ} → p .event v ≡ Remap k → p .letter v ≡ N → PlanSegment p v w → T (isReference (p .event w)) → ⊥
-  pub defined : {v w k : ℕ} → p .event v ≡ Remap k → p .letter v ≡ D → PlanUndefined p v w → T (needsValue (p .event w)) → ⊥
-  pub only-read : {v w k : ℕ} → p .event v ≡ Remap k → p .letter v ≡ R → PlanSegment p v w → T (isWrite (p .event w)) → ⊥
+  pub unused : {v w k : ℕ} → p .event v ≡ Remap k → p .letter v ≡ N → Segment (p .edges) (p .event) v w → T (isReference (p .event w)) → ⊥
+  pub defined : {v w k : ℕ} → p .event v ≡ Remap k → p .letter v ≡ D → UndefinedSegment (p .edges) (p .event) v w → T (needsValue (p .event w)) → ⊥
+  pub only-read : {v w k : ℕ} → p .event v ≡ Remap k → p .letter v ≡ R → Segment (p .edges) (p .event) v w → T (isWrite (p .event w)) → ⊥
   -- the kept set of a D or W label is its own version alone
   pub alone :
       {v k : ℕ} → p .event v ≡ Remap k → isN (p .letter v) ≡ false → (p .letter v ≡ R → ⊥)
@@ -68,15 +61,15 @@ pub record Sound (p : Plan) : Type 0 where
   pub exit-ends : {w : ℕ} → Edge (p .edges) (p .exit) w → ⊥
 
 -- the last label is D, and no define was met since
-pub record Awaits (p : Plan) (label v : ℕ) : Type 0 where
+pub record Awaits (p : ArrayPlan) (label v : ℕ) : Type 0 where
   pub is-D : p .letter label ≡ D
-  pub onward : (w : ℕ) → Edge (p .edges) v w → PlanUndefined p label w
+  pub onward : (w : ℕ) → Edge (p .edges) v w → UndefinedSegment (p .edges) (p .event) label w
 
 -- the invariant: after vertex v, `label` being the last label on the path
-pub record AfterVertex (p : Plan) (label v : ℕ) (s : State) (m : Machine) : Type 0 where
+pub record AfterVertex (p : ArrayPlan) (label v : ℕ) (s : State) (m : Machine) : Type 0 where
   pub held : p .event label ≡ Remap (m .held)
   -- whichever edge is taken next, the way from the label is a segment
-  pub onward : (w : ℕ) → Edge (p .edges) v w → PlanSegment p label w
+  pub onward : (w : ℕ) → Edge (p .edges) v w → Segment (p .edges) (p .event) label w
   -- a kept label's version is current
   pub kept : isN (p .letter label) ≡ false → s .current ≡ m .held
   -- every live version has the machine's stamp, or a define must come first
@@ -88,7 +81,7 @@ pub record AfterVertex (p : Plan) (label v : ℕ) (s : State) (m : Machine) : Ty
   pub cheap : Cheap s m
 
 -- on the way to vertex w
-pub record Before (p : Plan) (w : ℕ) (s : State) (m : Machine) : Type 0 where
+pub record Before (p : ArrayPlan) (w : ℕ) (s : State) (m : Machine) : Type 0 where
   pub label : ℕ
   pub from : ℕ
   pub holds : AfterVertex p label from s m
@@ -109,7 +102,7 @@ not-N D h = refl
 not-N R h = refl
 not-N W h = refl
 
-module _ {p : Plan} (sound : Sound p) where
+module _ {p : ArrayPlan} (sound : Sound p) where
   -- ---- a label
   pub label-holds : (w t step : ℕ) (s : State) (m : Machine) → p .event w ≡ Remap t → Ready s m
       → AfterVertex p w w (labelled (p .array) (p .letter w) t (p .keep w) s) (machineStep (Remap t) step m)
@@ -157,7 +150,7 @@ module _ {p : Plan} (sound : Sound p) where
       seen : T (needsValue (p .event w)) → stampOf s (s .current) ≡ m .stamp
       seen n = valued n (s .current) current-live
 
-    passes : T (not (isRemap (p .event w))) → (x : ℕ) → Edge (p .edges) w x → PlanSegment p label x
+    passes : T (not (isRemap (p .event w))) → (x : ℕ) → Edge (p .edges) w x → Segment (p .edges) (p .event) label x
     passes n x e = extend (i .onward w edge) n e
 
     -- a vertex that changes nothing

@@ -2,4 +2,4 @@ pub mod Along
 pub mod Demand
 pub mod Invariant
 pub mod Labels
-pub mod Planned
+pub mod Sound

@@ -20,10 +20,10 @@ use Rattle.routine.specs.Arrays.{arrayOf, kind, initial}
 use Rattle.routine.specs.declared.action.Action.the-variants.{Remap}
 use Rattle.sets.specs.Sets.{has}
 use Rattle.sets.proofs.Laws.{single-is}
-use Rattle.demand.proofs.Invariant.{Plan, Sound}
+use Rattle.demand.proofs.Invariant.{ArrayPlan, Sound}
 
 -- the plan of array a
-abbrev pub computedPlan : List ℕ → ℕ → Plan
+abbrev pub computedPlan : List ℕ → ℕ → ArrayPlan
 computedPlan file a =
     record { edges = edgeBytes file; event = event file a; letter = useOf file a; keep = keptOf file a; array = arrayOf file a; exit = exit file }
 
@@ -35,9 +35,9 @@ not-N-or-R W h g = refl
 
 module _ {file : List ℕ} {a : ℕ} (proper : Proper file a) where
   -- a label's version
-  labels : (v k : ℕ) → event file a v ≡ Remap k → version file a v ≡ k
+  version-is : (v k : ℕ) → event file a v ≡ Remap k → version file a v ≡ k
   unfolding version
-  labels v k e = ap versionOf e
+  version-is v k e = ap versionOf e
 
   entry-remaps : event file a entry ≡ Remap (initial file a)
   unfolding event
@@ -55,8 +55,8 @@ module _ {file : List ℕ} {a : ℕ} (proper : Proper file a) where
         only-read = λ {v} e. r-segment file a proper v;
         alone = λ {v} {k} e n c j h.
             let m = kept-alone file a v refl (rw (not-N-or-R (useOf file a v) n c) tt) (rw e tt) in
-            sym (single-is (version file a v) j (ap (λ (m : ℕ). has m j) (sym m) ∙ h)) ∙ labels v k e;
-        below = λ {v} {k} e. omega (arith, version-fits file a proper v, labels v k e);
+            sym (single-is (version file a v) j (ap (λ (m : ℕ). has m j) (sym m) ∙ h)) ∙ version-is v k e;
+        below = λ {v} {k} e. omega (arith, version-fits file a proper v, version-is v k e);
         entry-remaps = entry-remaps;
         exit-remaps = exit-remaps;
         exit-letter = λ k. exit-letter file a proper (exit file) refl ∙ ap (λ (b : Bool). cond b R W) (ne-eqb (kind file a) 1 (λ e. omega arith));

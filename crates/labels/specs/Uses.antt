@@ -8,7 +8,7 @@ use lib.Dec.{T, eqb}
 use lib.ListN.{getD}
 use Rattle.flow.specs.Paths.{Path}
 use Rattle.flow.specs.Solver.{solution}
-use Rattle.routine.specs.Actions.{isReference}
+use Rattle.routine.specs.Actions.{isReference, isRemap}
 use Rattle.routine.specs.Layout.{exit}
 use Rattle.routine.specs.declared.action.Access.the-variants.{Read, Define, Modify}
 use Rattle.routine.specs.declared.action.Action.{Action}
@@ -21,13 +21,13 @@ use Rattle.routine.specs.Arrays.{kind, isIn}
 
 -- ---- segments
 
--- a segment: a path from a label at v that goes no further than the array's next label
-abbrev pub Segment : List ℕ → ℕ → ℕ → ℕ → Type 0
-Segment file a v w = Path (edgeBytes file) (λ u. not (isLabel file a u)) v w
+-- a segment: a path from a label at v that goes no further than the array's next label; `events` are those of the array
+abbrev pub Segment : List ℕ → (ℕ → Action) → ℕ → ℕ → Type 0
+Segment es events v w = Path es (λ u. not (isRemap (events u))) v w
 
 -- a segment with no define before its end
-abbrev pub UndefinedSegment : List ℕ → ℕ → ℕ → ℕ → Type 0
-UndefinedSegment file a v w = Path (edgeBytes file) (λ u. not (isLabel file a u) && not (isDefine (event file a u))) v w
+abbrev pub UndefinedSegment : List ℕ → (ℕ → Action) → ℕ → ℕ → Type 0
+UndefinedSegment es events v w = Path es (λ u. not (isRemap (events u)) && not (isDefine (events u))) v w
 
 -- a path of this kind from v arrives at a vertex of which something holds
 pub record Finds (Way : ℕ → ℕ → Type 0) (Met : ℕ → Type 0) (v : ℕ) : Type 0 where
@@ -37,11 +37,11 @@ pub record Finds (Way : ℕ → ℕ → Type 0) (Met : ℕ → Type 0) (v : ℕ)
 
 -- some segment from v meets an event that passes the test
 abbrev pub Meets : List ℕ → ℕ → (Action → Bool) → ℕ → Type 0
-Meets file a test v = Finds (Segment file a) (λ w. T (test (event file a w))) v
+Meets file a test v = Finds (Segment (edgeBytes file) (event file a)) (λ w. T (test (event file a w))) v
 
 -- some segment from v meets such an event without a define before it
 abbrev pub MeetsUndefined : List ℕ → ℕ → (Action → Bool) → ℕ → Type 0
-MeetsUndefined file a test v = Finds (UndefinedSegment file a) (λ w. T (test (event file a w))) v
+MeetsUndefined file a test v = Finds (UndefinedSegment (edgeBytes file) (event file a)) (λ w. T (test (event file a w))) v
 
 -- ---- use, one letter, by segments
 

@@ -148,13 +148,13 @@ module _ (file : List ℕ) (a : ℕ) (proper : Proper file a) (v : ℕ) where
       leaves (next {u} e _ _) x = proper .none-leaves u (subst (λ (y : ℕ). Edge (edgeBytes file) y u) x e)
 
   -- N: no segment meets a reference
-  pub n-segment : {w : ℕ} → useOf file a v ≡ N → Segment file a v w → T (isReference (event file a w)) → ⊥
+  pub n-segment : {w : ℕ} → useOf file a v ≡ N → Segment (edgeBytes file) (event file a) v w → T (isReference (event file a w)) → ⊥
   n-segment {w} e t h = subst (Rule file a v) e (rule t) (record { place = w; way = t; met = h })
 
   -- D: no segment meets a read, a modify or the next label without a define before it
-  pub d-segment : {w : ℕ} → useOf file a v ≡ D → UndefinedSegment file a v w → T (needsValue (event file a w)) → ⊥
+  pub d-segment : {w : ℕ} → useOf file a v ≡ D → UndefinedSegment (edgeBytes file) (event file a) v w → T (needsValue (event file a w)) → ⊥
   d-segment {w} e t h = subst (Rule file a v) e (rule t) .1 (record { place = w; way = t; met = h })
 
   -- R: no segment meets a define or modify
-  pub r-segment : {w : ℕ} → useOf file a v ≡ R → Segment file a v w → T (isWrite (event file a w)) → ⊥
+  pub r-segment : {w : ℕ} → useOf file a v ≡ R → Segment (edgeBytes file) (event file a) v w → T (isWrite (event file a w)) → ⊥
   r-segment {w} e t h = subst (Rule file a v) e (rule t) .1 (record { place = w; way = t; met = h })
