@@ -23,7 +23,7 @@ use Rattle.words.specs.Sums.{anyBelow}
 use Rattle.words.proofs.Sums.{none-below}
 use Rattle.words.proofs.Tables.{zeros-at}
 use Rattle.words.proofs.Tests.{by-test}
-use Rattle.path.specs.Paths.{vertexAt, leads, isEdge, arrivalCheck}
+use Rattle.path.specs.Paths.{vertexAt, joins, isEdge, arrivalCheck}
 
 pub with-edge-length : (table : List ℕ) (e : Edge) → length (withEdge table e) ≡ length table
 unfolding withEdge
@@ -98,20 +98,20 @@ module _ {file : List ℕ} (well : WellFormed file) where
       let few = well .laid .limits .few-vertices in
       (omega (arith, e .from-below), omega (arith, e .to-below))
 
-  inside : (v w : ℕ) → v < 256 → w < 256 → (n : ℕ) → n ≤ edges file → has (getD (edgeTable file n) (wordAt v w) 0) (w % 16) ≡ anyBelow (leads file v w) n
+  inside : (v w : ℕ) → v < 256 → w < 256 → (n : ℕ) → n ≤ edges file → has (getD (edgeTable file n) (wordAt v w) 0) (w % 16) ≡ anyBelow (joins file v w) n
   unfolding edgeTable anyBelow
   inside v w hv hw zero h = ap (λ (x : ℕ). has x (w % 16)) (zeros-at 4096 (wordAt v w)) ∙ has-zero (w % 16)
   inside v w hv hw (suc n) h =
       let small = edge-small n (omega arith) in
       one-more-edge (edgeOf file n) v w (small .0) (small .1) hv hw (edgeTable file n) (edge-table-length file n)
-      ∙ ap (λ (b : Bool). b || leads file v w n) (inside v w hv hw n (omega arith))
+      ∙ ap (λ (b : Bool). b || joins file v w n) (inside v w hv hw n (omega arith))
 
   -- a vertex from 256 on has no edge
-  outside-from : (v w : ℕ) → 256 ≤ v → anyBelow (leads file v w) (edges file) ≡ false
-  outside-from v w hv = none-below (leads file v w) (edges file) (λ n h. rw (ne-eqb (edgeOf file n .from) v (λ e. omega (arith, edge-small n h))))
+  outside-from : (v w : ℕ) → 256 ≤ v → anyBelow (joins file v w) (edges file) ≡ false
+  outside-from v w hv = none-below (joins file v w) (edges file) (λ n h. rw (ne-eqb (edgeOf file n .from) v (λ e. omega (arith, edge-small n h))))
 
-  outside-to : (v w : ℕ) → 256 ≤ w → anyBelow (leads file v w) (edges file) ≡ false
-  outside-to v w hw = none-below (leads file v w) (edges file) (λ n h. rw (ne-eqb (edgeOf file n .to) w (λ e. omega (arith, edge-small n h)), and-false))
+  outside-to : (v w : ℕ) → 256 ≤ w → anyBelow (joins file v w) (edges file) ≡ false
+  outside-to v w hw = none-below (joins file v w) (edges file) (λ n h. rw (ne-eqb (edgeOf file n .to) w (λ e. omega (arith, edge-small n h)), and-false))
 
   edges-are : (v w : ℕ) → hasEdge (edgeTable file (edges file)) v w ≡ isEdge file v w
   unfolding isEdge

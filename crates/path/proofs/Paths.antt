@@ -19,14 +19,14 @@ use Rattle.routine.proofs.WellFormed.{edge-limits}
 use Rattle.refusal.proofs.Checks.{holds-true, parts, shift, each-passed}
 use Rattle.words.specs.Sums.{anyBelow}
 use Rattle.words.proofs.Tests.{or-cases}
-use Rattle.path.specs.Paths.{steps, vertexAt, leads, isEdge, arrivalCheck, check32, pathCheck}
+use Rattle.path.specs.Paths.{steps, vertexAt, joins, isEdge, arrivalCheck, check32, pathCheck}
 
 module _ {file : List ℕ} (w : WellFormed file) where
-  edge-there : (u v n : ℕ) → n ≤ edges file → anyBelow (leads file u v) n ≡ true → Edge (edgeBytes file) u v
+  edge-there : (u v n : ℕ) → n ≤ edges file → anyBelow (joins file u v) n ≡ true → Edge (edgeBytes file) u v
   unfolding anyBelow
   edge-there u v zero h e = absurd (false≢true e)
   edge-there u v (suc n) h e =
-      or-cases (anyBelow (leads file u v) n) (leads file u v n)
+      or-cases (anyBelow (joins file u v) n) (joins file u v n)
       (edge-there u v n (omega arith))
       (λ g.
       let q = and-eq-true-iff (eqb (edgeOf file n .from) u) _ .0 g in

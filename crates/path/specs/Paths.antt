@@ -21,14 +21,14 @@ steps path = length path / 2
 abbrev pub vertexAt : List ℕ → ℕ → ℕ
 vertexAt path i = word path (2 * i)
 
--- edge n leads from v to w
-abbrev pub leads : List ℕ → ℕ → ℕ → ℕ → Bool
-leads file v w n = eqb (edgeOf file n .from) v && eqb (edgeOf file n .to) w
+-- edge n joins v to w
+abbrev pub joins : List ℕ → ℕ → ℕ → ℕ → Bool
+joins file v w n = eqb (edgeOf file n .from) v && eqb (edgeOf file n .to) w
 
--- an edge of the routine leads from v to w
+-- an edge of the routine joins v to w
 unfoldable pub isEdge : List ℕ → ℕ → ℕ → Bool
 unfolding anyBelow
-isEdge file v w = anyBelow (leads file v w) (edges file)
+isEdge file v w = anyBelow (joins file v w) (edges file)
 
 -- 30: length 0 or above 4,096
 abbrev pub check30 : List ℕ → Verdict
@@ -38,7 +38,7 @@ check30 path = holds (within 1 4096 (steps path)) (PathLengthOutsideLimits (step
 abbrev pub check31 : List ℕ → Verdict
 check31 path = holds (eqb (vertexAt path 0) entry) WrongStart
 
--- an edge leads to the vertex at index i from the one before it
+-- an edge joins the vertex before index i to the one there
 unfoldable pub arrivalCheck : List ℕ → List ℕ → ℕ → Verdict
 unfolding isEdge
 arrivalCheck file path i = holds (isEdge file (vertexAt path (i - 1)) (vertexAt path i)) (NoSuchEdge i)

@@ -40,7 +40,7 @@ next-column {count} {more} size m a e f g = elim (decLt a m) [
 
 -- ---- counts
 
-pub record Entry (file firsts : List ℕ) (v : ℕ) : Type 0 where
+pub record IndexEntry (file firsts : List ℕ) (v : ℕ) : Type 0 where
   pub inside : v + 1 < length firsts
   pub first-is : getD firsts v 0 ≡ labelsBefore file v
   pub count-is : getD firsts (v + 1) 0 - getD firsts v 0 ≡ labelsAt file v
@@ -94,7 +94,7 @@ module _ (file : List ℕ) where
           ap₂ _++_ (go m (λ a l. h a (omega arith))) (ap (λ (b : Bool). cond b (labelBytes file v m) []) (h m (omega arith)))
 
   -- vertex v's entry of the contents, from two indices
-  pub entry-holds : {firsts : List ℕ} → Laid file → Firsts file firsts → {v : ℕ} → v < vertices file → Entry file firsts v
+  pub entry-holds : {firsts : List ℕ} → Laid file → Firsts file firsts → {v : ℕ} → v < vertices file → IndexEntry file firsts v
   entry-holds {firsts} laid f {v} l =
       let here = f .first v (omega arith) in
       let behind = f .first (v + 1) (omega arith) ∙ sym (before-more v refl refl) in

@@ -1,13 +1,13 @@
 -- The ways out of the call `plan` once the routine is read: what the checks say, as the definition's answer.
 -- Assumes nothing.
-use mathlib.Core.Path.{_≡_, sym, ap, _∙_}
+use mathlib.Core.Path.{_≡_, sym, _∙_}
 use mathlib.Core.List.{List}
 use Prim.Native.Nat.{ℕ, _≤_, _<_}
 use native.Mathlib.Omega.{arith}
 use borrow.Author.Tests.{le-leb, lt-leb, leb-true}
 use lib.ListN.{length}
 use Rattle.labels.specs.Checks.{programmerCheck}
-use Rattle.planned.specs.Calls.{plannerCheck, planInto, PlannedRead}
+use Rattle.planned.specs.Calls.{plannerCheck, PlannedRead}
 use Rattle.planbytes.specs.Plan.{planBytes, planLength}
 use Rattle.planbytes.proofs.Sizes.{plan-length}
 use Rattle.refusal.specs.Replies.{written}
@@ -42,25 +42,21 @@ module _ (file : List ℕ) (size : ℕ) {v : Verdict} (is : v ≡ programmerChec
 -- ---- a plan of a routine that was read, from its reply
 
 module _ (file before : List ℕ) {reply : Reply} (is : reply ≡ written (plannerCheck file (length before)) (planLength file)) where
-  -- what the reply leaves in the buffer
-  left : {r : Reply} → reply ≡ r → planInto reply file before ≡ planInto r file before
-  left e = ap (λ (r : Reply). planInto r file before) e
-
   pub denied-planned : {r : Refusal} → reply ≡ Denied r → PlannedRead file before reply before
-  denied-planned e = record { answer = is; buffer = sym (left e) }
+  denied-planned e = record { answer = is; buffer = rw e }
 
   -- all checks have passed
   module _ {n : ℕ} (e : reply ≡ Written n) where
-    all-passed : plannerCheck file (length before) ≡ Passed
-    all-passed = written-passed (plannerCheck file (length before)) (planLength file) (sym is ∙ e)
+    checks-passed : plannerCheck file (length before) ≡ Passed
+    checks-passed = written-passed (plannerCheck file (length before)) (planLength file) (sym is ∙ e)
 
     pub plan-passed : programmerCheck file ≡ Passed
     unfolding plannerCheck
-    plan-passed = passed-left (programmerCheck file) _ all-passed
+    plan-passed = passed-left (programmerCheck file) _ checks-passed
 
     pub plan-fits : length (planBytes file) ≤ length before
     unfolding plannerCheck
-    plan-fits = omega (arith, plan-length file, leb-true (planLength file) (length before) (holds-true _ _ (passed-right (programmerCheck file) _ all-passed)))
+    plan-fits = omega (arith, plan-length file, leb-true (planLength file) (length before) (holds-true _ _ (passed-right (programmerCheck file) _ checks-passed)))
 
     pub written-planned : {after : List ℕ} → after ≡ wrote before (planBytes file) → PlannedRead file before reply after
-    written-planned w = record { answer = is; buffer = w ∙ sym (left e) }
+    written-planned w = record { answer = is; buffer = rw e w }

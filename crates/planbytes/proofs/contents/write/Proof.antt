@@ -6,7 +6,7 @@ use borrow.Author.Needs.{needs}
 use Rattle.planbytes.specs.Plan.{contentsEntry, contents}
 use Rattle.routine.specs.Layout.{vertices}
 use Rattle.words.proofs.Buffers.{Filled, begin, buffer-length, end, lies, lent, next-row}
-use Rattle.planbytes.proofs.Sizes.{Entry, entry-holds, entry-at}
+use Rattle.planbytes.proofs.Sizes.{IndexEntry, entry-holds, entry-at}
 use Rattle.planbytes.proofs.contents.write.Statement.{statement}
 use Rattle.planbytes.proofs.contents.write.Tie as tie
 
@@ -22,7 +22,7 @@ loop-holds c =
     begin _ _ _ (omega (arith, s .pre .1 .1, entry-at (s .args .file .now) (vertices (s .args .file .now))))
 
 -- what the table of indices says of vertex v
-here : (c : tie.In-loop Inv-loop μ-loop) → let s = c .before .before .before .before .before in Entry (s .args .file .now) (s .args .firsts .now) (c .before .loop .v)
+here : (c : tie.In-loop Inv-loop μ-loop) → let s = c .before .before .before .before .before in IndexEntry (s .args .file .now) (s .args .firsts .now) (c .before .loop .v)
 here c =
     let s = c .before .before .before .before .before in
     entry-holds (s .args .file .now) (s .pre .0 .heads .laid) (s .pre .1 .0) (omega (arith, c .loop-test .taken, s .pre .0 .heads .vertices-are))
