@@ -5,43 +5,41 @@ use mathlib.Core.List.{List}
 use Prim.Native.Nat.{ℕ}
 use native.Mathlib.Omega.{arith}
 use lib.Count.{ones}
-use lib.ListN.{length, getD}
+use lib.ListN.{getD}
+use Rattle.cases.specs.Cases.{P, path2}
 use Rattle.cases.specs.Faults.{zeros, RefusesAll, P-with-nothing, PlanOfPForAll, WritesNoPlan, InventsRecords, InventsCopies, WritesNoReport}
-use Rattle.planned.specs.Calls.{planOf, planInto, Planned}
+use Rattle.planned.specs.Calls.{planOf, Planned}
+use Rattle.refusal.specs.Replies.{filledBy}
 use Rattle.planbytes.specs.Plan.{planBytes}
 use Rattle.refusal.specs.declared.Reply.{Reply}
 use Rattle.refusal.specs.declared.Reply.the-variants.{Written, Denied}
-use Rattle.run.specs.Calls.{runOf, runInto, Ran}
+use Rattle.run.specs.Calls.{Ran}
 use Rattle.walk.specs.Report.{reportBytes}
 use Rattle.words.specs.Tables.{wrote}
 use Rattle.words.specs.Words.{word}
 use Rattle.cases.proofs.Cases.{all-hold}
 
--- ---- a contract leaves one reply and one buffer
+-- ---- a call that answers what is said, and fills the buffer by its answer
+
+-- it leaves one reply and one buffer
+once : (bytes before : List ℕ) {said reply reply' : Reply} {after after' : List ℕ} → reply ≡ said → after ≡ filledBy reply bytes before
+    → reply' ≡ said → after' ≡ filledBy reply' bytes before → (reply ≡ reply') × (after ≡ after')
+once bytes before e b f c =
+    let same = e ∙ sym f in
+    (same, b ∙ ap (λ (r : Reply). filledBy r bytes before) same ∙ sym c)
+
+-- where it succeeds, the bytes that were to be written
+byte : (bytes before : List ℕ) {said reply : Reply} {n : ℕ} {written after : List ℕ} → said ≡ Written n → bytes ≡ written
+    → reply ≡ said → after ≡ filledBy reply bytes before → (i : ℕ) → getD after i 0 ≡ getD (wrote before written) i 0
+byte bytes before says is e b i = ap (λ (l : List ℕ). getD l i 0) (b ∙ ap (λ (r : Reply). filledBy r bytes before) (e ∙ says) ∙ ap (wrote before) is)
 
 pub planned-once : {file before after after' : List ℕ} {reply reply' : Reply} → Planned file before reply after → Planned file before reply' after'
     → (reply ≡ reply') × (after ≡ after')
-planned-once {file} {before} h k =
-    let same = h .answer ∙ sym (k .answer) in
-    (same, h .buffer ∙ ap (λ (r : Reply). planInto r file before) same ∙ sym (k .buffer))
+planned-once {file} {before} h k = once (planBytes file) before (h .answer) (h .buffer) (k .answer) (k .buffer)
 
 pub ran-once : {file path before after after' : List ℕ} {reply reply' : Reply} → Ran file path before reply after → Ran file path before reply' after'
     → (reply ≡ reply') × (after ≡ after')
-ran-once {file} {path} {before} h k =
-    let same = h .answer ∙ sym (k .answer) in
-    (same, h .buffer ∙ ap (λ (r : Reply). runInto r file path before) same ∙ sym (k .buffer))
-
--- ---- what the contracts leave at a place, where the call succeeds
-
-plan-byte : {file before after bytes : List ℕ} {reply : Reply} {n : ℕ} → planOf file (length before) ≡ Written n → planBytes file ≡ bytes
-    → Planned file before reply after → (i : ℕ) → getD after i 0 ≡ getD (wrote before bytes) i 0
-plan-byte {file} {before} says is h i =
-    ap (λ (l : List ℕ). getD l i 0) (h .buffer ∙ ap (λ (r : Reply). planInto r file before) (h .answer ∙ says) ∙ ap (wrote before) is)
-
-run-byte : {file path before after bytes : List ℕ} {reply : Reply} {n : ℕ} → runOf file path (length before) ≡ Written n → reportBytes file path ≡ bytes
-    → Ran file path before reply after → (i : ℕ) → getD after i 0 ≡ getD (wrote before bytes) i 0
-run-byte {file} {path} {before} says is h i =
-    ap (λ (l : List ℕ). getD l i 0) (h .buffer ∙ ap (λ (r : Reply). runInto r file path before) (h .answer ∙ says) ∙ ap (wrote before) is)
+ran-once {file} {path} {before} h k = once (reportBytes file path) before (h .answer) (h .buffer) (k .answer) (k .buffer)
 
 -- ---- planners
 
@@ -57,19 +55,19 @@ refuses-all r after h = absurd (omega (arith, ap success (h .answer ∙ all-hold
 pub plan-of-p-for-all : PlanOfPForAll
 unfolding planOf planBytes word ones
 plan-of-p-for-all reply h =
-    absurd (omega (arith, plan-byte {before = zeros 72} {bytes = planBytes P-with-nothing} {n = 72} refl refl h 49))
+    absurd (omega (arith, byte (planBytes P-with-nothing) (zeros 72) {n = 72} refl refl (h .answer) (h .buffer) 49))
 
 pub writes-no-plan : WritesNoPlan
-writes-no-plan reply h = absurd (omega (arith, plan-byte {before = zeros 72} (all-hold .0 .0) (all-hold .0 .2) h 0))
+writes-no-plan reply h = absurd (omega (arith, byte (planBytes P) (zeros 72) (all-hold .0 .0) (all-hold .0 .2) (h .answer) (h .buffer) 0))
 
 -- ---- runners
 
 -- byte 14 is the new stamp of the first record
 pub invents-records : InventsRecords
-invents-records reply h = absurd (omega (arith, run-byte {before = zeros 46} (all-hold .1 .0 .0) (all-hold .1 .0 .4) h 14))
+invents-records reply h = absurd (omega (arith, byte (reportBytes P path2) (zeros 46) (all-hold .1 .0 .0) (all-hold .1 .0 .4) (h .answer) (h .buffer) 14))
 
 pub invents-copies : InventsCopies
-invents-copies reply h = absurd (omega (arith, run-byte {before = zeros 46} (all-hold .1 .0 .0) (all-hold .1 .0 .4) h 0))
+invents-copies reply h = absurd (omega (arith, byte (reportBytes P path2) (zeros 46) (all-hold .1 .0 .0) (all-hold .1 .0 .4) (h .answer) (h .buffer) 0))
 
 pub writes-no-report : WritesNoReport
-writes-no-report reply h = absurd (omega (arith, run-byte {before = zeros 46} (all-hold .1 .0 .0) (all-hold .1 .0 .4) h 0))
+writes-no-report reply h = absurd (omega (arith, byte (reportBytes P path2) (zeros 46) (all-hold .1 .0 .0) (all-hold .1 .0 .4) (h .answer) (h .buffer) 0))

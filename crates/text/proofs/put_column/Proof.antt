@@ -1,28 +1,18 @@
 -- `text::put_column` meets its contract: a key of the match is the form.
 -- Assumes nothing.
 use mathlib.Core.Path.{_≡_, sym, ap, _∙_}
-use mathlib.Core.List.{[], _∷_}
-use Prim.Native.Nat.{ℕ, _%_}
+use Prim.Native.Nat.{ℕ}
 use borrow.Author.Tests.{ne-eqb}
 use borrow.Author.Needs.{needs}
 use lib.ListN.{length}
 use Rattle.words.specs.Tables.{wrote}
-use Rattle.text.specs.Text.{CHARACTER, VERSION, MASK, decimal, mask, versionText, columnText}
+use Rattle.text.specs.Text.{CHARACTER, VERSION, MASK, decimal, columnText}
 use Rattle.text.proofs.put_column.Statement.{statement}
 use Rattle.text.proofs.put_column.Tie as tie
 
 module _ {form : ℕ} (n : ℕ) where
-  column-character : form ≡ CHARACTER → n % 256 ∷ [] ≡ columnText form n
-  unfolding columnText
-  column-character e = ap (λ (f : ℕ). columnText f n) (sym e)
-
-  column-version : form ≡ VERSION → versionText n ≡ columnText form n
-  unfolding columnText
-  column-version e = ap (λ (f : ℕ). columnText f n) (sym e)
-
-  column-mask : form ≡ MASK → mask n ≡ columnText form n
-  unfolding columnText
-  column-mask e = ap (λ (f : ℕ). columnText f n) (sym e)
+  column-form : {k : ℕ} → form ≡ k → columnText k n ≡ columnText form n
+  column-form e = ap (λ (f : ℕ). columnText f n) (sym e)
 
   column-number : (form ≡ CHARACTER → ⊥) → (form ≡ VERSION → ⊥) → (form ≡ MASK → ⊥) → decimal n ≡ columnText form n
   unfolding columnText
@@ -47,27 +37,30 @@ same-length : tie.Need-same-length
 same-length c = search needs
 
 returns : tie.Need-returns
+unfolding columnText
 returns c =
     let s = c .before .before .before .before .before .before in
-    let is = column-character (s .args .n) (c .before .before .before .before .match .keys1) in
+    let is = column-form (s .args .n) (c .before .before .before .before .match .keys1) in
     (c .before .before .put-character .ensures .0 ∙ ap length is, c .before .before .put-character .ensures .1 ∙ ap (wrote (s .args .out .now)) is)
 
 same-length-2 : tie.Need-same-length-2
 same-length-2 c = search needs
 
 returns-2 : tie.Need-returns-2
+unfolding columnText
 returns-2 c =
     let s = c .before .before .before .before .before .before in
-    let is = column-version (s .args .n) (c .before .before .before .before .match .keys2) in
+    let is = column-form (s .args .n) (c .before .before .before .before .match .keys2) in
     (c .before .before .put-version .ensures .0 ∙ ap length is, c .before .before .put-version .ensures .1 ∙ ap (wrote (s .args .out .now)) is)
 
 same-length-3 : tie.Need-same-length-3
 same-length-3 c = search needs
 
 returns-3 : tie.Need-returns-3
+unfolding columnText
 returns-3 c =
     let s = c .before .before .before .before .before .before in
-    let is = column-mask (s .args .n) (c .before .before .before .before .match .keys3) in
+    let is = column-form (s .args .n) (c .before .before .before .before .match .keys3) in
     (c .before .before .put-mask .ensures .0 ∙ ap length is, c .before .before .put-mask .ensures .1 ∙ ap (wrote (s .args .out .now)) is)
 
 same-length-4 : tie.Need-same-length-4

@@ -1,7 +1,7 @@
 -- `text::put_version` meets its contract: the test decides the text.
 -- Assumes nothing.
 use mathlib.Core.Path.{_≡_, sym, ap, _∙_}
-use mathlib.Core.Bool.{true, false, cond}
+use mathlib.Core.Bool.{Bool, cond}
 use mathlib.Core.List.{[], _∷_}
 use Prim.Native.Nat.{ℕ}
 use borrow.Author.Tests.{eq-eqb, ne-eqb}
@@ -13,13 +13,9 @@ use Rattle.text.specs.Text.{decimal, versionText}
 use Rattle.text.proofs.put_version.Statement.{statement}
 use Rattle.text.proofs.put_version.Tie as tie
 
-version-none : (n : ℕ) → eqb n 255 ≡ true → 45 ∷ [] ≡ versionText n
+version-by : (n : ℕ) {none : Bool} → eqb n 255 ≡ none → cond none (45 ∷ []) (decimal n) ≡ versionText n
 unfolding versionText
-version-none n e = ap (λ t. cond t (45 ∷ []) (decimal n)) (sym e)
-
-version-some : (n : ℕ) → eqb n 255 ≡ false → decimal n ≡ versionText n
-unfolding versionText
-version-some n e = ap (λ t. cond t (45 ∷ []) (decimal n)) (sym e)
+version-by n e = ap (λ t. cond t (45 ∷ []) (decimal n)) (sym e)
 
 put-character-requires : tie.Need-put-character-requires
 put-character-requires c κs = search needs
@@ -30,7 +26,7 @@ same-length c = search needs
 returns : tie.Need-returns
 returns c =
     let s = c .before .before .before .before .before .before in
-    let is = version-none (s .args .n) (eq-eqb _ _ (c .before .before .before .before .if1 .taken)) in
+    let is = version-by (s .args .n) (eq-eqb _ _ (c .before .before .before .before .if1 .taken)) in
     (c .before .before .put-character .ensures .0 ∙ ap length is, c .before .before .put-character .ensures .1 ∙ ap (wrote (s .args .out .now)) is)
 
 put-decimal-requires : tie.Need-put-decimal-requires
@@ -42,7 +38,7 @@ same-length-2 c = search needs
 returns-2 : tie.Need-returns-2
 returns-2 c =
     let s = c .before .before .before .before .before .before in
-    let is = version-some (s .args .n) (ne-eqb _ _ (c .before .before .before .before .if1 .left)) in
+    let is = version-by (s .args .n) (ne-eqb _ _ (c .before .before .before .before .if1 .left)) in
     (c .before .before .put-decimal .ensures .0 ∙ ap length is, c .before .before .put-decimal .ensures .1 ∙ ap (wrote (s .args .out .now)) is)
 
 pub put-version-spec : {M : Type 1} → statement M
