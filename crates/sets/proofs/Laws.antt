@@ -165,7 +165,7 @@ has-cond true m k = refl
 has-cond false m k = has-zero k
 
 -- of a full set
-has-full : (w k : ℕ) → k < w → has (2 ^ w - 1) k ≡ true
+pub has-full : (w k : ℕ) → k < w → has (2 ^ w - 1) k ≡ true
 has-full zero k h = absurd (omega arith)
 has-full (suc w) zero h = bit-has _ 0 (omega (arith, bit-zero (2 ^ suc w - 1), pow-suc 2 w, pow-pos w))
 has-full (suc w) (suc k) h =

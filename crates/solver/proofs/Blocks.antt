@@ -3,7 +3,7 @@
 -- Assumes nothing.
 use mathlib.Core.Path.{_≡_, refl, sym, ap, subst, _∙_}
 use mathlib.Core.Bool.{Bool, true, false, not, _&&_, _||_, true≢false}
-use mathlib.Core.List.{List}
+use mathlib.Core.List.{List, [], _∷_}
 use mathlib.Core.Logic.{_⊎_, inl, inr, ⊎-elim}
 use Prim.Native.Nat.{ℕ, _+_, _-_, _*_, _/_, _^_, _≤_, _<_, min}
 use native.Mathlib.Nat.{le-refl, le-of-lt, lt-of-le-of-lt, eq-or-lt-of-le, eq-zero-or-pos}
@@ -21,11 +21,11 @@ use lib.Seq.{getD-set-same}
 use Rattle.sets.specs.Sets.{bit, has, minus}
 use Rattle.sets.proofs.Laws.{bit-or, has-shr, has-or, has-minus, has-zero, has-single, has-with, has-full, has-out, lowest-has, lowest-none}
 use Rattle.words.proofs.Rows.{row-other, row-still}
-use Rattle.words.proofs.Tables.{table-ext, at-set}
+use Rattle.words.proofs.Tables.{rows-same, at-set}
 use Rattle.words.proofs.Tests.{neither}
 use Rattle.flow.specs.Order.{Order}
 use Rattle.flow.specs.Paths.{edgeCount}
-use Rattle.flow.specs.Solver.{near, far, turn, handedRow, grown, swept, noted, inAll, Tables, Altered, Advanced}
+use Rattle.flow.specs.Solver.{near, far, turn, handed, handedRow, grown, swept, noted, inAll, Tables, Altered, Advanced}
 use Rattle.flow.proofs.Exact.{or-subset}
 use Rattle.flow.proofs.Rounds.{turn-lt}
 use Rattle.flow.proofs.Rows.{grows, grown-at, Below, below-grown, squeezed, step, near-fits, swept-below, swept-length, tables, Notes, notes-none, notes-more, tells}
@@ -105,8 +105,9 @@ module _ (es : List ℕ) (along : Bool) (gives passes : List ℕ) where
   -- what a vertex hands on, once the row of another has grown
   handed-other : (s : List ℕ) (v : ℕ) (row : List ℕ) (u : ℕ) → (u ≡ v → ⊥) → handedRow gives passes (grown s v row 8) u ≡ handedRow gives passes s u
   handed-other s v row u other =
-      table-ext 8
-      (λ a l. ap (λ (x : ℕ). bitOr (getD gives (8 * u + a) 0) (bitAnd x (getD passes (8 * u + a) 0))) (row-other s v (grows s v row) 8 (8 * u + a) (λ b lb eq. other (omega arith))))
+      rows-same (λ a. handed gives passes (grown s v row 8) (8 * u + a) ∷ []) (λ a. handed gives passes s (8 * u + a) ∷ []) 8
+      (λ a l. ap (λ (x : ℕ). bitOr (getD gives (8 * u + a) 0) (bitAnd x (getD passes (8 * u + a) 0)) ∷ [])
+      (row-other s v (grows s v row) 8 (8 * u + a) (λ b lb eq. other (omega arith))))
 
   -- an edge whose far end was left as it was, and whose near end holds what it brings, alters nothing
   holds-still : (s : List ℕ) (v : ℕ) (row : List ℕ) (i : ℕ) → (far es along i ≡ v → ⊥)
