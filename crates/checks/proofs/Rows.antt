@@ -15,10 +15,11 @@ use Rattle.refusal.specs.declared.Refusal.{Refusal}
 use Rattle.refusal.specs.declared.Verdict.the-variants.{Passed, Failed}
 use Rattle.refusal.proofs.Checks.{all-passed}
 use Rattle.sets.specs.Sets.{has, several}
-use Rattle.labels.specs.Ambiguity.{arrivingSets, isAmbiguous}
+use Rattle.labels.specs.Ambiguity.{isAmbiguous}
 use Rattle.labels.specs.Checks.{writesIn}
 use Rattle.labels.specs.Events.{event, isWrite}
 use Rattle.routine.specs.Arrays.{kind, isIn}
+use Rattle.labels.specs.Reaching.{reachingOf}
 use Rattle.labels.specs.Uses.{useGives}
 use Rattle.words.specs.Sums.{anyBelow}
 use Rattle.words.proofs.Sums.{each-fails}
@@ -57,7 +58,7 @@ module _ {file uses : List ℕ} (us : UseGives file uses) (v : ℕ) (in-v : v < 
   writes-cell h =
       ap₂ (λ (x y : ℕ). not (eqb (bitAnd x y) 0)) (us .cells a v in-a in-v) (h .are a in-a) ∙ write-masked (event file a v) (isIn (kind file a))
 
-  pub ambiguous-cell : {arriving : List ℕ} → Cells file (λ a v. getD (arrivingSets file a) v 0) arriving
-      → (has (getD uses (8 * v + a) 0) 0 && several (getD arriving (8 * v + a) 0)) ≡ isAmbiguous file a v
+  pub ambiguous-cell : {reaching : List ℕ} → Cells file (reachingOf file) reaching
+      → (has (getD uses (8 * v + a) 0) 0 && several (getD reaching (8 * v + a) 0)) ≡ isAmbiguous file a v
   unfolding isAmbiguous
   ambiguous-cell h = ap₂ _&&_ (ap (λ (x : ℕ). has x 0) (us .cells a v in-a in-v) ∙ use-reference (event file a v)) (ap several (h .cells a v in-a in-v))

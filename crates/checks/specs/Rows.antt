@@ -3,22 +3,23 @@
 use mathlib.Core.Path.{_≡_}
 use mathlib.Core.Bool.{cond}
 use mathlib.Core.List.{List}
-use Prim.Native.Nat.{ℕ, _*_, _<_}
+use Prim.Native.Nat.{ℕ, _<_}
 use lib.ListN.{length, getD}
 use Rattle.labels.specs.Checks.{programmerCheck}
+use Rattle.labels.specs.Reaching.{reachingOf}
 use Rattle.routine.specs.Arrays.{kind, isIn}
-use Rattle.passes.specs.Tables.{Reached}
+use Rattle.passes.specs.Tables.{Cells, Letters}
 use Rattle.refusal.specs.declared.Verdict.{Verdict}
 use Rattle.refusal.specs.declared.Verdict.the-variants.{Passed}
-use Rattle.routine.specs.Layout.{arrays, vertices}
+use Rattle.routine.specs.Layout.{arrays}
 
 -- a mask for each array: of an in argument bit 3, which its writes give
 pub record InMasks (file masks : List ℕ) : Type 0 where
   pub size : length masks ≡ 8
   pub are : (a : ℕ) → a < arrays file → getD masks a 0 ≡ cond (isIn (kind file a)) 0b1000 0
 
--- the answer, and where it passes the table of reached vertices
-pub record Checked (file : List ℕ) (answer : Verdict) (reached : List ℕ) : Type 0 where
+-- the answer, and where it passes the tables of letters and of reaching sets
+pub record Checked (file : List ℕ) (answer : Verdict) (letters reaching : List ℕ) : Type 0 where
   pub answers : answer ≡ programmerCheck file
-  pub size : length reached ≡ 8 * vertices file
-  pub reaches : answer ≡ Passed → Reached file reached
+  pub letters-are : answer ≡ Passed → Letters file letters
+  pub reaching-are : answer ≡ Passed → Cells file (reachingOf file) reaching

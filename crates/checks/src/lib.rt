@@ -13,8 +13,9 @@ ghost use Prim.Native.Nat.{_+_, _*_, _≤_, _<_};
 ghost use lib.Bits.{bitAnd};
 ghost use lib.Dec.{eqb};
 ghost use lib.ListN.{length, getD};
-ghost use Rattle.labels.specs.Ambiguity.{arrivingSets, isAmbiguous};
+ghost use Rattle.labels.specs.Ambiguity.{isAmbiguous};
 ghost use Rattle.labels.specs.Checks.{writesIn, check20, check21};
+ghost use Rattle.labels.specs.Reaching.{reachingOf};
 ghost use Rattle.labels.specs.Routines.{ReadAs, EdgeOrder};
 ghost use Rattle.words.specs.Sums.{anyBelow};
 ghost use Rattle.checks.specs.Rows.{InMasks, Checked};
@@ -31,11 +32,11 @@ fn is_write(uses: u16, mask: u16) -> bool
     uses & mask != 0
 }
 
-// Whether a cell that gives this to the sets of use is a reference, and two versions arrive there.
-fn is_ambiguous(uses: u16, arriving: u16) -> bool
-    ensures { λ r. ⌜ r ≡ (has uses 0 && several arriving) ⌝ }
+// Whether a cell that gives this to the sets of use is a reference, and two versions reach it.
+fn is_ambiguous(uses: u16, reaching: u16) -> bool
+    ensures { λ r. ⌜ r ≡ (has uses 0 && several reaching) ⌝ }
 {
-    sets::member(uses, 0) & sets::more_than_one(arriving)
+    sets::member(uses, 0) & sets::more_than_one(reaching)
 }
 
 // The masks by which 20 looks for writes: of an in argument bit 3, of any other array nothing.
@@ -139,35 +140,35 @@ fn check_writes(file: &[u8], h: Header, uses: &[u16]) -> Verdict
     Verdict::Passed
 }
 
-// Whether the row of vertex v has a reference at which two versions arrive.
-fn row_ambiguous(uses: &[u16], arriving: &[u16], v: usize) -> bool
+// Whether the row of vertex v has a reference that two versions reach.
+fn row_ambiguous(uses: &[u16], reaching: &[u16], v: usize) -> bool
     requires { ⌜ 8 * v + 8 ≤ length (now uses) ⌝ }
-    requires { ⌜ 8 * v + 8 ≤ length (now arriving) ⌝ }
-    ensures { λ r. ⌜ r ≡ anyBelow (λ a. has (getD (now (uses .entry)) (8 * v + a) 0) 0 && several (getD (now (arriving .entry)) (8 * v + a) 0)) 8 ⌝ }
+    requires { ⌜ 8 * v + 8 ≤ length (now reaching) ⌝ }
+    ensures { λ r. ⌜ r ≡ anyBelow (λ a. has (getD (now (uses .entry)) (8 * v + a) 0) 0 && several (getD (now (reaching .entry)) (8 * v + a) 0)) 8 ⌝ }
 {
     let mut any = false;
     let mut a: usize = 0;
     while a < flow::COLUMNS {
         let at = flow::COLUMNS * v + a;
-        any = any | is_ambiguous(uses[at], arriving[at]);
+        any = any | is_ambiguous(uses[at], reaching[at]);
         a += 1;
     }
     any
 }
 
 // The first ambiguous reference at vertex v.
-fn check_ambiguous_at(file: &[u8], h: Header, v: usize, uses: &[u16], arriving: &[u16]) -> Verdict
+fn check_ambiguous_at(file: &[u8], h: Header, v: usize, uses: &[u16], reaching: &[u16]) -> Verdict
     requires { ⌜ ReadAs (now file) h ⌝ }
     requires { ⌜ UseGives (now file) (now uses) ⌝ }
     requires { ⌜ v < vertices (now file) ⌝ }
-    requires { ⌜ Cells (now file) (λ a v. getD (arrivingSets (now file) a) v 0) (now arriving) ⌝ }
+    requires { ⌜ Cells (now file) (reachingOf (now file)) (now reaching) ⌝ }
     ensures { λ r. ⌜ r ≡ firstFailed (λ a. holds (not (isAmbiguous (now (file .entry)) a v)) (AmbiguousReference v a)) 0 (arrays (now (file .entry))) ⌝ }
 {
     let m = h.arrays;
     let mut a = 0;
     while a < m {
         let at = flow::COLUMNS * v + a;
-        let ambiguous = is_ambiguous(uses[at], arriving[at]);
+        let ambiguous = is_ambiguous(uses[at], reaching[at]);
         if ambiguous {
             return Verdict::Failed(Refusal::AmbiguousReference {
                 vertex: v,
@@ -180,31 +181,31 @@ fn check_ambiguous_at(file: &[u8], h: Header, v: usize, uses: &[u16], arriving: 
 }
 
 // Vertex v, array by array only if its row has an ambiguous reference.
-fn check_ambiguous_row(file: &[u8], h: Header, v: usize, uses: &[u16], arriving: &[u16]) -> Verdict
+fn check_ambiguous_row(file: &[u8], h: Header, v: usize, uses: &[u16], reaching: &[u16]) -> Verdict
     requires { ⌜ ReadAs (now file) h ⌝ }
     requires { ⌜ UseGives (now file) (now uses) ⌝ }
     requires { ⌜ v < vertices (now file) ⌝ }
-    requires { ⌜ Cells (now file) (λ a v. getD (arrivingSets (now file) a) v 0) (now arriving) ⌝ }
+    requires { ⌜ Cells (now file) (reachingOf (now file)) (now reaching) ⌝ }
     ensures { λ r. ⌜ r ≡ firstFailed (λ a. holds (not (isAmbiguous (now (file .entry)) a v)) (AmbiguousReference v a)) 0 (arrays (now (file .entry))) ⌝ }
 {
-    let any = row_ambiguous(uses, arriving, v);
+    let any = row_ambiguous(uses, reaching, v);
     if any {
-        return check_ambiguous_at(file, h, v, uses, arriving);
+        return check_ambiguous_at(file, h, v, uses, reaching);
     }
     Verdict::Passed
 }
 
 // Refusal 21.
-fn check_ambiguous(file: &[u8], h: Header, uses: &[u16], arriving: &[u16]) -> Verdict
+fn check_ambiguous(file: &[u8], h: Header, uses: &[u16], reaching: &[u16]) -> Verdict
     requires { ⌜ ReadAs (now file) h ⌝ }
     requires { ⌜ UseGives (now file) (now uses) ⌝ }
-    requires { ⌜ Cells (now file) (λ a v. getD (arrivingSets (now file) a) v 0) (now arriving) ⌝ }
+    requires { ⌜ Cells (now file) (reachingOf (now file)) (now reaching) ⌝ }
     ensures { λ r. ⌜ r ≡ check21 (now (file .entry)) ⌝ }
 {
     let n = h.vertices;
     let mut v = 0;
     while v < n {
-        let verdict = check_ambiguous_row(file, h, v, uses, arriving);
+        let verdict = check_ambiguous_row(file, h, v, uses, reaching);
         if let Verdict::Failed(_) = verdict {
             return verdict;
         }
@@ -213,15 +214,15 @@ fn check_ambiguous(file: &[u8], h: Header, uses: &[u16], arriving: &[u16]) -> Ve
     Verdict::Passed
 }
 
-// Refusals 20 and 21. `reached` is left with what its pass says; `sets`, `gives` and `passes` are work slices.
+// Refusals 20 and 21. Where both pass, `letters` and `reaching` are left with their tables; `gives` and `passes` are work slices.
 fn check(
     file: &[u8],
     h: Header,
     order: &[u16],
     versions: &[u16],
     uses: &[u16],
-    reached: &mut [u16],
-    sets: &mut [u16],
+    letters: &mut [u8],
+    reaching: &mut [u16],
     gives: &mut [u16],
     passes: &mut [u16],
 ) -> Verdict
@@ -229,31 +230,31 @@ fn check(
     requires { ⌜ EdgeOrder (now file) (now order) ⌝ }
     requires { ⌜ Versions (now file) (now versions) ⌝ }
     requires { ⌜ UseGives (now file) (now uses) ⌝ }
-    requires { ⌜ length (now reached) ≡ 8 * vertices (now file) ⌝ }
-    requires { ⌜ length (now sets) ≡ 8 * vertices (now file) ⌝ }
+    requires { ⌜ length (now letters) ≡ 8 * vertices (now file) ⌝ }
+    requires { ⌜ length (now reaching) ≡ 8 * vertices (now file) ⌝ }
     requires { ⌜ length (now gives) ≡ 8 * vertices (now file) ⌝ }
     requires { ⌜ length (now passes) ≡ 8 * vertices (now file) ⌝ }
-    ensures { λ r. ⌜ Checked (now (file .entry)) r (now (reached .exit)) ⌝ }
+    ensures { λ r. ⌜ Checked (now (file .entry)) r (now (letters .exit)) (now (reaching .exit)) ⌝ }
 {
     let writes = check_writes(file, h, uses);
     if let Verdict::Failed(_) = writes {
         return writes;
     }
-    tables::reached(file, h, order, reached, gives, passes);
-    tables::arriving(file, h, order, versions, reached, sets, gives, passes);
-    check_ambiguous(file, h, uses, sets)
+    tables::letters(file, h, order, uses, letters, reaching, passes);
+    tables::reaching(file, h, order, versions, letters, reaching, gives, passes);
+    check_ambiguous(file, h, uses, reaching)
 }
 
-// The order of the edges, the tables of events, then refusals 20 and 21. `reached` is left with the table of reached vertices;
-// `sets`, `gives` and `passes` are work slices.
+// The order of the edges, the tables of events, then refusals 20 and 21. Where both pass, `letters` and `reaching` are left with their
+// tables; `uses`, `gives` and `passes` are work slices.
 pub fn prepare(
     file: &[u8],
     h: Header,
     order: &mut [u16],
     versions: &mut [u16],
     uses: &mut [u16],
-    reached: &mut [u16],
-    sets: &mut [u16],
+    letters: &mut [u8],
+    reaching: &mut [u16],
     gives: &mut [u16],
     passes: &mut [u16],
 ) -> Verdict
@@ -261,16 +262,25 @@ pub fn prepare(
     requires { ⌜ length (now order) ≡ edges (now file) ⌝ }
     requires { ⌜ length (now versions) ≡ 8 * vertices (now file) ⌝ }
     requires { ⌜ length (now uses) ≡ 8 * vertices (now file) ⌝ }
-    requires { ⌜ length (now reached) ≡ 8 * vertices (now file) ⌝ }
-    requires { ⌜ length (now sets) ≡ 8 * vertices (now file) ⌝ }
+    requires { ⌜ length (now letters) ≡ 8 * vertices (now file) ⌝ }
+    requires { ⌜ length (now reaching) ≡ 8 * vertices (now file) ⌝ }
     requires { ⌜ length (now gives) ≡ 8 * vertices (now file) ⌝ }
     requires { ⌜ length (now passes) ≡ 8 * vertices (now file) ⌝ }
     ensures { λ _. ⌜ EdgeOrder (now (file .entry)) (now (order .exit)) ⌝ }
     ensures { λ _. ⌜ Versions (now (file .entry)) (now (versions .exit)) ⌝ }
-    ensures { λ _. ⌜ UseGives (now (file .entry)) (now (uses .exit)) ⌝ }
-    ensures { λ r. ⌜ Checked (now (file .entry)) r (now (reached .exit)) ⌝ }
+    ensures { λ r. ⌜ Checked (now (file .entry)) r (now (letters .exit)) (now (reaching .exit)) ⌝ }
 {
     pass::order(file, h, order);
     events::tabulate(file, h, versions, uses);
-    check(file, h, order, versions, uses, reached, sets, gives, passes)
+    check(
+        file,
+        h,
+        order,
+        versions,
+        uses,
+        letters,
+        reaching,
+        gives,
+        passes,
+    )
 }

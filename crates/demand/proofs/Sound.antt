@@ -7,13 +7,13 @@ use Prim.Native.Nat.{ℕ, _≤_}
 use native.Mathlib.Omega.{arith}
 use borrow.Author.Tests.{eq-eqb, ne-eqb}
 use Rattle.labels.specs.Events.{edgeBytes, event, versionOf, version}
-use Rattle.routine.specs.Layout.{entry, exit}
+use Rattle.routine.specs.Layout.{exit}
 use Rattle.labels.specs.Kept.{isNOrR, keptOf}
 use Rattle.labels.proofs.Rules.Proper.{Proper}
 use Rattle.labels.specs.Uses.{isN, useOf}
 use Rattle.labels.specs.declared.Use.{Use}
 use Rattle.labels.specs.declared.Use.the-variants.{N, D, R, W}
-use Rattle.labels.proofs.Rules.Events.{version-fits}
+use Rattle.labels.proofs.Rules.Events.{version-fits, entry-remaps}
 use Rattle.labels.proofs.Rules.Kept.{kept-alone}
 use Rattle.labels.proofs.Rules.Uses.{exit-letter, n-segment, d-segment, r-segment}
 use Rattle.routine.specs.Arrays.{arrayOf, kind, initial}
@@ -39,10 +39,6 @@ module _ {file : List ℕ} {a : ℕ} (proper : Proper file a) where
   unfolding version
   version-is v k e = ap versionOf e
 
-  entry-remaps : event file a entry ≡ Remap (initial file a)
-  unfolding event
-  entry-remaps = refl
-
   exit-remaps : 2 ≤ kind file a → event file a (exit file) ≡ Remap (initial file a)
   unfolding event
   exit-remaps k = rw (eq-eqb (exit file) (exit file) refl, ne-eqb (kind file a) 0 (λ e. omega arith), or-true)
@@ -57,7 +53,7 @@ module _ {file : List ℕ} {a : ℕ} (proper : Proper file a) where
             let m = kept-alone file a v refl (rw (not-N-or-R (useOf file a v) n c) tt) (rw e tt) in
             sym (single-is (version file a v) j (ap (λ (m : ℕ). has m j) (sym m) ∙ h)) ∙ version-is v k e;
         below = λ {v} {k} e. omega (arith, version-fits file a proper v, version-is v k e);
-        entry-remaps = entry-remaps;
+        entry-remaps = entry-remaps file a;
         exit-remaps = exit-remaps;
         exit-letter = λ k. exit-letter file a proper (exit file) refl ∙ ap (λ (b : Bool). cond b R W) (ne-eqb (kind file a) 1 (λ e. omega arith));
         exit-ends = λ {w}. proper .none-leaves w;

@@ -1,19 +1,15 @@
 -- The mission's demand 2 and refusal 21: a reference is ambiguous if two paths from the entry bring different versions to it.
 -- Assumes nothing.
 use mathlib.Core.Path.{_≡_}
-use mathlib.Core.Bool.{Bool, false, _&&_, cond}
+use mathlib.Core.Bool.{Bool, _&&_}
 use mathlib.Core.List.{List}
 use mathlib.Core.Option.{some}
-use Prim.Native.Nat.{ℕ, _^_}
+use Prim.Native.Nat.{ℕ}
 use lib.Dec.{T}
-use lib.ListN.{getD}
-use Rattle.flow.specs.Solver.{solution}
 use Rattle.routine.specs.Actions.{isReference}
-use Rattle.routine.specs.Layout.{vertices}
 use Rattle.sets.specs.Sets.{several}
-use Rattle.labels.specs.Events.{everyVersion, edgeBytes, event, isLabel, version}
-use Rattle.labels.specs.Reaching.{ArrivesBy, lastVersion, isReached}
-use Rattle.words.specs.Tables.{table}
+use Rattle.labels.specs.Events.{event, isLabel, version}
+use Rattle.labels.specs.Reaching.{ArrivesBy, lastVersion, reachingOf}
 
 -- ---- by paths
 
@@ -34,23 +30,8 @@ pub record Ambiguous (file : List ℕ) (a v : ℕ) : Type 0 where
 
 -- ---- computed
 
--- a label that a path from the entry reaches gives its version
-unfoldable pub arriveGives : List ℕ → ℕ → ℕ → ℕ
-unfolding isReached event version
-arriveGives file a v = cond (isReached file v && isLabel file a v) (2 ^ version file a v) 0
-
--- what is no label passes every version
-unfoldable pub arrivePasses : List ℕ → ℕ → ℕ → ℕ
-unfolding event
-arrivePasses file a v = cond (isLabel file a v) 0 everyVersion
-
--- the versions that arrive at each vertex
-unfoldable pub arrivingSets : List ℕ → ℕ → List ℕ
-unfolding solution arriveGives arrivePasses
-arrivingSets file a =
-    solution (edgeBytes file) false (table (arriveGives file a) (vertices file)) (table (arrivePasses file a) (vertices file)) (vertices file)
-
--- ones of the arriving version mask counted; above one at a reference means 21
+-- the last label before a reference meets it and so is kept: the versions that paths bring to a reference are those that reach it.
+-- Ones of that mask counted; above one at a reference means 21
 unfoldable pub isAmbiguous : List ℕ → ℕ → ℕ → Bool
-unfolding arrivingSets event
-isAmbiguous file a v = isReference (event file a v) && several (getD (arrivingSets file a) v 0)
+unfolding reachingOf event
+isAmbiguous file a v = isReference (event file a v) && several (reachingOf file a v)

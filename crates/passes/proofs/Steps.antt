@@ -15,7 +15,6 @@ use Rattle.routine.specs.Reader.{WellFormed}
 use Rattle.routine.specs.declared.action.Action.{Action}
 use Rattle.sets.specs.Sets.{has}
 use Rattle.words.specs.Tables.{table, withRow}
-use Rattle.labels.specs.Ambiguity.{arriveGives, arrivePasses, arrivingSets}
 use Rattle.labels.specs.Events.{everyVersion, event, isLabel, versionOf, version}
 use Rattle.routine.specs.Arrays.{kind, initial, isInOrInout}
 use Rattle.labels.specs.Kept.{isNOrR, passesKept, leavingSet, keptSets, keptOf}
@@ -69,31 +68,6 @@ module _ {file : List ℕ} (well : WellFormed file) where
   reached-at : {reached : List ℕ} → Reached file reached → (a v : ℕ) → a < arrays file → v < vertices file → reachedCell (8 * v + a) (getD reached (8 * v + a) 0) ≡ isReached file v
   unfolding isReached
   reached-at h a v in-a in-v = ap₂ _||_ (first-row v a (in-eight well in-a)) (ap (λ (m : ℕ). has m 0) (h .cells a v in-a in-v))
-
-  -- ---- arriving versions
-
-  module _ {versions : List ℕ} (vs : Versions file versions) where
-    pub arrive-gives : {reached s : List ℕ} → Reached file reached
-        → s ≡ table (λ i. cond (reachedCell i (getD reached i 0)) (getD versions i 0) 0) (length versions) → Cells file (arriveGives file) s
-    unfolding arriveGives version
-    arrive-gives {reached} h e =
-        cells-table well (λ i. cond (reachedCell i (getD reached i 0)) (getD versions i 0) 0) (vs .size) e
-        (λ a v in-a in-v.
-        ap₂ (λ (b : Bool) (x : ℕ). cond b x 0) (reached-at h a v in-a in-v) (vs .cells a v in-a in-v)
-        ∙ cond-and (isReached file v) (isLabel file a v) (2 ^ versionOf (event file a v)))
-
-    pub arrive-passes : {s : List ℕ} → s ≡ table (λ i. cond (eqb (getD versions i 0) 0) everyVersion 0) (length versions) → Cells file (arrivePasses file) s
-    unfolding arrivePasses
-    arrive-passes e =
-        cells-table well (λ i. cond (eqb (getD versions i 0) 0) everyVersion 0) (vs .size) e
-        (λ a v in-a in-v.
-        ap (λ (x : ℕ). cond (eqb x 0) everyVersion 0) (vs .cells a v in-a in-v)
-        ∙ ap (λ (b : Bool). cond b everyVersion 0) (single-none (isLabel file a v) (versionOf (event file a v))) ∙ sym (cond-not (isLabel file a v) 0 everyVersion))
-
-  pub arriving-sets : {gives passes sets : List ℕ} → Cells file (arriveGives file) gives → Cells file (arrivePasses file) passes
-      → Pass file false gives passes sets → Cells file (λ a v. getD (arrivingSets file a) v 0) sets
-  unfolding arrivingSets
-  arriving-sets g p h = cells-solved well (arriveGives file) (arrivePasses file) g p h
 
   -- ---- letters
 

@@ -1,5 +1,4 @@
 // The tables of the label rules, for all arrays: the cell of vertex v and array a stands at 8 v + a.
-use crate::ambiguity;
 use crate::kept;
 use crate::pass;
 use crate::reaching;
@@ -7,8 +6,7 @@ use crate::uses;
 use routine::header::Header;
 ghost use mathlib.Core.Path.{_≡_};
 ghost use Prim.Native.Nat.{_*_};
-ghost use lib.ListN.{length, getD};
-ghost use Rattle.labels.specs.Ambiguity.{arrivingSets};
+ghost use lib.ListN.{length};
 ghost use Rattle.labels.specs.Kept.{keptOf};
 ghost use Rattle.labels.specs.Reaching.{reachingOf};
 ghost use Rattle.labels.specs.Routines.{ReadAs, EdgeOrder};
@@ -16,7 +14,7 @@ ghost use Rattle.passes.specs.Tables.{Cells, Versions, UseGives, Reached
 ghost use Rattle.routine.specs.Layout.{vertices};
 
 // Which vertices a path of one edge or more from the entry reaches.
-pub fn reached(
+fn reached(
     file: &[u8],
     h: Header,
     order: &[u16],
@@ -32,30 +30,6 @@ pub fn reached(
     ensures { λ _. ⌜ Reached (now (file .entry)) (now (sets .exit)) ⌝ }
 {
     reaching::fill_reached(gives, passes);
-    pass::solve(file, h, order, false, gives, passes, sets);
-}
-
-// The arriving versions.
-pub fn arriving(
-    file: &[u8],
-    h: Header,
-    order: &[u16],
-    versions: &[u16],
-    reached: &[u16],
-    sets: &mut [u16],
-    gives: &mut [u16],
-    passes: &mut [u16],
-)
-    requires { ⌜ ReadAs (now file) h ⌝ }
-    requires { ⌜ EdgeOrder (now file) (now order) ⌝ }
-    requires { ⌜ Versions (now file) (now versions) ⌝ }
-    requires { ⌜ Reached (now file) (now reached) ⌝ }
-    requires { ⌜ length (now sets) ≡ 8 * vertices (now file) ⌝ }
-    requires { ⌜ length (now gives) ≡ 8 * vertices (now file) ⌝ }
-    requires { ⌜ length (now passes) ≡ 8 * vertices (now file) ⌝ }
-    ensures { λ _. ⌜ Cells (now (file .entry)) (λ a v. getD (arrivingSets (now (file .entry)) a) v 0) (now (sets .exit)) ⌝ }
-{
-    ambiguity::fill(versions, reached, gives, passes);
     pass::solve(file, h, order, false, gives, passes, sets);
 }
 
@@ -83,13 +57,12 @@ pub fn letters(
     uses::leave(file, h, letters);
 }
 
-// The reaching sets.
+// The reaching sets. `sets` first holds the table of reached vertices.
 pub fn reaching(
     file: &[u8],
     h: Header,
     order: &[u16],
     versions: &[u16],
-    reached: &[u16],
     letters: &[u8],
     sets: &mut [u16],
     gives: &mut [u16],
@@ -98,14 +71,14 @@ pub fn reaching(
     requires { ⌜ ReadAs (now file) h ⌝ }
     requires { ⌜ EdgeOrder (now file) (now order) ⌝ }
     requires { ⌜ Versions (now file) (now versions) ⌝ }
-    requires { ⌜ Reached (now file) (now reached) ⌝ }
     requires { ⌜ Letters (now file) (now letters) ⌝ }
     requires { ⌜ length (now sets) ≡ 8 * vertices (now file) ⌝ }
     requires { ⌜ length (now gives) ≡ 8 * vertices (now file) ⌝ }
     requires { ⌜ length (now passes) ≡ 8 * vertices (now file) ⌝ }
     ensures { λ _. ⌜ Cells (now (file .entry)) (reachingOf (now (file .entry))) (now (sets .exit)) ⌝ }
 {
-    reaching::fill(versions, reached, letters, gives, passes);
+    reached(file, h, order, sets, gives, passes);
+    reaching::fill(versions, sets, letters, gives, passes);
     reaching::enter_gives(file, h, letters, gives);
     pass::solve(file, h, order, false, gives, passes, sets);
     reaching::enter(file, h, sets);

@@ -8,49 +8,9 @@ use routine::reader::Answer;
 ghost use mathlib.Core.Path.{_≡_};
 ghost use Prim.Native.Nat.{_*_, _≤_};
 ghost use lib.ListN.{length};
-ghost use Rattle.labels.specs.Routines.{ReadAs, EdgeOrder};
-ghost use Rattle.passes.specs.Tables.{Versions, UseGives, Reached};
+ghost use Rattle.labels.specs.Routines.{ReadAs};
 ghost use Rattle.planned.specs.Calls.{PlannedRead, Planned};
-ghost use Rattle.planbytes.specs.Tables.{Tabled};
 ghost use Rattle.routine.specs.Layout.{vertices, edges};
-
-// The tables of letters, reaching sets and kept sets. `kept` is handed the table of reached vertices; `uses`, once the letters are
-// known, and `passes` are work slices.
-fn tabulate(
-    file: &[u8],
-    h: Header,
-    order: &[u16],
-    versions: &[u16],
-    uses: &mut [u16],
-    letters: &mut [u8],
-    reaching: &mut [u16],
-    kept: &mut [u16],
-    passes: &mut [u16],
-)
-    requires { ⌜ ReadAs (now file) h ⌝ }
-    requires { ⌜ EdgeOrder (now file) (now order) ⌝ }
-    requires { ⌜ Versions (now file) (now versions) ⌝ }
-    requires { ⌜ UseGives (now file) (now uses) ⌝ }
-    requires { ⌜ length (now letters) ≡ 8 * vertices (now file) ⌝ }
-    requires { ⌜ length (now reaching) ≡ 8 * vertices (now file) ⌝ }
-    requires { ⌜ Reached (now file) (now kept) ⌝ }
-    requires { ⌜ length (now passes) ≡ 8 * vertices (now file) ⌝ }
-    ensures { λ _. ⌜ Tabled (now (file .entry)) (now (versions .entry)) (now (letters .exit)) (now (reaching .exit)) (now (kept .exit)) ⌝ }
-{
-    tables::letters(file, h, order, uses, letters, reaching, passes);
-    tables::reaching(
-        file,
-        h,
-        order,
-        versions,
-        kept,
-        letters,
-        reaching,
-        uses,
-        passes,
-    );
-    tables::kept(file, h, order, versions, letters, kept, uses, passes);
-}
 
 // Plans a routine that was read. `order` holds an entry for each edge, the other tables eight for each vertex.
 fn plan_with(
@@ -83,7 +43,7 @@ fn plan_with(
         order,
         versions,
         uses,
-        kept,
+        letters,
         reaching,
         gives,
         passes,
@@ -93,17 +53,7 @@ fn plan_with(
     if let Reply::Denied(_) = reply {
         return reply;
     }
-    tabulate(
-        file,
-        h,
-        order,
-        versions,
-        uses,
-        letters,
-        reaching,
-        kept,
-        passes,
-    );
+    tables::kept(file, h, order, versions, letters, kept, uses, passes);
     writer::write(file, h, versions, letters, reaching, kept, gives, out);
     reply
 }

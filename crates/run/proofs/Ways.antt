@@ -60,16 +60,25 @@ module _ (file path before : List ℕ) {reply : Reply} (is : reply ≡ written (
 
   -- all checks have passed
   module _ {n : ℕ} (e : reply ≡ Written n) where
-    after-20 : (pathCheck file path andThen holds (leb (reportLength file path) (length before)) (ShortReportBuffer (reportLength file path))) ≡ Passed
-    unfolding runnerCheck
-    after-20 = passed-right (programmerCheck file) _ (written-passed (runnerCheck file path (length before)) (reportLength file path) (sym is ∙ e))
+    all-passed : runnerCheck file path (length before) ≡ Passed
+    all-passed = written-passed (runnerCheck file path (length before)) (reportLength file path) (sym is ∙ e)
 
-    pub run-passed : pathCheck file path ≡ Passed
-    run-passed = passed-left (pathCheck file path) _ after-20
+    -- 20 and 21
+    pub run-passed : programmerCheck file ≡ Passed
+    unfolding runnerCheck
+    run-passed = passed-left (programmerCheck file) _ all-passed
+
+    after-21 : (pathCheck file path andThen holds (leb (reportLength file path) (length before)) (ShortReportBuffer (reportLength file path))) ≡ Passed
+    unfolding runnerCheck
+    after-21 = passed-right (programmerCheck file) _ all-passed
+
+    -- 30 to 32
+    pub run-follows : pathCheck file path ≡ Passed
+    run-follows = passed-left (pathCheck file path) _ after-21
 
     pub run-fits : length (reportBytes file path) ≤ length before
     run-fits =
-        omega (arith, report-length file path, leb-true (reportLength file path) (length before) (holds-true _ _ (passed-right (pathCheck file path) _ after-20)))
+        omega (arith, report-length file path, leb-true (reportLength file path) (length before) (holds-true _ _ (passed-right (pathCheck file path) _ after-21)))
 
     pub written-ran : {after : List ℕ} → WellFormed file → after ≡ wrote before (reportBytes file path) → RanRead file path before reply after
-    written-ran well w = record { answer = is; buffer = rw e w; demand = rw e (demand3 file path well run-passed) }
+    written-ran well w = record { answer = is; buffer = rw e w; demand = rw e (demand3 file path well run-follows) }

@@ -10,8 +10,7 @@ ghost use mathlib.Core.Path.{_≡_};
 ghost use Prim.Native.Nat.{_*_};
 ghost use lib.ListN.{length};
 ghost use Rattle.labels.specs.Checks.{programmerCheck};
-ghost use Rattle.labels.specs.Routines.{ReadAs, EdgeOrder};
-ghost use Rattle.passes.specs.Tables.{Versions, UseGives, LettersAndKept};
+ghost use Rattle.labels.specs.Routines.{ReadAs};
 ghost use Rattle.routine.specs.Layout.{vertices, edges};
 ghost use Rattle.refusal.specs.Replies.{written};
 ghost use Rattle.run.specs.Calls.{runnerCheck, RanRead, Ran};
@@ -45,32 +44,6 @@ fn reply(
     Reply::Written(needed)
 }
 
-// The tables of letters and kept sets.
-fn tabulate(
-    file: &[u8],
-    h: Header,
-    order: &[u16],
-    versions: &[u16],
-    uses: &[u16],
-    letters: &mut [u8],
-    kept: &mut [u16],
-    gives: &mut [u16],
-    passes: &mut [u16],
-)
-    requires { ⌜ ReadAs (now file) h ⌝ }
-    requires { ⌜ EdgeOrder (now file) (now order) ⌝ }
-    requires { ⌜ Versions (now file) (now versions) ⌝ }
-    requires { ⌜ UseGives (now file) (now uses) ⌝ }
-    requires { ⌜ length (now letters) ≡ 8 * vertices (now file) ⌝ }
-    requires { ⌜ length (now kept) ≡ 8 * vertices (now file) ⌝ }
-    requires { ⌜ length (now gives) ≡ 8 * vertices (now file) ⌝ }
-    requires { ⌜ length (now passes) ≡ 8 * vertices (now file) ⌝ }
-    ensures { λ _. ⌜ LettersAndKept (now (file .entry)) (now (letters .exit)) (now (kept .exit)) ⌝ }
-{
-    tables::letters(file, h, order, uses, letters, kept, passes);
-    tables::kept(file, h, order, versions, letters, kept, gives, passes);
-}
-
 // Runs a path through a routine that was read. `order` holds an entry for each edge, `counts` one for each vertex, the other tables eight for
 // each vertex.
 fn run_with(
@@ -84,7 +57,6 @@ fn run_with(
     letters: &mut [u8],
     kept: &mut [u16],
     counts: &mut [u8],
-    reached: &mut [u16],
     gives: &mut [u16],
     passes: &mut [u16],
 ) -> Reply
@@ -95,17 +67,17 @@ fn run_with(
     requires { ⌜ length (now letters) ≡ 8 * vertices (now file) ⌝ }
     requires { ⌜ length (now kept) ≡ 8 * vertices (now file) ⌝ }
     requires { ⌜ length (now counts) ≡ vertices (now file) ⌝ }
-    requires { ⌜ length (now reached) ≡ 8 * vertices (now file) ⌝ }
     requires { ⌜ length (now gives) ≡ 8 * vertices (now file) ⌝ }
     requires { ⌜ length (now passes) ≡ 8 * vertices (now file) ⌝ }
     ensures { λ r. ⌜ RanRead (now (file .entry)) (now (path .entry)) (now (out .entry)) r (now (out .exit)) ⌝ }
 {
-    let checked = checks::prepare(file, h, order, versions, uses, reached, kept, gives, passes);
+    // here `kept` holds the reaching sets
+    let checked = checks::prepare(file, h, order, versions, uses, letters, kept, gives, passes);
     let reply = reply(file, h, path, out.len(), checked, counts);
     if let Reply::Denied(_) = reply {
         return reply;
     }
-    tabulate(file, h, order, versions, uses, letters, kept, gives, passes);
+    tables::kept(file, h, order, versions, letters, kept, gives, passes);
     walk::write(file, h, path, letters, kept, out);
     reply
 }
@@ -122,7 +94,6 @@ fn run_within(
     letters: &mut [u8],
     kept: &mut [u16],
     counts: &mut [u8],
-    reached: &mut [u16],
     gives: &mut [u16],
     passes: &mut [u16],
 ) -> Reply
@@ -133,7 +104,6 @@ fn run_within(
     requires { ⌜ length (now letters) ≡ 2048 ⌝ }
     requires { ⌜ length (now kept) ≡ 2048 ⌝ }
     requires { ⌜ length (now counts) ≡ 256 ⌝ }
-    requires { ⌜ length (now reached) ≡ 2048 ⌝ }
     requires { ⌜ length (now gives) ≡ 2048 ⌝ }
     requires { ⌜ length (now passes) ≡ 2048 ⌝ }
     ensures { λ r. ⌜ RanRead (now (file .entry)) (now (path .entry)) (now (out .entry)) r (now (out .exit)) ⌝ }
@@ -152,7 +122,6 @@ fn run_within(
         &mut letters[..all],
         &mut kept[..all],
         &mut counts[..n],
-        &mut reached[..all],
         &mut gives[..all],
         &mut passes[..all],
     )
@@ -168,7 +137,6 @@ fn run_read(file: &[u8], h: Header, path: &[u8], out: &mut [u8]) -> Reply
     let mut letters = [0u8; 2048];
     let mut kept = [0u16; 2048];
     let mut counts = [0u8; 256];
-    let mut reached = [0u16; 2048];
     let mut gives = [0u16; 2048];
     let mut passes = [0u16; 2048];
     run_within(
@@ -182,7 +150,6 @@ fn run_read(file: &[u8], h: Header, path: &[u8], out: &mut [u8]) -> Reply
         &mut letters,
         &mut kept,
         &mut counts,
-        &mut reached,
         &mut gives,
         &mut passes,
     )

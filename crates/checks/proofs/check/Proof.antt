@@ -1,4 +1,4 @@
--- `checks::check` meets its contract: 20 is answered first, then 21, by the arriving versions of all arrays.
+-- `checks::check` meets its contract: 20 is answered first, then 21, by the reaching sets of all arrays.
 -- Assumes nothing.
 use mathlib.Core.Path.{_≡_, _∙_}
 use Prim.Native.Nat.{ℕ}
@@ -6,11 +6,31 @@ use native.Mathlib.Omega.{arith}
 use borrow.Author.Needs.{needs}
 use Rattle.labels.specs.Checks.{check21, programmerCheck}
 use Rattle.refusal.proofs.Checks.{fails, passes}
+use Rattle.refusal.specs.declared.Refusal.{Refusal}
+use Rattle.refusal.specs.declared.Verdict.{Verdict}
+use Rattle.refusal.specs.declared.Verdict.the-variants.{Passed, Failed}
 use Rattle.checks.proofs.check.Statement.{statement}
 use Rattle.checks.proofs.check.Tie as tie
 
+-- from each call to the one before
+abbrev start : tie.After-letters → tie.Start
+start l = l .before .before .before .before .before .before .before .before .before .before .before .before .before .before .before
+
+abbrev lettered : tie.After-reaching2 → tie.After-letters
+lettered r = r .before .before .before .before .before .before .before .before .before .before .before
+
+abbrev reached : tie.After-check-ambiguous → tie.After-reaching2
+reached c = c .before .before .before .before .before .before .before .before
+
 check-writes-requires : tie.Need-check-writes-requires
-check-writes-requires c κs = let p = c .before .before .before .before .before .before .before .before .pre in (p .0, p .1 .1 .1 .0)
+check-writes-requires c κs =
+    let p = c .before .before .before .before .before .before .before .before .pre in
+    (p .0, p .1 .1 .1 .0)
+
+-- ---- 20
+
+not-passed : {A : Type 0} {v : Verdict} {r : Refusal} → v ≡ Failed r → v ≡ Passed → A
+not-passed f e = absurd (let z : _≡_ {A = ℕ} 0 1 = cc in omega arith)
 
 enum-told : tie.Need-enum-told
 enum-told c = search needs
@@ -18,53 +38,57 @@ enum-told c = search needs
 returns : tie.Need-returns
 unfolding programmerCheck
 returns c =
-    let w = c .before .before .check-writes in
-    let s = c .before .before .before .before .before .before .before .before .before .before .before in
+    let f = c .enum-told .given .1 in
     record {
-      answers = fails (check21 (s .args .file .now)) (w .ensures) (c .enum-told .given .1);
-      size = s .pre .1 .1 .1 .1 .0;
-      reaches = λ e. absurd (let z : _≡_ {A = ℕ} 0 1 = cc (c .enum-told .given .1) in omega arith);
+      answers = fails (check21 (c .before .before .before .before .before .before .before .before .before .before .before .args .file .now)) (c .before .before .check-writes .ensures) f;
+      letters-are = not-passed f;
+      reaching-are = not-passed f;
     }
+
+-- ---- 21
 
 enum-told-2 : tie.Need-enum-told-2
 enum-told-2 c = search needs
 
-reached-requires : tie.Need-reached-requires
-reached-requires c κs = let p = c .before .before .before .before .before .before .before .before .before .before .before .before .before .before .pre in (p .0, (p .1 .0, (p .1 .1 .1 .1 .0, (p .1 .1 .1 .1 .1 .1 .0, p .1 .1 .1 .1 .1 .1 .1))))
+letters-requires : tie.Need-letters-requires
+letters-requires c κs =
+    let p = c .before .before .before .before .before .before .before .before .before .before .before .before .before .before .pre in
+    let q = p .1 .1 .1 in
+    (p .0, (p .1 .0, (q .0, (q .1 .0, (q .1 .1 .0, q .1 .1 .1 .1)))))
 
-arriving-requires : tie.Need-arriving-requires
-arriving-requires c κs =
-    let x = c .before .before .before .before .before .before .before .before .before .before in
-    let p = x .before .before .before .before .before .before .before .before .before .before .before .before .before .before .before .pre in
-    let q = p .1 .1 .1 .1 .1 in
-    (p .0, (p .1 .0, (p .1 .1 .0, (x .reached .ensures, (q .0, (x .reached .kept .1 .1 .1 .1 .0 ∙ q .1 .0, x .reached .kept .1 .1 .1 .1 .1 .0 ∙ q .1 .1))))))
+reaching-requires : tie.Need-reaching-requires
+reaching-requires c κs =
+    let l = c .before .before .before .before .before .before .before .before .before .before in
+    let p = start l .pre in
+    let q = p .1 .1 .1 in
+    (p .0, (p .1 .0, (p .1 .1 .0, (l .letters .ensures, (l .letters .kept .1 .1 .1 .1 .1 .0 ∙ q .1 .1 .0, (q .1 .1 .1 .0, l .letters .kept .1 .1 .1 .1 .1 .1 .0 ∙ q .1 .1 .1 .1))))))
 
 check-ambiguous-requires : tie.Need-check-ambiguous-requires
 check-ambiguous-requires c κs =
-    let y = c .before .before .before .before .before .before .before in
-    let p = y .before .before .before .before .before .before .before .before .before .before .before .before .before .before .before .before .before .before .before .before .before .before .before .before .before .before .pre in
-    (p .0, (p .1 .1 .1 .0, y .arriving .ensures))
+    let r = c .before .before .before .before .before .before .before in
+    let p = start (lettered r) .pre in
+    (p .0, (p .1 .1 .1 .0, r .reaching2 .ensures))
 
 same-length : tie.Need-same-length
-same-length c = c .before .before .before .before .before .before .before .before .before .before .before .before .before .before .before .before .before .before .before .reached .kept .1 .1 .1 .0
+same-length c = lettered (reached c) .letters .kept .1 .1 .1 .1 .0
 
 same-length-2 : tie.Need-same-length-2
-same-length-2 c = c .before .before .before .before .before .before .before .before .arriving .kept .1 .1 .1 .1 .1 .0
+same-length-2 c = reached c .reaching2 .kept .1 .1 .1 .1 .1 .0 ∙ lettered (reached c) .letters .kept .1 .1 .1 .1 .1 .0
 
 same-length-3 : tie.Need-same-length-3
-same-length-3 c = c .before .before .before .before .before .before .before .before .arriving .kept .1 .1 .1 .1 .1 .1 .0 ∙ c .before .before .before .before .before .before .before .before .before .before .before .before .before .before .before .before .before .before .before .reached .kept .1 .1 .1 .1 .0
+same-length-3 c = reached c .reaching2 .kept .1 .1 .1 .1 .1 .1 .0
 
 same-length-4 : tie.Need-same-length-4
-same-length-4 c = c .before .before .before .before .before .before .before .before .arriving .kept .1 .1 .1 .1 .1 .1 .1 .0 ∙ c .before .before .before .before .before .before .before .before .before .before .before .before .before .before .before .before .before .before .before .reached .kept .1 .1 .1 .1 .1 .0
+same-length-4 c = reached c .reaching2 .kept .1 .1 .1 .1 .1 .1 .1 .0 ∙ lettered (reached c) .letters .kept .1 .1 .1 .1 .1 .1 .0
 
 returns-2 : tie.Need-returns-2
 unfolding programmerCheck
 returns-2 c =
-    let x = c .before .before .before .before .before .before .before .before .before .before .before .before .before .before .before .before .before .before .before in
+    let l = lettered (reached c) in
     record {
-      answers = passes (x .before .before .before .before .before .before .check-writes .ensures) (x .before .before .before .before .enum-told2 .given .1) (c .check-ambiguous .ensures);
-      size = x .reached .ensures .size;
-      reaches = λ e. x .reached .ensures;
+      answers = passes (l .before .before .before .before .before .before .check-writes .ensures) (l .before .before .before .before .enum-told2 .given .1) (c .check-ambiguous .ensures);
+      letters-are = λ e. l .letters .ensures;
+      reaching-are = λ e. reached c .reaching2 .ensures;
     }
 
 pub check-spec : {M : Type 1} → statement M
@@ -75,8 +99,8 @@ check-spec =
     enum-told
     returns
     enum-told-2
-    reached-requires
-    arriving-requires
+    letters-requires
+    reaching-requires
     check-ambiguous-requires
     same-length
     same-length-2

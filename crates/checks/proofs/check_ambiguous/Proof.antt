@@ -14,10 +14,10 @@ use Rattle.checks.proofs.check_ambiguous.Statement.{statement}
 use Rattle.checks.proofs.check_ambiguous.Tie as tie
 
 abbrev Inv-loop : tie.InvT-loop
-Inv-loop file h uses arriving n v₀ v = Undecided (λ v. firstFailed (λ a. holds (not (isAmbiguous file a v)) (AmbiguousReference v a)) 0 (arrays file)) (vertices file) v
+Inv-loop file h uses reaching n v₀ v = Undecided (λ v. firstFailed (λ a. holds (not (isAmbiguous file a v)) (AmbiguousReference v a)) 0 (arrays file)) (vertices file) v
 
 abbrev μ-loop : tie.MeasureT-loop
-μ-loop file h uses arriving n v₀ v = n - v
+μ-loop file h uses reaching n v₀ v = n - v
 
 loop-holds : tie.Need-loop-holds Inv-loop μ-loop
 loop-holds c = scan-start _ _

@@ -18,10 +18,10 @@ use Rattle.checks.proofs.check_ambiguous_at.Statement.{statement}
 use Rattle.checks.proofs.check_ambiguous_at.Tie as tie
 
 abbrev Inv-loop : tie.InvT-loop
-Inv-loop file v uses arriving m a₀ a = Undecided (λ a. holds (not (isAmbiguous file a v)) (AmbiguousReference v a)) (arrays file) a
+Inv-loop file v uses reaching m a₀ a = Undecided (λ a. holds (not (isAmbiguous file a v)) (AmbiguousReference v a)) (arrays file) a
 
 abbrev μ-loop : tie.MeasureT-loop
-μ-loop file v uses arriving m a₀ a = m - a
+μ-loop file v uses reaching m a₀ a = m - a
 
 loop-holds : tie.Need-loop-holds Inv-loop μ-loop
 loop-holds c = scan-start _ _
@@ -53,7 +53,7 @@ mul-is-ambiguous-2 c = omega (arith, few (c .before))
 shared-slice-read-is-ambiguous-2 : tie.Need-shared-slice-read-is-ambiguous-2 Inv-loop μ-loop
 shared-slice-read-is-ambiguous-2 c =
     let s = c .before .before .before .before .before .before .before in
-    in-table (s .pre .0) (in-a (c .before .before)) (s .pre .1 .1 .0) (s .args .arriving .now) (s .pre .1 .1 .1 .size)
+    in-table (s .pre .0) (in-a (c .before .before)) (s .pre .1 .1 .0) (s .args .reaching .now) (s .pre .1 .1 .1 .size)
 
 is-ambiguous-requires : tie.Need-is-ambiguous-requires Inv-loop μ-loop
 is-ambiguous-requires c κs = search needs
@@ -62,7 +62,7 @@ is-ambiguous-requires c κs = search needs
 cell-is : (c : tie.In-loop Inv-loop μ-loop) →
     let s = c .before .before .before .before .before .args in
     let a = c .before .loop .a in
-    (has (getD (s .uses .now) (8 * s .v + a) 0) 0 && several (getD (s .arriving .now) (8 * s .v + a) 0)) ≡ isAmbiguous (s .file .now) a (s .v)
+    (has (getD (s .uses .now) (8 * s .v + a) 0) 0 && several (getD (s .reaching .now) (8 * s .v + a) 0)) ≡ isAmbiguous (s .file .now) a (s .v)
 cell-is c =
     let s = c .before .before .before .before .before in
     ambiguous-cell (s .pre .1 .0) (s .args .v) (s .pre .1 .1 .0) (c .before .loop .a) (in-a c) (s .pre .1 .1 .1)

@@ -55,7 +55,7 @@ returns : tie.Need-returns
 returns c =
     let k = c .before .before .before .before .before .before .before .before in
     let t = tabled k in
-    (ordered t .order .ensures, (t .tabulate .ensures .0, (t .tabulate .ensures .1, k .check .ensures)))
+    (ordered t .order .ensures, (t .tabulate .ensures .0, k .check .ensures))
 
 pub prepare-spec : {M : Type 1} → statement M
 prepare-spec =

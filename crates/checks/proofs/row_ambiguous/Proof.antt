@@ -14,10 +14,10 @@ use Rattle.checks.proofs.row_ambiguous.Statement.{statement}
 use Rattle.checks.proofs.row_ambiguous.Tie as tie
 
 abbrev Inv-loop : tie.InvT-loop
-Inv-loop uses arriving v any₀ a₀ any a = (a ≤ 8) × (any ≡ anyBelow (λ b. has (getD uses (8 * v + b) 0) 0 && several (getD arriving (8 * v + b) 0)) a)
+Inv-loop uses reaching v any₀ a₀ any a = (a ≤ 8) × (any ≡ anyBelow (λ b. has (getD uses (8 * v + b) 0) 0 && several (getD reaching (8 * v + b) 0)) a)
 
 abbrev μ-loop : tie.MeasureT-loop
-μ-loop uses arriving v any₀ a₀ any a = 8 - a
+μ-loop uses reaching v any₀ a₀ any a = 8 - a
 
 loop-holds : tie.Need-loop-holds Inv-loop μ-loop
 loop-holds c = (omega arith, sym (any-none _))

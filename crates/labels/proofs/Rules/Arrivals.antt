@@ -1,10 +1,10 @@
 -- Paths from the entry: which vertices they reach, and which vertex of a kind is the last on them.
 -- Assumes nothing.
-use mathlib.Core.Path.{_≡_, refl, ap, subst, _∙_}
+use mathlib.Core.Path.{_≡_, refl, ap, _∙_}
 use mathlib.Core.Bool.{Bool, true, false, not, cond}
 use mathlib.Core.List.{List, [], _∷_, _++_}
 use mathlib.Core.Logic.{_↔_, _⊎_, inl, inr, ⊎-elim}
-use mathlib.Core.Option.{Option, none, some, Option·none-ne-some}
+use mathlib.Core.Option.{Option, none, some}
 use Prim.Native.Nat.{ℕ}
 use lib.Dec.{T, eqb, lit<}
 use lib.Ieee.Bits.{is-true, is-false}
@@ -43,7 +43,8 @@ module _ (file : List ℕ) (ends : Ends (edgeBytes file) (vertices file)) where
       go [] e = inl e
       go (u ∷ us) p = inr (record { place = u; way = list-iff (edgeBytes file) (λ u. true) u v .1 (record { inner = us; joined = p .1; pass = all-pass us }); met = p .0 })
 
-  reached-next : (v w : ℕ) → T (isReached file v) → Edge (edgeBytes file) v w → T (isReached file w)
+  -- and so is each vertex that an edge leads to from there
+  pub reached-next : (v w : ℕ) → T (isReached file v) → Edge (edgeBytes file) v w → T (isReached file w)
   reached-next v w h e = from-entry w .1 (inr (⊎-elim
       (λ x. record { place = v; way = last e; met = x })
       (λ f. record { place = f .place; way = extend (f .way) tt e; met = f .met })
@@ -95,18 +96,12 @@ module _ (q : ℕ → Bool) (version : ℕ → ℕ) where
         step none l = here u v h (next (e .0) (l .0) (l .1))
         step (some k) f = f
 
-    -- some path from the entry to v has version k at its last vertex of the kind
-    pub last-exact : (v k : ℕ) → ((before : List ℕ) × ArrivesBy file before v × (lastVersion q version before ≡ some k)) ↔ Carried v k
-    last-exact v k = (
-      λ p. go (p .0) (p .1) (p .2),
-      λ f. let b = reached-exact file ends (f .place) .0 (f .met .0 .0) in
-          let l = list-iff (edgeBytes file) _ _ v .0 (f .way) in (
-            b .0 ++ f .place ∷ l .inner,
-            arrives-append file (b .0) (f .place) (l .inner) v (b .1) (l .joined),
-            last-some (b .0) (f .place) (l .inner) (f .met .0 .1) (l .pass) ∙ ap some (f .met .1),
-          ),
-    )
-      where
-        go : (before : List ℕ) → ArrivesBy file before v → lastVersion q version before ≡ some k → Carried v k
-        go [] p e = absurd (Option·none-ne-some k e)
-        go (u ∷ us) p e = subst (Last u v) e (last-of u us v (reached-exact file ends u .1 ([], p .0)) (p .1))
+    -- such a one is the last of the kind on some path from the entry to v
+    pub last-there : (v k : ℕ) → Carried v k → (before : List ℕ) × ArrivesBy file before v × (lastVersion q version before ≡ some k)
+    last-there v k f =
+        let b = reached-exact file ends (f .place) .0 (f .met .0 .0) in
+        let l = list-iff (edgeBytes file) _ _ v .0 (f .way) in (
+          b .0 ++ f .place ∷ l .inner,
+          arrives-append file (b .0) (f .place) (l .inner) v (b .1) (l .joined),
+          last-some (b .0) (f .place) (l .inner) (f .met .0 .1) (l .pass) ∙ ap some (f .met .1),
+        )

@@ -1,5 +1,6 @@
 -- Events: every version is below the width of a version set; tests of events, settled case by case.
 -- Assumes nothing.
+use mathlib.Core.Path.{_≡_, refl}
 use mathlib.Core.Bool.{_&&_, _||_}
 use mathlib.Core.List.{List}
 use Prim.Native.Nat.{ℕ, _<_}
@@ -12,7 +13,7 @@ use Rattle.routine.specs.declared.action.Action.{Action}
 use Rattle.routine.specs.declared.action.Action.the-variants.{Nothing, Reference, Remap, Unknown}
 use Rattle.routine.specs.Actions.{actionOf, action, actionByte}
 use Rattle.labels.specs.Events.{width, event, versionOf, version}
-use Rattle.routine.specs.Arrays.{kind, isArgument}
+use Rattle.routine.specs.Arrays.{kind, initial, isArgument}
 use Rattle.routine.specs.Layout.{entry, exit}
 use Rattle.labels.proofs.Rules.Proper.{Proper}
 
@@ -35,6 +36,11 @@ pub version-fits : (file : List ℕ) (a : ℕ) → Proper file a → (v : ℕ) �
 unfolding version event action
 version-fits file a proper v =
     at-cond InWidth (eqb v entry || (eqb v (exit file) && isArgument (kind file a))) (λ _. proper .initial-fits) (λ _. action-fits (actionByte file v a))
+
+-- entry labels every array as a remapping to its initial version
+pub entry-remaps : (file : List ℕ) (a : ℕ) → event file a entry ≡ Remap (initial file a)
+unfolding event
+entry-remaps file a = refl
 
 -- what holds of each kind of event holds of every event
 pub by-event : (P : Action → Type 0) → P Nothing → P (Reference Read) → P (Reference Define) → P (Reference Modify)

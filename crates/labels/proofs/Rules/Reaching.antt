@@ -22,7 +22,7 @@ use Rattle.routine.specs.Arrays.{kind, initial, isInOrInout}
 use Rattle.labels.proofs.Rules.Proper.{Proper}
 use Rattle.labels.specs.Reaching.{ArrivesBy, lastVersion, orInitial, Reaches, isReached, reachGives, reachPasses, reachSets, reachingOf}
 use Rattle.labels.specs.Uses.{Finds, isKept}
-use Rattle.labels.proofs.Rules.Arrivals.{reached-exact, last-none, Last, last-of, last-exact}
+use Rattle.labels.proofs.Rules.Arrivals.{reached-exact, last-none, Last, last-of, last-there}
 use Rattle.flow.proofs.Members.{member-cond, member-single}
 use Rattle.labels.proofs.Rules.Versions.{single-fits, versions-exact, versions-fit}
 
@@ -73,7 +73,7 @@ module _ (file : List ℕ) (a : ℕ) (proper : Proper file a) (v k : ℕ) where
     where
       kept : T (isKept file a (f .place)) → Reaches file a v k
       kept m =
-          let p = last-exact (isKept file a) (version file a) file (proper .ends) v k .1 (record { place = f .place; way = f .way; met = ((f .met .0 .0, m), f .met .1) }) in
+          let p = last-there (isKept file a) (version file a) file (proper .ends) v k (record { place = f .place; way = f .way; met = ((f .met .0 .0, m), f .met .1) }) in
           record { before = p .0; path = p .1; brings = ap (orInitial file a) (p .2) }
 
       first : (f .place ≡ entry) × T (isInOrInout (kind file a)) → T (not (isKept file a (f .place))) → Reaches file a v k

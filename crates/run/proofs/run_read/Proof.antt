@@ -29,11 +29,8 @@ slice-aggregate-run-within-7 c = search needs
 slice-aggregate-run-within-8 : tie.Need-slice-aggregate-run-within-8
 slice-aggregate-run-within-8 c = search needs
 
-slice-aggregate-run-within-9 : tie.Need-slice-aggregate-run-within-9
-slice-aggregate-run-within-9 c = search needs
-
 run-within-requires : tie.Need-run-within-requires
-run-within-requires c κs = (c .before .before .before .before .before .before .before .before .before .before .before .before .before .pre, (refl, (refl, (refl, (refl, (refl, (refl, (refl, (refl, refl)))))))))
+run-within-requires c κs = (c .before .before .before .before .before .before .before .before .before .before .before .before .pre, (refl, (refl, (refl, (refl, (refl, (refl, (refl, refl))))))))
 
 same-length : tie.Need-same-length
 same-length c = search needs
@@ -53,7 +50,6 @@ run-read-spec =
     slice-aggregate-run-within-6
     slice-aggregate-run-within-7
     slice-aggregate-run-within-8
-    slice-aggregate-run-within-9
     run-within-requires
     same-length
     returns)
