@@ -16,19 +16,18 @@ const EVERY: u16 = 0xffff;
 #[derive(Default)]
 pub struct Rounds {
     reached: usize,
-    arriving: usize,
     letters: usize,
     reaching: usize,
     kept: usize,
 }
 
 /// The heads of the columns.
-pub const HEADS: &str = "  reached arriving  letters reaching     kept";
+pub const HEADS: &str = "  reached  letters reaching     kept";
 
 impl fmt::Display for Rounds {
     fn fmt(&self, f: &mut fmt::Formatter) -> fmt::Result {
-        write!(f, "{:9}{:9}", self.reached, self.arriving)?;
-        write!(f, "{:9}{:9}{:9}", self.letters, self.reaching, self.kept)
+        write!(f, "{:9}{:9}", self.reached, self.letters)?;
+        write!(f, "{:9}{:9}", self.reaching, self.kept)
     }
 }
 
@@ -59,7 +58,6 @@ impl Rounds {
     pub fn most(self, other: Rounds) -> Rounds {
         Rounds {
             reached: self.reached.max(other.reached),
-            arriving: self.arriving.max(other.arriving),
             letters: self.letters.max(other.letters),
             reaching: self.reaching.max(other.reaching),
             kept: self.kept.max(other.kept),
@@ -68,8 +66,6 @@ impl Rounds {
 
     /// Counts the passes for one array with these labels.
     fn take(&mut self, array: &Array, labels: &[Option<Label>]) {
-        let (_, rounds) = array.arriving();
-        self.arriving = self.arriving.max(rounds);
         let (letters, rounds) = array.letters();
         self.letters = self.letters.max(rounds);
         let (reaching, rounds) = array.reaching(&letters);
@@ -168,16 +164,6 @@ impl Array<'_> {
 
     fn is_kept(&self, letters: &[Use], v: usize) -> bool {
         self.is_label(v) && letters[v] != Use::N
-    }
-
-    /// The versions of the last labels on paths from the entry.
-    fn arriving(&self) -> (Vec<u16>, usize) {
-        self.solve(false, |v| {
-            (
-                set_if(self.reached[v] == 1, self.version(v)),
-                set_if(!self.is_label(v), EVERY),
-            )
-        })
     }
 
     fn letters(&self) -> (Vec<Use>, usize) {
