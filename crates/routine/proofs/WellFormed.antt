@@ -21,14 +21,14 @@ use Rattle.routine.specs.Layout.{arrays, vertices, edges}
 use Rattle.routine.specs.Reader.{WellFormed}
 use Rattle.refusal.proofs.Checks.{parts, each-passed}
 
-pub record InLimits (r : ArrayRecord) : Type 0 where
+pub record ArrayLimits (r : ArrayRecord) : Type 0 where
   pub kind-known : r .kind ≤ 3
   pub some-version : 1 ≤ r .versions
   pub few-versions : r .versions ≤ 16
   pub initial-below : r .initial < r .versions
   pub last-zero : r .zero ≡ 0
 
-pub record Within (e : Edge) (n : ℕ) : Type 0 where
+pub record EdgeLimits (e : Edge) (n : ℕ) : Type 0 where
   pub from-below : e .from < n
   pub to-below : e .to < n
   pub to-other : e .to ≡ 0 → ⊥
@@ -67,7 +67,7 @@ passed-action file v a e =
 -- ---- the laws
 
 module _ {file : List ℕ} (w : WellFormed file) where
-  pub array-limits : {a : ℕ} → a < arrays file → InLimits (arrayOf file a)
+  pub array-limits : {a : ℕ} → a < arrays file → ArrayLimits (arrayOf file a)
   unfolding arrayCheck
   array-limits {a} in-a =
       let e = w .arrays-pass a in-a in
@@ -103,7 +103,7 @@ module _ {file : List ℕ} (w : WellFormed file) where
       (λ (some : 0 < b - a). true≢false (rw (remap, reference) at (passed-here in-v in-b .alike a (omega arith))))
       (eq-zero-or-pos (b - a))
 
-  pub edge-limits : {i : ℕ} → i < edges file → Within (edgeOf file i) (vertices file)
+  pub edge-limits : {i : ℕ} → i < edges file → EdgeLimits (edgeOf file i) (vertices file)
   unfolding edgeCheck
   edge-limits {i} in-i =
       let e = w .edges-pass i in-i in

@@ -14,7 +14,7 @@ use Rattle.routine.specs.Arrays.{initial}
 use Rattle.routine.specs.Edges.{edgeOf}
 use Rattle.routine.specs.Layout.{arrays, vertices, entry, exit, edges, edgesAt}
 use Rattle.routine.specs.Reader.{Laid, WellFormed}
-use Rattle.routine.proofs.WellFormed.{Within, array-limits, edge-limits}
+use Rattle.routine.proofs.WellFormed.{EdgeLimits, array-limits, edge-limits}
 use Rattle.labels.specs.Events.{width, edgeBytes}
 
 -- edges end below the vertex count, none enters the entry, none leaves the exit; the initial version is below the width of a set
@@ -42,7 +42,7 @@ edge-to file i = word-drop (edgesAt file) file (4 * i + 2) ∙ ap (word file) (o
 -- ---- what was read
 
 module _ (file : List ℕ) (w : WellFormed file) where
-  limits : (i : ℕ) → i < edgeCount (edgeBytes file) → Within (edgeOf file i) (vertices file)
+  limits : (i : ℕ) → i < edgeCount (edgeBytes file) → EdgeLimits (edgeOf file i) (vertices file)
   limits i h = edge-limits w (omega (arith, edge-count file (w .laid)))
 
   -- its edges are among its vertices
