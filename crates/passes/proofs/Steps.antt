@@ -50,6 +50,10 @@ pub single-none : (b : Bool) (k : ℕ) → eqb (cond b (2 ^ k) 0) 0 ≡ not b
 single-none true k = ne-eqb (2 ^ k) 0 (λ e. omega (arith, pow-pos k))
 single-none false k = refl
 
+-- where a set of one version stands nothing is passed, elsewhere every version
+single-passes : (b : Bool) (k : ℕ) → cond (eqb (cond b (2 ^ k) 0) 0) everyVersion 0 ≡ cond b 0 everyVersion
+single-passes b k = ap (λ (t : Bool). cond t everyVersion 0) (single-none b k) ∙ sym (cond-not b 0 everyVersion)
+
 module _ {file : List ℕ} (well : WellFormed file) where
   -- ---- reached vertices
 
@@ -81,13 +85,10 @@ module _ {file : List ℕ} (well : WellFormed file) where
   letter-sets g p h = cells-solved well (λ a v. useGives (event file a v)) (λ a v. usePasses (event file a v)) g p h
 
   -- away from the exit, and at it
-  letter-elsewhere : (a v : ℕ) → (v ≡ exit file → ⊥) → letterByte (letterOf (getD (useSets file a) v 0)) ≡ letterByte (useOf file a v)
+  letter-at : (a v : ℕ) {last : Bool} → eqb v (exit file) ≡ last
+      → letterByte (cond last (exitUse (kind file a)) (letterOf (getD (useSets file a) v 0))) ≡ letterByte (useOf file a v)
   unfolding useOf
-  letter-elsewhere a v h = ap (λ (b : Bool). letterByte (cond b (exitUse (kind file a)) (letterOf (getD (useSets file a) v 0)))) (sym (ne-eqb v (exit file) h))
-
-  letter-exit : (a : ℕ) → letterByte (exitUse (kind file a)) ≡ letterByte (useOf file a (exit file))
-  unfolding useOf
-  letter-exit a = ap (λ (b : Bool). letterByte (cond b (exitUse (kind file a)) (letterOf (getD (useSets file a) (exit file) 0)))) (sym (eq-eqb (exit file) (exit file) refl))
+  letter-at a v e = ap (λ (b : Bool). letterByte (cond b (exitUse (kind file a)) (letterOf (getD (useSets file a) v 0)))) (sym e)
 
   pub letters-are : {gives passes sets mid s : List ℕ} → UseGives file gives → Cells file (λ a v. usePasses (event file a v)) passes → Pass file true gives passes sets
       → mid ≡ table (λ i. letterByte (letterOf (getD sets i 0))) (length sets)
@@ -98,7 +99,7 @@ module _ {file : List ℕ} (well : WellFormed file) where
       cells-table well (λ i. letterByte (letterOf (getD sets i 0))) (found .size) e (λ a v in-a in-v. ap (λ (m : ℕ). letterByte (letterOf m)) (found .cells a v in-a in-v)) in
       subst (Letters file) (sym f)
       (cells-row well (λ a. letterByte (exitUse (kind file a))) (exit file) (omega (arith, well .laid .limits .two-vertices)) first
-      (λ a in-a. letter-exit a) (λ a v in-a away. letter-elsewhere a v away))
+      (λ a in-a. letter-at a (exit file) (eq-eqb (exit file) (exit file) refl)) (λ a v in-a away. letter-at a v (ne-eqb v (exit file) away)))
 
   -- ---- kept labels
 
@@ -118,8 +119,7 @@ module _ {file : List ℕ} (well : WellFormed file) where
 
     leaving-none : (a v : ℕ) → a < arrays file → v < vertices file → cond (eqb (leaving (8 * v + a)) 0) everyVersion 0 ≡ cond (isKept file a v) 0 everyVersion
     leaving-none a v in-a in-v =
-        ap (λ (x : ℕ). cond (eqb x 0) everyVersion 0) (leaving-at a v in-a in-v)
-        ∙ ap (λ (b : Bool). cond b everyVersion 0) (single-none (isKept file a v) (version file a v)) ∙ sym (cond-not (isKept file a v) 0 everyVersion)
+        ap (λ (x : ℕ). cond (eqb x 0) everyVersion 0) (leaving-at a v in-a in-v) ∙ single-passes (isKept file a v) (version file a v)
 
     -- ---- reaching sets
 
