@@ -20,7 +20,7 @@ use Rattle.sets.proofs.Laws.{bit-lt, bit-or, bit-and, has-zero, same-members}
 use Rattle.words.proofs.Tables.{at-set, zeros-at}
 use Rattle.flow.specs.Order.{Order}
 use Rattle.flow.specs.Paths.{last, next, edgeCount}
-use Rattle.flow.specs.Solver.{Leads, Holds, near, far, turn, handed, relaxed, swept, rounds, solution, Ends}
+use Rattle.flow.specs.Solver.{Leads, InSet, near, far, turn, handed, relaxed, swept, rounds, solution, Ends}
 use Rattle.flow.proofs.Members.{member-iff, member-or, member-and}
 use Rattle.flow.proofs.Paths.{extend}
 use Rattle.flow.proofs.Rounds.{natural-order, turn-lt, when, when-lt, turn-when, near-lt, swept-keeps, rounds-keeps}
@@ -31,10 +31,10 @@ use Rattle.flow.proofs.Rounds.{natural-order, turn-lt, when, when-lt, t
 or-gap : (a b k : ℕ) → bit (bitOr a b) k ≡ bit a k + (bit b k - bit a k)
 or-gap a b k = omega (arith, bit-or a b k)
 
--- every mask has a width
-width : (m : ℕ) → m < 2 ^ m
-width zero = omega arith
-width (suc m) = omega (arith, pow-suc 2 m, width m)
+-- every mask is below a power of two
+under-power : (m : ℕ) → m < 2 ^ m
+under-power zero = omega arith
+under-power (suc m) = omega (arith, pow-suc 2 m, under-power m)
 
 -- a mask is no smaller for a union
 pub or-le : (a b : ℕ) → a ≤ bitOr a b
@@ -44,7 +44,7 @@ or-le a b = omega (arith, or-add-and a b, and-le-r a b)
 pub or-subset : (a b : ℕ) → ((k : ℕ) → bit b k - bit a k ≡ 0) → bitOr a b ≡ a
 unfolding has
 or-subset a b h =
-    same-members (bitOr a b) (bitOr a b) a (width (bitOr a b)) (omega (arith, width (bitOr a b), or-le a b))
+    same-members (bitOr a b) (bitOr a b) a (under-power (bitOr a b)) (omega (arith, under-power (bitOr a b), or-le a b))
     (λ k _. ap (λ (x : ℕ). eqb x 1) (let e : bit (bitOr a b) k ≡ bit a k = omega (arith, or-gap a b k, h k) in e))
 
 -- tests that pass together are the same
@@ -58,8 +58,8 @@ together false false h k = refl
 alike : (a b : ℕ) → ((k : ℕ) → T (has a k) → T (has b k)) → ((k : ℕ) → T (has b k) → T (has a k)) → a ≡ b
 alike a b to from =
     same-members (suc (a + b)) a b
-    (omega (arith, width a, pow-lt {i = a} {j = suc (a + b)} (omega arith)))
-    (omega (arith, width b, pow-lt {i = b} {j = suc (a + b)} (omega arith)))
+    (omega (arith, under-power a, pow-lt {i = a} {j = suc (a + b)} (omega arith)))
+    (omega (arith, under-power b, pow-lt {i = b} {j = suc (a + b)} (omega arith)))
     (λ k _. together (has a k) (has b k) (to k) (from k))
 
 -- ---- lists of masks
@@ -148,22 +148,22 @@ module _ (es : List ℕ) (along : Bool) (gives passes : List ℕ) {order : List 
 
   -- ---- soundness: every member has a path
 
-  abbrev Sound : List ℕ → Type 0
-  Sound s = (v k : ℕ) → T (has (getD s v 0) k) → Holds es along gives passes v k
+  abbrev AllFound : List ℕ → Type 0
+  AllFound s = (v k : ℕ) → T (has (getD s v 0) k) → InSet es along gives passes v k
 
   -- what the far end hands on has a path from the near end
-  sound-handed : (s : List ℕ) → Sound s → (i k : ℕ) → i < edgeCount es → T (has (handed gives passes s (far es along i)) k) → Holds es along gives passes (near es along i) k
-  sound-handed s ih i k l h =
+  found-handed : (s : List ℕ) → AllFound s → (i k : ℕ) → i < edgeCount es → T (has (handed gives passes s (far es along i)) k) → InSet es along gives passes (near es along i) k
+  found-handed s ih i k l h =
       let p : ℕ → Bool = λ u. has (getD passes u 0) k in
       ⊎-elim
-      (λ g. record { giver = far es along i; way = leads-one es p i l along; given = g })
-      (λ g. let o = ih (far es along i) k (g .0) in record { giver = o .giver; way = leads-more es p i l along (o .giver) (g .1) (o .way); given = o .given })
+      (λ g. record { place = far es along i; way = leads-one es p i l along; met = g })
+      (λ g. let o = ih (far es along i) k (g .0) in record { place = o .place; way = leads-more es p i l along (o .place) (g .1) (o .way); met = o .met })
       (handed-iff gives passes s (far es along i) k .0 h)
 
-  sound : (n r : ℕ) → Sound (after n r)
-  sound n =
-      rounds-keeps ord along (relaxed es along gives passes) Sound
-      (λ s i l ih v k. at-set (λ u m. T (has m k) → Holds es along gives passes u k) s _ _ v (λ h. ⊎-elim (ih _ k) (sound-handed s ih i k l) (member-or _ _ k Iff·rfl Iff·rfl .0 h)) (ih v k))
+  found : (n r : ℕ) → AllFound (after n r)
+  found n =
+      rounds-keeps ord along (relaxed es along gives passes) AllFound
+      (λ s i l ih v k. at-set (λ u m. T (has m k) → InSet es along gives passes u k) s _ _ v (λ h. ⊎-elim (ih _ k) (found-handed s ih i k l) (member-or _ _ k Iff·rfl Iff·rfl .0 h)) (ih v k))
       (replicate n 0) (λ v k. simp (zeros-at, has-zero) (λ h. absurd h))
 
   -- ---- lanes: each is closed after as many rounds as vertices
@@ -274,11 +274,11 @@ module _ (es : List ℕ) (along : Bool) (gives passes : List ℕ) {order : List 
 
   module _ (n : ℕ) (ends : Ends es n) where
     -- the set of v holds k exactly if a path of one edge or more from v, through vertices that pass k, arrives at a vertex that gives k
-    exactly : (v k : ℕ) → T (has (getD (after n n) v 0) k) ↔ Holds es along gives passes v k
+    exactly : (v k : ℕ) → T (has (getD (after n n) v 0) k) ↔ InSet es along gives passes v k
     exactly v k =
         let s = after n n in (
-          sound n n v k,
-          λ h. complete gives passes s es k along (brought k s (closed k n ends)) v (h .giver) (h .way) (handed-iff gives passes s (h .giver) k .1 (inl (h .given))),
+          found n n v k,
+          λ h. complete gives passes s es k along (brought k s (closed k n ends)) v (h .place) (h .way) (handed-iff gives passes s (h .place) k .1 (inl (h .met))),
         )
 
     -- closed sets stay as they are
@@ -307,7 +307,7 @@ module _ (es : List ℕ) (along : Bool) (gives passes : List ℕ) where
 
   module _ (n : ℕ) (ends : Ends es n) where
     -- the set of v holds k exactly if a path of one edge or more from v, through vertices that pass k, arrives at a vertex that gives k
-    pub exact : (v k : ℕ) → T (has (getD (solution es along gives passes n) v 0) k) ↔ Holds es along gives passes v k
+    pub exact : (v k : ℕ) → T (has (getD (solution es along gives passes n) v 0) k) ↔ InSet es along gives passes v k
     unfolding solution
     exact = exactly es along gives passes (natural-order (edgeCount es)) n ends
 

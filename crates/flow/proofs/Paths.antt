@@ -1,4 +1,4 @@
--- Laws of paths: the two definitions are one, paths grow at either end, and a path is cut at its first or its last inner vertex of a kind.
+-- Laws of paths: the two definitions are one, paths grow at either end, and a path is cut at its first inner vertex of a kind.
 -- Assumes nothing.
 use mathlib.Core.Path.{subst}
 use mathlib.Core.Bool.{Bool, not, _&&_}
@@ -56,16 +56,6 @@ pub record Via (es : List ℕ) (p q before after : ℕ → Bool) (v w : ℕ) : T
 -- the same with one more edge in front
 ahead : {es : List ℕ} {p q before after : ℕ → Bool} {v u w : ℕ} → Edge es v u → T (before u) → Via es p q before after u w → Via es p q before after v w
 ahead e h s = record { vertex = s .vertex; passes = s .passes; meets = s .meets; arrives = next e h (s .arrives); leaves = s .leaves }
-
--- a path has no inner vertex that passes q, or is cut at the last one
-pub split-last : {es : List ℕ} {p : ℕ → Bool} {v w : ℕ} (q : ℕ → Bool) → Path es p v w
-    → Path es (λ u. p u && not (q u)) v w ⊎ Via es p q p (λ u. p u && not (q u)) v w
-split-last q (last e) = inl (last e)
-split-last {p} q (next {u} e h t) =
-    ⊎-elim
-    (λ s. ⊎-elim (λ m. inr (record { vertex = u; passes = h; meets = m; arrives = last e; leaves = s })) (λ m. inl (next e (and-i (p u) (not (q u)) h m) s)) (either (q u)))
-    (λ s. inr (ahead e h s))
-    (split-last q t)
 
 -- a path has no inner vertex that passes q, or is cut at the first one
 pub split-first : {es : List ℕ} {p : ℕ → Bool} {v w : ℕ} (q : ℕ → Bool) → Path es p v w

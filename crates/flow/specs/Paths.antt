@@ -52,3 +52,11 @@ pub record ListPath (es : List ℕ) (through : ℕ → Bool) (v w : ℕ) : Type 
   pub inner : List ℕ
   pub joined : Joined es v inner w
   pub pass : AllPass through inner
+
+-- ---- what a path arrives at
+
+-- a path of this kind from v arrives at a vertex of which something holds
+pub record Finds (Way : ℕ → ℕ → Type 0) (Met : ℕ → Type 0) (v : ℕ) : Type 0 where
+  pub place : ℕ
+  pub way : Way v place
+  pub met : Met place

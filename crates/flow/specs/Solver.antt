@@ -12,7 +12,7 @@ use lib.ListN.{length, getD, set, replicate}
 use Rattle.sets.specs.Sets.{has, minus}
 use Rattle.words.specs.Tables.{table, withRow}
 use Rattle.flow.specs.Order.{natural}
-use Rattle.flow.specs.Paths.{edgeCount, edgeFrom, edgeTo, Path}
+use Rattle.flow.specs.Paths.{edgeCount, edgeFrom, edgeTo, Path, Finds}
 
 -- ---- by paths: what a set holds
 
@@ -21,11 +21,9 @@ abbrev pub Leads : List ℕ → Bool → (ℕ → Bool) → ℕ → ℕ → Type
 Leads es true through v w = Path es through v w
 Leads es false through v w = Path es through w v
 
--- the set of v holds k: a vertex that gives k is led to
-pub record Holds (es : List ℕ) (along : Bool) (gives passes : List ℕ) (v k : ℕ) : Type 0 where
-  pub giver : ℕ
-  pub way : Leads es along (λ u. has (getD passes u 0) k) v giver
-  pub given : T (has (getD gives giver 0) k)
+-- k is in the set of v: a vertex that gives k is led to
+abbrev pub InSet : List ℕ → Bool → List ℕ → List ℕ → ℕ → ℕ → Type 0
+InSet es along gives passes v k = Finds (Leads es along (λ u. has (getD passes u 0) k)) (λ u. T (has (getD gives u 0) k)) v
 
 -- ---- by rounds: how it is computed
 

@@ -3,21 +3,18 @@
 use mathlib.Core.Path.{_≡_}
 use mathlib.Core.Bool.{Bool, _&&_}
 use mathlib.Core.List.{List}
-use mathlib.Core.Option.{some}
 use Prim.Native.Nat.{ℕ}
 use lib.Dec.{T}
 use Rattle.routine.specs.Actions.{isReference}
 use Rattle.sets.specs.Sets.{several}
 use Rattle.labels.specs.Events.{event, isLabel, version}
-use Rattle.labels.specs.Reaching.{ArrivesBy, lastVersion, reachingOf}
+use Rattle.labels.specs.Reaching.{lastVersion, BroughtBy, reachingOf}
 
 -- ---- by paths
 
 -- some path from the entry brings version k to v: it is that of the last label before v, dropped ones included
-pub record Brings (file : List ℕ) (a v k : ℕ) : Type 0 where
-  pub before : List ℕ
-  pub path : ArrivesBy file before v
-  pub last : lastVersion (isLabel file a) (version file a) before ≡ some k
+abbrev pub Brings : List ℕ → ℕ → ℕ → ℕ → Type 0
+Brings file a v k = BroughtBy file (lastVersion (isLabel file a) (version file a)) v k
 
 -- a reference to which two paths bring different versions
 pub record Ambiguous (file : List ℕ) (a v : ℕ) : Type 0 where

@@ -7,12 +7,12 @@ use Prim.Native.Nat.{ℕ, _^_}
 use lib.Bits.{bitOr}
 use lib.Dec.{T}
 use lib.ListN.{getD}
-use Rattle.flow.specs.Paths.{Path}
+use Rattle.flow.specs.Paths.{Path, Finds}
 use Rattle.flow.specs.Solver.{solution}
 use Rattle.labels.specs.declared.Use.{Use}
 use Rattle.labels.specs.declared.Use.the-variants.{N, D, R, W}
 use Rattle.labels.specs.Events.{everyVersion, edgeBytes, solvedSets, event, isLabel, version}
-use Rattle.labels.specs.Uses.{Finds, useOf, isKept, Leaves}
+use Rattle.labels.specs.Uses.{useOf, isKept, Leaves}
 
 -- the letters whose kept set goes on to the next label
 abbrev pub isNOrR : Use → Bool

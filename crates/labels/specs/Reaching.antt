@@ -9,12 +9,11 @@ use lib.Dec.{eqb}
 use lib.ListN.{getD}
 use Rattle.flow.specs.Paths.{Joined}
 use Rattle.flow.specs.Solver.{solution}
-use Rattle.routine.specs.Layout.{vertices, entry}
+use Rattle.routine.specs.Layout.{entry}
 use Rattle.sets.specs.Sets.{has}
-use Rattle.labels.specs.Events.{everyVersion, edgeBytes, version}
+use Rattle.labels.specs.Events.{everyVersion, edgeBytes, solvedSets, version}
 use Rattle.routine.specs.Arrays.{kind, initial, isInOrInout}
 use Rattle.labels.specs.Uses.{isKept}
-use Rattle.words.specs.Tables.{table}
 
 -- ---- by paths
 
@@ -38,20 +37,23 @@ abbrev pub orInitial : List ℕ → ℕ → Option ℕ → Option ℕ
 orInitial file a none = cond (isInOrInout (kind file a)) (some (initial file a)) none
 orInitial file a (some k) = some k
 
--- k is in the reaching set of v: some path from the entry to v has k as the leaving version of its last kept label before v;
--- also if no kept label lies before v there, k is the initial version and the array is in or inout
-pub record Reaches (file : List ℕ) (a v k : ℕ) : Type 0 where
+-- some path from the entry to v brings k, read off the vertices before v
+pub record BroughtBy (file : List ℕ) (read : List ℕ → Option ℕ) (v k : ℕ) : Type 0 where
   pub before : List ℕ
   pub path : ArrivesBy file before v
-  pub brings : orInitial file a (lastVersion (isKept file a) (version file a) before) ≡ some k
+  pub brings : read before ≡ some k
+
+-- k is in the reaching set of v: some path from the entry to v has k as the leaving version of its last kept label before v;
+-- also if no kept label lies before v there, k is the initial version and the array is in or inout
+abbrev pub Reaches : List ℕ → ℕ → ℕ → ℕ → Type 0
+Reaches file a v k = BroughtBy file (λ before. orInitial file a (lastVersion (isKept file a) (version file a) before)) v k
 
 -- ---- computed: first which vertices some path from the entry reaches
 
 -- bit 0 where a path of one edge or more from the entry arrives
 unfoldable pub reachedSets : List ℕ → List ℕ
 unfolding solution
-reachedSets file =
-    solution (edgeBytes file) false (table (λ v. cond (eqb v entry) 1 0) (vertices file)) (table (λ v. 1) (vertices file)) (vertices file)
+reachedSets file = solvedSets file false (λ v. cond (eqb v entry) 1 0) (λ v. 1)
 
 -- v is the entry, or some path from the entry arrives there
 unfoldable pub isReached : List ℕ → ℕ → Bool
@@ -72,8 +74,7 @@ reachPasses file a v = cond (isKept file a v) 0 everyVersion
 -- what reaches the vertices by paths of one edge or more
 unfoldable pub reachSets : List ℕ → ℕ → List ℕ
 unfolding solution reachGives reachPasses
-reachSets file a =
-    solution (edgeBytes file) false (table (reachGives file a) (vertices file)) (table (reachPasses file a) (vertices file)) (vertices file)
+reachSets file a = solvedSets file false (reachGives file a) (reachPasses file a)
 
 -- the entry's own set comes from the path of no edge
 unfoldable pub reachingOf : List ℕ → ℕ → ℕ → ℕ

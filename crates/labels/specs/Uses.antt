@@ -6,7 +6,7 @@ use mathlib.Core.List.{List}
 use Prim.Native.Nat.{ℕ}
 use lib.Dec.{T, eqb}
 use lib.ListN.{getD}
-use Rattle.flow.specs.Paths.{Path}
+use Rattle.flow.specs.Paths.{Path, Finds}
 use Rattle.flow.specs.Solver.{solution}
 use Rattle.routine.specs.Actions.{isReference, isRemap}
 use Rattle.routine.specs.Layout.{exit}
@@ -28,12 +28,6 @@ Segment es events v w = Path es (λ u. not (isRemap (events u))) v w
 -- a segment with no define before its end
 abbrev pub UndefinedSegment : List ℕ → (ℕ → Action) → ℕ → ℕ → Type 0
 UndefinedSegment es events v w = Path es (λ u. not (isRemap (events u)) && not (isDefine (events u))) v w
-
--- a path of this kind from v arrives at a vertex of which something holds
-pub record Finds (Way : ℕ → ℕ → Type 0) (Met : ℕ → Type 0) (v : ℕ) : Type 0 where
-  pub place : ℕ
-  pub way : Way v place
-  pub met : Met place
 
 -- some segment from v meets an event that passes the test
 abbrev pub Meets : List ℕ → ℕ → (Action → Bool) → ℕ → Type 0

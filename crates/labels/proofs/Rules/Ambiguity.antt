@@ -78,8 +78,8 @@ module _ (file : List ℕ) (a : ℕ) (proper : Proper file a) (v : ℕ) where
     -- the reaching set holds what paths bring
     brings-exact : (k : ℕ) → T (has (reachingOf file a v) k) ↔ Brings file a v k
     brings-exact k = Iff·trans (reaching-exact file a proper v k) (
-      λ r. record { before = r .before; path = r .path; last = sym (last-brings (r .before) (r .path)) ∙ r .brings },
-      λ b. record { before = b .before; path = b .path; brings = last-brings (b .before) (b .path) ∙ b .last },
+      λ r. record { before = r .before; path = r .path; brings = sym (last-brings (r .before) (r .path)) ∙ r .brings },
+      λ b. record { before = b .before; path = b .path; brings = last-brings (b .before) (b .path) ∙ b .brings },
     )
 
   -- a reference is ambiguous exactly if two paths from the entry bring different versions to it

@@ -8,7 +8,7 @@ use mathlib.Core.Option.{Option, none, some}
 use Prim.Native.Nat.{ℕ}
 use lib.Dec.{T, eqb, lit<}
 use lib.Ieee.Bits.{is-true, is-false}
-use Rattle.flow.specs.Paths.{Edge, Path, last, next, Joined, AllPass}
+use Rattle.flow.specs.Paths.{Edge, Path, last, next, Joined, AllPass, Finds}
 use Rattle.flow.specs.Solver.{Leads, Ends}
 use Rattle.words.proofs.Tests.{either, or-iff, eqb-iff}
 use Rattle.flow.proofs.Paths.{list-iff, extend}
@@ -17,7 +17,6 @@ use Rattle.sets.specs.Sets.{has}
 use Rattle.sets.proofs.Laws.{has-full-if}
 use Rattle.labels.specs.Events.{edgeBytes}
 use Rattle.labels.specs.Reaching.{ArrivesBy, orLast, lastVersion, reachedSets, isReached}
-use Rattle.labels.specs.Uses.{Finds}
 use Rattle.labels.proofs.Rules.Tables.{solved}
 
 all-pass : (us : List ℕ) → AllPass (λ u. true) us

@@ -10,7 +10,7 @@ use lib.Dec.{T, eqb, T-not, not-T}
 use lib.ListN.{getD}
 use lib.Pow.{pow-pos}
 use lib.Ieee.Bits.{is-false}
-use Rattle.flow.specs.Paths.{Edge, Joined}
+use Rattle.flow.specs.Paths.{Edge, Joined, Finds}
 use Rattle.flow.specs.Solver.{Leads}
 use Rattle.words.proofs.Tests.{at-cond, cond-not, either, or-iff, and-iff, eqb-iff}
 use Rattle.flow.proofs.Paths.{list-iff}
@@ -21,7 +21,7 @@ use Rattle.labels.specs.Events.{width, everyVersion, edgeBytes, event, v
 use Rattle.routine.specs.Arrays.{kind, initial, isInOrInout}
 use Rattle.labels.proofs.Rules.Proper.{Proper}
 use Rattle.labels.specs.Reaching.{ArrivesBy, lastVersion, orInitial, Reaches, isReached, reachGives, reachPasses, reachSets, reachingOf}
-use Rattle.labels.specs.Uses.{Finds, isKept}
+use Rattle.labels.specs.Uses.{isKept}
 use Rattle.labels.proofs.Rules.Arrivals.{reached-exact, last-none, Last, last-of, last-there}
 use Rattle.flow.proofs.Members.{member-cond, member-single}
 use Rattle.labels.proofs.Rules.Versions.{single-fits, versions-exact, versions-fit}

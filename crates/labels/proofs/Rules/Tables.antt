@@ -9,12 +9,11 @@ use native.Mathlib.Omega.{arith}
 use lib.Dec.{T, ltb, ltb→lt, nltb→le}
 use lib.ListN.{getD, List·getD-eq-default}
 use Rattle.sets.specs.Sets.{has}
-use Rattle.flow.specs.Paths.{Path, last, next}
+use Rattle.flow.specs.Paths.{Path, last, next, Finds}
 use Rattle.flow.specs.Solver.{Leads, Ends, solution}
 use Rattle.words.proofs.Tests.{either}
 use Rattle.flow.proofs.Paths.{path-ends}
 use Rattle.flow.proofs.Exact.{exact}
-use Rattle.labels.specs.Uses.{Finds}
 use Rattle.words.specs.Tables.{table}
 use Rattle.words.proofs.Tables.{table-length, table-at}
 
@@ -50,14 +49,14 @@ pub solved : (es : List ℕ) (along : Bool) (gives passes : ℕ → ℕ) (n : �
     → (v : ℕ) → T (has (getD (solution es along (table gives n) (table passes n) n) v 0) k) ↔ Finds (Leads es along through) Met v
 solved es along gives passes n ends through Met k given passed v = (
   λ h. let o = exact es along (table gives n) (table passes n) n ends v k .0 h in
-      let l = leads-ends ends _ along v (o .giver) (o .way) in
-      let m = given (o .giver) .0 (rw table-at at (o .given)) in
-      record { place = o .giver; way = leads-same ends along v _ (same (o .giver) m) (o .way); met = m },
+      let l = leads-ends ends _ along v (o .place) (o .way) in
+      let m = given (o .place) .0 (rw table-at at (o .met)) in
+      record { place = o .place; way = leads-same ends along v _ (same (o .place) m) (o .way); met = m },
   λ f. let l = leads-ends ends _ along v (f .place) (f .way) in
       exact es along (table gives n) (table passes n) n ends v k .1 (record {
-        giver = f .place;
+        place = f .place;
         way = leads-same ends along v _ (λ u l. sym (same (f .place) (f .met) u l)) (f .way);
-        given = rw table-at (given (f .place) .1 (f .met));
+        met = rw table-at (given (f .place) .1 (f .met));
       }),
 )
   where

@@ -8,7 +8,7 @@ use Prim.Native.Nat.{ℕ}
 use lib.Dec.{T, eqb}
 use lib.ListN.{getD}
 use lib.Ieee.Fits.{and-l}
-use Rattle.flow.specs.Paths.{Edge, Path, last, next}
+use Rattle.flow.specs.Paths.{Edge, Path, last, next, Finds}
 use Rattle.flow.proofs.Paths.{weaken, split-first}
 use Rattle.routine.specs.Actions.{isReference, isRemap}
 use Rattle.routine.specs.Layout.{vertices, exit}
@@ -19,7 +19,7 @@ use Rattle.labels.specs.declared.Use.the-variants.{N, D, R, W}
 use Rattle.labels.specs.Events.{edgeBytes, event, isRead, isDefine, isWrite, needsValue}
 use Rattle.routine.specs.Arrays.{kind}
 use Rattle.labels.proofs.Rules.Proper.{Proper}
-use Rattle.labels.specs.Uses.{Segment, UndefinedSegment, Finds, Meets, MeetsUndefined, Unused, Rule, exitUse, IsUse, useGives, usePasses, useSets, letterOf, useOf}
+use Rattle.labels.specs.Uses.{Segment, UndefinedSegment, Meets, MeetsUndefined, Unused, Rule, exitUse, IsUse, useGives, usePasses, useSets, letterOf, useOf}
 use Rattle.labels.proofs.Rules.Events.{by-event}
 use Rattle.labels.proofs.Rules.Tables.{solved}
 use Rattle.words.proofs.Tests.{or-left, eqb-iff}

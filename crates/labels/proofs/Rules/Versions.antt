@@ -14,7 +14,7 @@ use Rattle.routine.specs.Layout.{vertices}
 use Rattle.sets.specs.Sets.{has}
 use Rattle.sets.proofs.Laws.{has-full-if}
 use Rattle.labels.specs.Events.{width, everyVersion, edgeBytes, solvedSets, version}
-use Rattle.labels.specs.Uses.{Finds}
+use Rattle.flow.specs.Paths.{Finds}
 use Rattle.labels.proofs.Rules.Proper.{Proper}
 use Rattle.labels.proofs.Rules.Events.{version-fits}
 use Rattle.labels.proofs.Rules.Tables.{table-all, solved}
