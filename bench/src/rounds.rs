@@ -1,32 +1,37 @@
 //! How many rounds over the edges each pass of the planner takes, the last one, which alters
-//! nothing, included. A round takes the edges in place, in the order of [`ordered`]: those of a
-//! pass along them from the last to the first, those of a pass against them from the first to the
-//! last. It is a mirror of crates/flow/src/lib.rt: the library does not hand its rounds out.
+//! nothing, included. A round takes the edges in place: those of a pass along them from the last to
+//! the first, those of a pass against them from the first to the last. The letters take them by
+//! number; if that took more than a few rounds, the other passes take them as searches find them.
+//! It is a mirror of crates/flow, crates/solver and crates/passes/src/pass.rt: the library does not
+//! hand its rounds out, and passing over edges that would alter nothing does not change them.
 
 use std::fmt;
 
 use oracle::labels::{Label, Use, fixpoint};
 use oracle::routine::{Event, Kind, Reference, Routine};
 
-use crate::order::ordered;
+use crate::order::{Edge, by_search};
 
 const EVERY: u16 = 0xffff;
+
+/// A pass of so many rounds shows that the edges are numbered well.
+const FEW: usize = 4;
 
 /// The most rounds of a pass for any array: the library solves all arrays at once.
 #[derive(Default)]
 pub struct Rounds {
-    reached: usize,
     letters: usize,
+    reached: usize,
     reaching: usize,
     kept: usize,
 }
 
 /// The heads of the columns.
-pub const HEADS: &str = "  reached  letters reaching     kept";
+pub const HEADS: &str = "  letters  reached reaching     kept";
 
 impl fmt::Display for Rounds {
     fn fmt(&self, f: &mut fmt::Formatter) -> fmt::Result {
-        write!(f, "{:9}{:9}", self.reached, self.letters)?;
+        write!(f, "{:9}{:9}", self.letters, self.reached)?;
         write!(f, "{:9}{:9}", self.reaching, self.kept)
     }
 }
@@ -35,21 +40,24 @@ impl Rounds {
     /// The rounds of the passes on a routine; what they find is held against the oracle.
     pub fn of(routine: &Routine) -> Rounds {
         let vertices = routine.vertex_count();
-        let edges = ordered(&routine.edges().collect::<Vec<_>>(), vertices);
-        let (mut reached, rounds) = solve(&edges, false, vertices, |v| (u16::from(v == 0), 1));
-        reached[0] = 1;
+        let arrays: Vec<Array> = (0..routine.array_count())
+            .map(|index| Array::new(routine, index))
+            .collect();
+        let mut edges: Vec<Edge> = routine.edges().collect();
+        let letters: Vec<_> = arrays.iter().map(|array| array.letters(&edges)).collect();
         let mut most = Rounds {
-            reached: rounds,
+            letters: letters.iter().map(|(_, rounds)| *rounds).max().unwrap_or(0),
             ..Rounds::default()
         };
-        for (index, labels) in fixpoint::labels(routine).iter().enumerate() {
-            let array = Array {
-                edges: &edges,
-                reached: &reached,
-                events: (0..vertices).map(|v| routine.event(v, index)).collect(),
-                kind: routine.array(index).kind,
-            };
-            most.take(&array, labels);
+        if most.letters > FEW {
+            edges = by_search(&edges, vertices);
+        }
+        let (mut reached, rounds) = solve(&edges, false, vertices, |v| (u16::from(v == 0), 1));
+        reached[0] = 1;
+        most.reached = rounds;
+        let labels = fixpoint::labels(routine);
+        for ((array, (letters, _)), labels) in arrays.iter().zip(&letters).zip(&labels) {
+            most.take(array, &edges, &reached, letters, labels);
         }
         most
     }
@@ -57,20 +65,25 @@ impl Rounds {
     /// The most rounds of each pass on two routines.
     pub fn most(self, other: Rounds) -> Rounds {
         Rounds {
-            reached: self.reached.max(other.reached),
             letters: self.letters.max(other.letters),
+            reached: self.reached.max(other.reached),
             reaching: self.reaching.max(other.reaching),
             kept: self.kept.max(other.kept),
         }
     }
 
-    /// Counts the passes for one array with these labels.
-    fn take(&mut self, array: &Array, labels: &[Option<Label>]) {
-        let (letters, rounds) = array.letters();
-        self.letters = self.letters.max(rounds);
-        let (reaching, rounds) = array.reaching(&letters);
+    /// Counts the passes after the letters for one array with these labels.
+    fn take(
+        &mut self,
+        array: &Array,
+        edges: &[Edge],
+        reached: &[u16],
+        letters: &[Use],
+        labels: &[Option<Label>],
+    ) {
+        let (reaching, rounds) = array.reaching(edges, reached, letters);
         self.reaching = self.reaching.max(rounds);
-        let (kept, rounds) = array.kept(&letters);
+        let (kept, rounds) = array.kept(edges, letters);
         self.kept = self.kept.max(rounds);
         for (v, label) in labels.iter().enumerate() {
             if let Some(label) = label {
@@ -84,7 +97,7 @@ impl Rounds {
 /// The sets of a pass and its rounds over ordered edges, from what each vertex gives and passes:
 /// a set grows by what the far end of an edge gives, and by what that end holds and passes.
 fn solve(
-    edges: &[(usize, usize)],
+    edges: &[Edge],
     along: bool,
     vertices: usize,
     facts: impl Fn(usize) -> (u16, u16),
@@ -136,18 +149,27 @@ fn letter(facts: u16) -> Use {
 }
 
 /// One array of a routine.
-struct Array<'a> {
-    /// In their order.
-    edges: &'a [(usize, usize)],
-    /// 1 for each vertex that a path from the entry reaches.
-    reached: &'a [u16],
+struct Array {
     events: Vec<Event>,
     kind: Kind,
 }
 
-impl Array<'_> {
-    fn solve(&self, along: bool, facts: impl Fn(usize) -> (u16, u16)) -> (Vec<u16>, usize) {
-        solve(self.edges, along, self.events.len(), facts)
+impl Array {
+    fn new(routine: &Routine, index: usize) -> Array {
+        let vertices = 0..routine.vertex_count();
+        Array {
+            events: vertices.map(|v| routine.event(v, index)).collect(),
+            kind: routine.array(index).kind,
+        }
+    }
+
+    fn solve(
+        &self,
+        edges: &[Edge],
+        along: bool,
+        facts: impl Fn(usize) -> (u16, u16),
+    ) -> (Vec<u16>, usize) {
+        solve(edges, along, self.events.len(), facts)
     }
 
     /// A label's version as a set; empty without a label.
@@ -166,29 +188,30 @@ impl Array<'_> {
         self.is_label(v) && letters[v] != Use::N
     }
 
-    fn letters(&self) -> (Vec<Use>, usize) {
-        let (facts, rounds) = self.solve(true, |v| use_facts(self.events[v]));
+    fn letters(&self, edges: &[Edge]) -> (Vec<Use>, usize) {
+        let (facts, rounds) = self.solve(edges, true, |v| use_facts(self.events[v]));
         let mut letters: Vec<Use> = facts.into_iter().map(letter).collect();
         let exit = letters.len() - 1;
         letters[exit] = Use::at_exit(self.kind);
         (letters, rounds)
     }
 
-    fn reaching(&self, letters: &[Use]) -> (Vec<u16>, usize) {
+    /// `reached` has 1 for each vertex that a path from the entry reaches.
+    fn reaching(&self, edges: &[Edge], reached: &[u16], letters: &[Use]) -> (Vec<u16>, usize) {
         let initial = self.kind.brings_value();
-        let (mut sets, rounds) = self.solve(false, |v| {
+        let (mut sets, rounds) = self.solve(edges, false, |v| {
             let kept = self.is_kept(letters, v);
-            let given = self.reached[v] == 1 && (kept || v == 0 && initial);
+            let given = reached[v] == 1 && (kept || v == 0 && initial);
             (set_if(given, self.version(v)), set_if(!kept, EVERY))
         });
         sets[0] = set_if(initial, self.version(0));
         (sets, rounds)
     }
 
-    fn kept(&self, letters: &[Use]) -> (Vec<u16>, usize) {
+    fn kept(&self, edges: &[Edge], letters: &[Use]) -> (Vec<u16>, usize) {
         let leaving = |v| set_if(self.is_kept(letters, v), self.version(v));
         let open = |v: usize| matches!(letters[v], Use::N | Use::R);
-        let (mut sets, rounds) = self.solve(true, |v| {
+        let (mut sets, rounds) = self.solve(edges, true, |v| {
             (leaving(v), set_if(!self.is_label(v) || open(v), EVERY))
         });
         for (v, set) in sets.iter_mut().enumerate() {

@@ -218,7 +218,7 @@ fn check_ambiguous(file: &[u8], h: Header, uses: &[u16], reaching: &[u16]) -> Ve
 fn check(
     file: &[u8],
     h: Header,
-    order: &[u16],
+    order: &mut [u16],
     versions: &[u16],
     uses: &[u16],
     letters: &mut [u8],
@@ -234,13 +234,15 @@ fn check(
     requires { ⌜ length (now reaching) ≡ 8 * vertices (now file) ⌝ }
     requires { ⌜ length (now gives) ≡ 8 * vertices (now file) ⌝ }
     requires { ⌜ length (now passes) ≡ 8 * vertices (now file) ⌝ }
+    ensures { λ _. ⌜ EdgeOrder (now (file .entry)) (now (order .exit)) ⌝ }
     ensures { λ r. ⌜ Checked (now (file .entry)) r (now (letters .exit)) (now (reaching .exit)) ⌝ }
 {
     let writes = check_writes(file, h, uses);
     if let Verdict::Failed(_) = writes {
         return writes;
     }
-    tables::letters(file, h, order, uses, letters, reaching, passes);
+    let rounds = tables::letters(file, h, order, uses, letters, reaching, passes);
+    pass::reorder(file, h, order, rounds);
     tables::reaching(file, h, order, versions, letters, reaching, gives, passes);
     check_ambiguous(file, h, uses, reaching)
 }

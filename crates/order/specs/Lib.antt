@@ -1,2 +1,1 @@
-pub mod Falling
 pub mod Places

@@ -7,17 +7,33 @@ ghost use Rattle.labels.specs.Routines.{ReadAs, EdgeOrder};
 ghost use Rattle.passes.specs.Tables.{Pass};
 ghost use Rattle.routine.specs.Layout.{vertices, edges};
 
-// The order in which the passes take the edges.
+// A pass of so many rounds shows that the edges are numbered well.
+const FEW: usize = 4;
+
+// The order in which the first pass takes the edges: by their numbers.
 pub fn order(file: &[u8], h: Header, order: &mut [u16])
     requires { ⌜ ReadAs (now file) h ⌝ }
     requires { ⌜ length (now order) ≡ edges (now file) ⌝ }
     ensures { λ _. ⌜ EdgeOrder (now (file .entry)) (now (order .exit)) ⌝ }
 {
     let at = h.edges_at();
-    order::fill(&file[at..], order);
+    order::by_number(&file[at..], order);
 }
 
-// Fills in the sets by what each vertex gives and passes, along the edges or against them.
+// The order in which later passes take them: by searches, where one pass took more than a few rounds.
+pub fn reorder(file: &[u8], h: Header, order: &mut [u16], rounds: usize)
+    requires { ⌜ ReadAs (now file) h ⌝ }
+    requires { ⌜ EdgeOrder (now file) (now order) ⌝ }
+    ensures { λ _. ⌜ EdgeOrder (now (file .entry)) (now (order .exit)) ⌝ }
+{
+    if rounds <= FEW {
+        return;
+    }
+    let at = h.edges_at();
+    order::by_search(&file[at..], order);
+}
+
+// Fills in the sets by what each vertex gives and passes, along the edges or against them. Returns the number of rounds.
 pub fn solve(
     file: &[u8],
     h: Header,
@@ -26,7 +42,7 @@ pub fn solve(
     gives: &[u16],
     passes: &[u16],
     sets: &mut [u16],
-)
+) -> usize
     requires { ⌜ ReadAs (now file) h ⌝ }
     requires { ⌜ EdgeOrder (now file) (now order) ⌝ }
     requires { ⌜ length (now gives) ≡ 8 * vertices (now file) ⌝ }
@@ -35,5 +51,5 @@ pub fn solve(
     ensures { λ _. ⌜ Pass (now (file .entry)) along (now (gives .entry)) (now (passes .entry)) (now (sets .exit)) ⌝ }
 {
     let at = h.edges_at();
-    solver::solve(&file[at..], order, along, gives, passes, sets);
+    solver::solve(&file[at..], order, along, gives, passes, sets)
 }

@@ -33,7 +33,7 @@ fn reached(
     pass::solve(file, h, order, false, gives, passes, sets);
 }
 
-// The letters.
+// The letters. Returns the number of rounds of their pass.
 pub fn letters(
     file: &[u8],
     h: Header,
@@ -42,7 +42,7 @@ pub fn letters(
     letters: &mut [u8],
     sets: &mut [u16],
     passes: &mut [u16],
-)
+) -> usize
     requires { ⌜ ReadAs (now file) h ⌝ }
     requires { ⌜ EdgeOrder (now file) (now order) ⌝ }
     requires { ⌜ UseGives (now file) (now uses) ⌝ }
@@ -52,9 +52,10 @@ pub fn letters(
     ensures { λ _. ⌜ Letters (now (file .entry)) (now (letters .exit)) ⌝ }
 {
     uses::fill(uses, passes);
-    pass::solve(file, h, order, true, uses, passes, sets);
+    let rounds = pass::solve(file, h, order, true, uses, passes, sets);
     uses::write(sets, letters);
     uses::leave(file, h, letters);
+    rounds
 }
 
 // The reaching sets. `sets` first holds the table of reached vertices.

@@ -93,7 +93,7 @@ fn limits_have_their_counts() {
     }
     assert!(met.contains(&(2, 0)) && met.contains(&(256, 1024)));
     assert_eq!(counts(&limits::chain_from_entry()), (256, 508));
-    assert_eq!(counts(&limits::against_the_search()), (256, 1013));
+    assert_eq!(counts(&limits::chain_both_ways()), (256, 1013));
 }
 
 #[test]

@@ -14,10 +14,10 @@ use Rattle.checks.proofs.check.Tie as tie
 
 -- from each call to the one before
 abbrev start : tie.After-letters → tie.Start
-start l = l .before .before .before .before .before .before .before .before .before .before .before .before .before .before .before
+start l = l .before .before .before .before .before .before .before .before .before .before .before .before .before .before .before .before
 
 abbrev lettered : tie.After-reaching2 → tie.After-letters
-lettered r = r .before .before .before .before .before .before .before .before .before .before .before
+lettered r = r .before .before .before .before .before .before .before .before .before .before .before .before .before .before .before .before
 
 abbrev reached : tie.After-check-ambiguous → tie.After-reaching2
 reached c = c .before .before .before .before .before .before .before .before
@@ -39,11 +39,14 @@ returns : tie.Need-returns
 unfolding programmerCheck
 returns c =
     let f = c .enum-told .given .1 in
-    record {
-      answers = fails (check21 (c .before .before .before .before .before .before .before .before .before .before .before .args .file .now)) (c .before .before .check-writes .ensures) f;
-      letters-are = not-passed f;
-      reaching-are = not-passed f;
-    }
+    let s = c .before .before .before .before .before .before .before .before .before .before .before in (
+      s .pre .1 .0,
+      record {
+        answers = fails (check21 (s .args .file .now)) (c .before .before .check-writes .ensures) f;
+        letters-are = not-passed f;
+        reaching-are = not-passed f;
+      },
+    )
 
 -- ---- 21
 
@@ -52,16 +55,21 @@ enum-told-2 c = search needs
 
 letters-requires : tie.Need-letters-requires
 letters-requires c κs =
-    let p = c .before .before .before .before .before .before .before .before .before .before .before .before .before .before .pre in
+    let p = c .before .before .before .before .before .before .before .before .before .before .before .before .before .before .before .pre in
     let q = p .1 .1 .1 in
     (p .0, (p .1 .0, (q .0, (q .1 .0, (q .1 .1 .0, q .1 .1 .1 .1)))))
 
+reorder-requires : tie.Need-reorder-requires
+reorder-requires c κs =
+    let p = start (c .before .before .before .before .before .before .before) .pre in
+    (p .0, p .1 .0)
+
 reaching-requires : tie.Need-reaching-requires
 reaching-requires c κs =
-    let l = c .before .before .before .before .before .before .before .before .before .before in
+    let l = c .before .before .before .before .before .before .before .before .before .before .before .before .before .before .before in
     let p = start l .pre in
     let q = p .1 .1 .1 in
-    (p .0, (p .1 .0, (p .1 .1 .0, (l .letters .ensures, (l .letters .kept .1 .1 .1 .1 .1 .0 ∙ q .1 .1 .0, (q .1 .1 .1 .0, l .letters .kept .1 .1 .1 .1 .1 .1 .0 ∙ q .1 .1 .1 .1))))))
+    (p .0, (c .before .before .before .before .before .before .before .reorder .ensures, (p .1 .1 .0, (l .letters .ensures, (l .letters .kept .1 .1 .1 .1 .1 .0 ∙ q .1 .1 .0, (q .1 .1 .1 .0, l .letters .kept .1 .1 .1 .1 .1 .1 .0 ∙ q .1 .1 .1 .1))))))
 
 check-ambiguous-requires : tie.Need-check-ambiguous-requires
 check-ambiguous-requires c κs =
@@ -70,26 +78,32 @@ check-ambiguous-requires c κs =
     (p .0, (p .1 .1 .1 .0, r .reaching2 .ensures))
 
 same-length : tie.Need-same-length
-same-length c = lettered (reached c) .letters .kept .1 .1 .1 .1 .0
+same-length c = reached c .before .before .before .before .before .before .before .before .reorder .kept .1 .1 .0
 
 same-length-2 : tie.Need-same-length-2
-same-length-2 c = reached c .reaching2 .kept .1 .1 .1 .1 .1 .0 ∙ lettered (reached c) .letters .kept .1 .1 .1 .1 .1 .0
+same-length-2 c = lettered (reached c) .letters .kept .1 .1 .1 .1 .0
 
 same-length-3 : tie.Need-same-length-3
-same-length-3 c = reached c .reaching2 .kept .1 .1 .1 .1 .1 .1 .0
+same-length-3 c = reached c .reaching2 .kept .1 .1 .1 .1 .1 .0 ∙ lettered (reached c) .letters .kept .1 .1 .1 .1 .1 .0
 
 same-length-4 : tie.Need-same-length-4
-same-length-4 c = reached c .reaching2 .kept .1 .1 .1 .1 .1 .1 .1 .0 ∙ lettered (reached c) .letters .kept .1 .1 .1 .1 .1 .1 .0
+same-length-4 c = reached c .reaching2 .kept .1 .1 .1 .1 .1 .1 .0
+
+same-length-5 : tie.Need-same-length-5
+same-length-5 c = reached c .reaching2 .kept .1 .1 .1 .1 .1 .1 .1 .0 ∙ lettered (reached c) .letters .kept .1 .1 .1 .1 .1 .1 .0
 
 returns-2 : tie.Need-returns-2
 unfolding programmerCheck
 returns-2 c =
-    let l = lettered (reached c) in
-    record {
-      answers = passes (l .before .before .before .before .before .before .check-writes .ensures) (l .before .before .before .before .enum-told2 .given .1) (c .check-ambiguous .ensures);
-      letters-are = λ e. l .letters .ensures;
-      reaching-are = λ e. reached c .reaching2 .ensures;
-    }
+    let r = reached c in
+    let l = lettered r in (
+      r .before .before .before .before .before .before .before .before .reorder .ensures,
+      record {
+        answers = passes (l .before .before .before .before .before .before .before .check-writes .ensures) (l .before .before .before .before .before .enum-told2 .given .1) (c .check-ambiguous .ensures);
+        letters-are = λ e. l .letters .ensures;
+        reaching-are = λ e. r .reaching2 .ensures;
+      },
+    )
 
 pub check-spec : {M : Type 1} → statement M
 check-spec =
@@ -100,10 +114,12 @@ check-spec =
     returns
     enum-told-2
     letters-requires
+    reorder-requires
     reaching-requires
     check-ambiguous-requires
     same-length
     same-length-2
     same-length-3
     same-length-4
+    same-length-5
     returns-2)

@@ -1,5 +1,6 @@
 -- `prepare` meets its contract: the order and the tables of events are made, and 20 and 21 are answered by them.
 -- Assumes nothing.
+use mathlib.Core.Path.{_∙_}
 use Rattle.checks.proofs.prepare.Statement.{statement}
 use Rattle.checks.proofs.prepare.Tie as tie
 
@@ -31,31 +32,33 @@ check-requires c κs =
     (p .0, (f .order .ensures, (t .tabulate .ensures .0, (t .tabulate .ensures .1, p .1 .1 .1 .1))))
 
 same-length : tie.Need-same-length
-same-length c = ordered (tabled (c .before .before .before .before .before .before .before .before)) .order .kept .1 .1 .0
+same-length c =
+    let k = c .before .before .before .before .before .before .before .before .before .before in
+    k .check .kept .1 .1 .0 ∙ ordered (tabled k) .order .kept .1 .1 .0
 
 same-length-2 : tie.Need-same-length-2
-same-length-2 c = tabled (c .before .before .before .before .before .before .before .before) .tabulate .kept .1 .1 .0
+same-length-2 c = tabled (c .before .before .before .before .before .before .before .before .before .before) .tabulate .kept .1 .1 .0
 
 same-length-3 : tie.Need-same-length-3
-same-length-3 c = tabled (c .before .before .before .before .before .before .before .before) .tabulate .kept .1 .1 .1 .0
+same-length-3 c = tabled (c .before .before .before .before .before .before .before .before .before .before) .tabulate .kept .1 .1 .1 .0
 
 same-length-4 : tie.Need-same-length-4
-same-length-4 c = c .before .before .before .before .before .before .before .before .check .kept .1 .1 .1 .1 .1 .0
+same-length-4 c = c .before .before .before .before .before .before .before .before .before .before .check .kept .1 .1 .1 .1 .1 .0
 
 same-length-5 : tie.Need-same-length-5
-same-length-5 c = c .before .before .before .before .before .before .before .before .check .kept .1 .1 .1 .1 .1 .1 .0
+same-length-5 c = c .before .before .before .before .before .before .before .before .before .before .check .kept .1 .1 .1 .1 .1 .1 .0
 
 same-length-6 : tie.Need-same-length-6
-same-length-6 c = c .before .before .before .before .before .before .before .before .check .kept .1 .1 .1 .1 .1 .1 .1 .0
+same-length-6 c = c .before .before .before .before .before .before .before .before .before .before .check .kept .1 .1 .1 .1 .1 .1 .1 .0
 
 same-length-7 : tie.Need-same-length-7
-same-length-7 c = c .before .before .before .before .before .before .before .before .check .kept .1 .1 .1 .1 .1 .1 .1 .1 .0
+same-length-7 c = c .before .before .before .before .before .before .before .before .before .before .check .kept .1 .1 .1 .1 .1 .1 .1 .1 .0
 
 returns : tie.Need-returns
 returns c =
-    let k = c .before .before .before .before .before .before .before .before in
+    let k = c .before .before .before .before .before .before .before .before .before .before in
     let t = tabled k in
-    (ordered t .order .ensures, (t .tabulate .ensures .0, k .check .ensures))
+    (k .check .ensures .0, (t .tabulate .ensures .0, k .check .ensures .1))
 
 pub prepare-spec : {M : Type 1} → statement M
 prepare-spec =

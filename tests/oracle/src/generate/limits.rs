@@ -102,8 +102,8 @@ pub fn chain_from_entry() -> Draft {
 }
 
 /// `chain_from_entry` with edges to the next vertex and loops at each: a depth-first search settles
-/// the vertices by number too, and facts still travel one vertex a sweep.
-pub fn against_the_search() -> Draft {
+/// the vertices by number too, and facts travel one vertex a sweep in either order.
+pub fn chain_both_ways() -> Draft {
     let exit = MAX_VERTICES as u16 - 1;
     let mut edges = chain_from_entry().edges;
     edges.extend((2..exit).map(|vertex| (vertex, vertex)));
@@ -169,7 +169,7 @@ pub fn at_limits(rng: &mut Rng) -> Vec<Draft> {
         largest_plan(),
         largest_report(),
         chain_from_entry(),
-        against_the_search(),
+        chain_both_ways(),
         ring_of_labels(),
     ];
     drafts.extend(about_powers_of_two(rng));
