@@ -1,15 +1,13 @@
 -- Laws of the stamp that is held beside a state.
 -- Assumes nothing.
 use mathlib.Core.Path.{_≡_, refl, sym, ap, _∙_}
-use mathlib.Core.Bool.{Bool, true, false, not, _&&_, true≢false}
-use mathlib.Core.Logic.{inr}
+use mathlib.Core.Bool.{true, false, true≢false}
 use mathlib.Core.List.{List}
 use Prim.Native.Nat.{ℕ, _<_}
 use native.Mathlib.Omega.{arith}
 use lib.Dec.{T}
 use lib.ListN.{length, getD, set, length-set}
 use lib.Seq.{set-set, set-getD, getD-set-same}
-use Rattle.routine.specs.Arrays.{isArgument}
 use Rattle.labels.specs.declared.Use.{Use}
 use Rattle.routine.specs.Actions.{isReference, isRemap}
 use Rattle.routine.specs.declared.action.Access.{Access}
@@ -17,15 +15,15 @@ use Rattle.routine.specs.declared.action.Action.{Action}
 use Rattle.routine.specs.declared.action.Action.the-variants.{Nothing, Reference, Remap, Unknown}
 use Rattle.routine.specs.declared.array.ArrayRecord.{ArrayRecord}
 use Rattle.state.specs.declared.State.{State}
-use Rattle.state.specs.Cleaning.{cleaned}
-use Rattle.state.specs.Exit.{left}
+use Rattle.state.specs.Cleaning.{callers, cleaned}
 use Rattle.state.specs.Current.{currentStamp, stampBy, settled}
+use Rattle.state.specs.Moves.{moved}
 use Rattle.state.specs.References.{referenced}
 use Rattle.state.specs.Stamps.{stampAfter}
 use Rattle.state.specs.States.{hasCurrent, stampOf, Current}
-use Rattle.state.specs.Vertex.{labelled, visited, relabelled, Visits}
+use Rattle.state.specs.Vertex.{labelled, visited, relabelled}
 use Rattle.words.proofs.Tests.{at-cond, by-test}
-use Rattle.state.proofs.States.{below-current, current-as, moved-current}
+use Rattle.state.proofs.States.{below-current, current-as}
 
 module _ (stamp : ℕ) (s : State) where
   -- the other fields stay
@@ -35,7 +33,7 @@ module _ (stamp : ℕ) (s : State) where
   pub settled-copies : settled stamp s .copies ≡ s .copies
   settled-copies = at-cond (λ (r : State). r .copies ≡ s .copies) (hasCurrent s) (λ _. refl) (λ _. refl)
 
-  settled-length : length (settled stamp s .stamps) ≡ length (s .stamps)
+  pub settled-length : length (settled stamp s .stamps) ≡ length (s .stamps)
   settled-length = at-cond (λ (r : State). length (r .stamps) ≡ length (s .stamps)) (hasCurrent s) (λ _. length-set (s .stamps) (s .current) stamp) (λ _. refl)
 
 -- the stamp that a state has
@@ -81,11 +79,6 @@ module _ (r : ArrayRecord) (u : Use) (keep step stamp : ℕ) (s : State) where
   visited-is (Remap t) sixteen below = refl
   visited-is Unknown sixteen below = refl
 
--- ---- a version or none stays current
-
-pub settled-before : (stamp : ℕ) (s : State) → Current (settled stamp s) → Current s
-settled-before stamp s h = current-as (settled stamp s) s (settled-current stamp s) h
-
 module _ (r : ArrayRecord) (u : Use) (keep : ℕ) (s : State) where
   -- without a label nothing changes
   pub no-label : (x : Action) → isRemap x ≡ false → relabelled r x u keep s ≡ s
@@ -95,12 +88,12 @@ module _ (r : ArrayRecord) (u : Use) (keep : ℕ) (s : State) where
   no-label (Remap t) e = absurd (true≢false e)
   no-label Unknown e = refl
 
-  pub relabelled-current : (x : Action) → Visits x s → Current (relabelled r x u keep s)
-  unfolding labelled cleaned
-  relabelled-current Nothing v = v .current
-  relabelled-current (Reference x) v = v .current
-  relabelled-current (Remap t) v = moved-current u t s (v .current) (v .at-remap t refl)
-  relabelled-current Unknown v = v .current
+  -- a label, from what the code has
+  pub label-is : {x : Action} {t own : ℕ} {n : State} → x ≡ Remap t → own ≡ callers r → n ≡ cleaned own keep (moved u t s) → n ≡ relabelled r x u keep s
+  unfolding labelled
+  label-is {x} {t} is owned e = e ∙ ap (λ (o : ℕ). cleaned o keep (moved u t s)) owned ∙ ap (λ (y : Action). relabelled r y u keep s) (sym is)
 
-pub left-current : (r : ArrayRecord) (b : Bool) (s : State) → Current s → Current (left r b s)
-left-current r b s h = at-cond Current (b && not (isArgument (r .kind))) (λ _. inr refl) (λ _. h)
+-- ---- a version or none stays current
+
+pub settled-before : (stamp : ℕ) (s : State) → Current (settled stamp s) → Current s
+settled-before stamp s h = current-as (settled stamp s) s (settled-current stamp s) h

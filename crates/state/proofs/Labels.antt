@@ -41,7 +41,8 @@ cleared-keeps dead stamps (suc n) k h =
     (λ d. getD-set-other (cleared dead stamps n) n k 0 0 (λ e. true≢false (cc)) ∙ other)
     (λ d. other)
 
-current-has : (s : State) (k : ℕ) → has (currentSet s) k ≡ (hasCurrent s && eqb (s .current) k)
+-- whether a version is the current one
+pub current-has : (s : State) (k : ℕ) → has (currentSet s) k ≡ (hasCurrent s && eqb (s .current) k)
 current-has s k = has-cond (hasCurrent s) (2 ^ s .current) k ∙ ap (λ (b : Bool). hasCurrent s && b) (has-single (s .current) k)
 
 -- k is in the kept set, or current

@@ -1,3 +1,4 @@
+pub mod Carrying
 pub mod Current
 pub mod Fits
 pub mod Labels

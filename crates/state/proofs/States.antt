@@ -13,13 +13,13 @@ use lib.Dec.{eqb, ltb}
 use lib.ListN.{getD, set}
 use lib.Seq.{set-comm, set-getD}
 use Rattle.labels.specs.declared.Use.{Use}
-use Rattle.words.proofs.Tests.{at-cond, by-test, and-right, one-more}
+use Rattle.words.proofs.Tests.{by-test, and-right, one-more}
 use Rattle.sets.proofs.Laws.{has-minus, has-single, has-zero, minus-none, none-minus}
 use Rattle.sets.specs.Sets.{has, minus}
 use Rattle.state.specs.declared.State.{State}
-use Rattle.state.specs.States.{Current, nothing, hasCurrent, stampOf}
+use Rattle.state.specs.States.{Current, nothing, hasCurrent}
 use Rattle.state.specs.Cleaning.{currentSet, dying, cleared, cleaned}
-use Rattle.state.specs.Moves.{moves, isD, copiesStamp, targetStamp, moved}
+use Rattle.state.specs.Moves.{moves, isD, copiesStamp}
 
 -- a current copy is a version
 pub current-below : (s : State) → Current s → hasCurrent s ≡ true → s .current < 16
@@ -39,24 +39,8 @@ pub copies-current : (u : Use) (t : ℕ) (s : State) → copiesStamp u t s ≡ t
 unfolding copiesStamp
 copies-current u t s h = and-right (not (isD u)) _ (and-right (not (has (s .live) t)) _ (and-right (moves u t s) _ h))
 
-module _ (u : Use) (t : ℕ) (s : State) where
-  pub copied-below : Current s → copiesStamp u t s ≡ true → s .current < 16
-  copied-below current h = current-below s current (copies-current u t s h)
-
-  pub target-is : (copied live : Bool) → copied ≡ copiesStamp u t s → live ≡ has (s .live) t
-      → cond copied (stampOf s (s .current)) (cond live (stampOf s t) 0) ≡ targetStamp u t s
-  unfolding copiesStamp
-  target-is copied live e f = simp (e, f)
-
-  pub moved-is : (takes copied : Bool) (one count : ℕ) (stamps : List ℕ) → takes ≡ moves u t s → copied ≡ copiesStamp u t s → one ≡ 2 ^ t
-      → stamps ≡ set (s .stamps) t (targetStamp u t s) → count ≡ s .copies + cond copied 1 0
-      → cond takes (record { current = t; live = bitOr (s .live) one; stamps = stamps; copies = count }) s ≡ moved u t s
-  unfolding moved
-  moved-is takes copied one count stamps e f g h k = simp (e, k, f, g, h)
-
-  pub moved-current : Current s → t < 16 → Current (moved u t s)
-  unfolding moved
-  moved-current current below = at-cond Current (moves u t s) (λ _. inl below) (λ _. current)
+pub copied-below : (u : Use) (t : ℕ) (s : State) → Current s → copiesStamp u t s ≡ true → s .current < 16
+copied-below u t s current h = current-below s current (copies-current u t s h)
 
 -- one stamp more of those with x at one version
 pub with-more : (stamps new : List ℕ) (at k x : ℕ) → new ≡ cond (ltb at k) (set stamps at x) stamps

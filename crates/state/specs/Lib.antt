@@ -1,3 +1,4 @@
+pub mod Carrying
 pub mod Cleaning
 pub mod Current
 pub mod Exit

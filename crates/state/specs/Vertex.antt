@@ -2,6 +2,7 @@
 -- Assumes nothing.
 use mathlib.Core.Path.{_≡_}
 use Prim.Native.Nat.{ℕ, _<_}
+use lib.ListN.{length}
 use Rattle.labels.specs.declared.Use.{Use}
 use Rattle.routine.specs.declared.action.Action.{Action}
 use Rattle.routine.specs.declared.action.Action.the-variants.{Nothing, Reference, Remap, Unknown}
@@ -33,8 +34,13 @@ relabelled r (Reference x) u keep s = s
 relabelled r (Remap t) u keep s = labelled r u t keep s
 relabelled r Unknown u keep s = s
 
--- an array's state before an event: fields and versions within their limits
-pub record Visits (x : Action) (s : State) : Type 0 where
+-- an array's state before a label: a version or none is current, sixteen stamps, and a copy more can be counted
+pub record Ready (s : State) : Type 0 where
   pub current : Current s
+  pub sixteen : length (s .stamps) ≡ 16
   pub few-copies : s .copies < 65535
+
+-- and before an event, whose version is below 16
+pub record Visits (x : Action) (s : State) : Type 0 where
+  pub ready : Ready s
   pub at-remap : (t : ℕ) → x ≡ Remap t → t < 16

@@ -9,13 +9,14 @@ ghost use mathlib.Core.Bool.{true, cond};
 ghost use Prim.Native.Nat.{_+_, _<_};
 ghost use lib.ListN.{set};
 ghost use Rattle.labels.specs.Letters.{useOfByte};
+ghost use Rattle.state.specs.Carrying.{whole, targetBeside, stampBeside, shifted};
 ghost use Rattle.state.specs.Cleaning.{currentSet, callers, cleared, cleaned};
 ghost use Rattle.state.specs.Current.{currentStamp, settled, stampBy};
 ghost use Rattle.state.specs.Exit.{left};
-ghost use Rattle.state.specs.Moves.{moves, isD, copiesStamp, targetStamp, moved};
+ghost use Rattle.state.specs.Moves.{moves, isD, copiesStamp, moved};
 ghost use Rattle.state.specs.Start.{started};
 ghost use Rattle.state.specs.States.{hasCurrent, emptied, Current};
-ghost use Rattle.state.specs.Vertex.{relabelled, Visits};
+ghost use Rattle.state.specs.Vertex.{relabelled, Ready, Visits};
 
 // The current version, or 255 for none; the set of live versions; a stamp for each version; the copies counted.
 pub struct State {
@@ -23,6 +24,12 @@ pub struct State {
     pub live: u16,
     pub stamps: [u16; 16],
     pub copies: u16,
+}
+
+// A state as it is carried along the path: the stamp of its current copy stands beside it, and counts, whatever the state has in its place.
+pub struct Carried {
+    pub state: State,
+    pub stamp: u16,
 }
 
 // No current copy.
@@ -116,18 +123,16 @@ impl State {
         self.takes_up(u, t) & (!sets::member(self.live, t) & (!is_d(u) & self.has_current()))
     }
 
-    // The target's stamp.
-    fn target_stamp(self, u: Use, t: u8) -> u16
+    // The target's stamp, where the current copy has this one.
+    fn target_stamp(self, u: Use, t: u8, stamp: u16) -> u16
         requires { ⌜ t < 16 ⌝ }
-        requires { ⌜ Current self ⌝ }
-        ensures { λ r. ⌜ r ≡ targetStamp u t self ⌝ }
+        ensures { λ r. ⌜ r ≡ targetBeside u t stamp self ⌝ }
     {
         let copied = self.copies_stamp(u, t);
-        let current = self.current as usize;
-        let target = t as usize;
         if copied {
-            return self.stamps[current];
+            return stamp;
         }
+        let target = t as usize;
         let live = sets::member(self.live, t);
         if live {
             return self.stamps[target];
@@ -135,21 +140,30 @@ impl State {
         0
     }
 
-    // The move at a label of letter u and version t.
-    fn moved(self, u: Use, t: u8) -> State
+    // The stamp of the current copy after the move, where it had this one before.
+    fn next_stamp(self, u: Use, t: u8, stamp: u16) -> u16
         requires { ⌜ t < 16 ⌝ }
-        requires { ⌜ Current self ⌝ }
+        ensures { λ r. ⌜ r ≡ stampBeside u t stamp self ⌝ }
+    {
+        let takes = self.takes_up(u, t);
+        if !takes {
+            return stamp;
+        }
+        self.target_stamp(u, t, stamp)
+    }
+
+    // The move at a label of letter u and version t, but for the target's stamp.
+    fn shifted(self, u: Use, t: u8) -> State
+        requires { ⌜ t < 16 ⌝ }
         requires { ⌜ self .copies < 65535 ⌝ }
-        ensures { λ r. ⌜ r ≡ moved u t self ⌝ }
+        ensures { λ r. ⌜ r ≡ shifted u t self ⌝ }
     {
         let takes = self.takes_up(u, t);
         if !takes {
             return self;
         }
         let copied = self.copies_stamp(u, t);
-        let stamp = self.target_stamp(u, t);
-        let old = self.stamps;
-        let stamps = with(old, t as usize, stamp);
+        let stamps = self.stamps;
         let live = self.live | sets::single(t);
         let copies = counted(self.copies, copied);
         State {
@@ -234,38 +248,6 @@ fn clear(stamps: [u16; 16], dead: u16) -> [u16; 16]
     left
 }
 
-// A label: the move, then the cleaning. The letter is a byte of the table.
-pub fn labelled_by(s: State, letter: u8, t: u8, keep: u16, callers: u16) -> State
-    requires { ⌜ t < 16 ⌝ }
-    requires { ⌜ Current s ⌝ }
-    requires { ⌜ s .copies < 65535 ⌝ }
-    ensures { λ r. ⌜ r ≡ cleaned callers keep (moved (useOfByte letter) t s) ⌝ }
-{
-    s.moved(Use::of_letter(letter), t).cleaned(callers, keep)
-}
-
-// The same label on a state that is lent.
-pub fn step(s: &mut State, letter: u8, t: u8, keep: u16, callers: u16)
-    requires { ⌜ t < 16 ⌝ }
-    requires { ⌜ Current (now s) ⌝ }
-    requires { ⌜ now s .copies < 65535 ⌝ }
-    ensures { λ _. ⌜ now (s .exit) ≡ cleaned callers keep (moved (useOfByte letter) t (now (s .entry))) ⌝ }
-{
-    *s = labelled_by(*s, letter, t, keep, callers);
-}
-
-// The lent step, for a state by value.
-pub fn stepped(s: State, letter: u8, t: u8, keep: u16, callers: u16) -> State
-    requires { ⌜ t < 16 ⌝ }
-    requires { ⌜ Current s ⌝ }
-    requires { ⌜ s .copies < 65535 ⌝ }
-    ensures { λ r. ⌜ r ≡ cleaned callers keep (moved (useOfByte letter) t s) ⌝ }
-{
-    let mut next = s;
-    step(&mut next, letter, t, keep, callers);
-    next
-}
-
 // The stamp of the current copy, 0 if there is none.
 pub fn current_stamp(s: State) -> u16
     requires { ⌜ Current s ⌝ }
@@ -299,6 +281,39 @@ pub fn settled(s: State, stamp: u16) -> State
     }
 }
 
+// A label: the move, then the cleaning. The letter is a byte of the table.
+pub fn labelled_by(c: Carried, letter: u8, t: u8, keep: u16, callers: u16) -> Carried
+    requires { ⌜ t < 16 ⌝ }
+    requires { ⌜ Ready (whole c) ⌝ }
+    ensures { λ r. ⌜ whole r ≡ cleaned callers keep (moved (useOfByte letter) t (whole c)) ⌝ }
+{
+    let u = Use::of_letter(letter);
+    let s = settled(c.state, c.stamp);
+    let stamp = s.next_stamp(u, t, c.stamp);
+    let state = s.shifted(u, t).cleaned(callers, keep);
+    Carried { state, stamp }
+}
+
+// The same label on a state that is lent.
+pub fn step(c: &mut Carried, letter: u8, t: u8, keep: u16, callers: u16)
+    requires { ⌜ t < 16 ⌝ }
+    requires { ⌜ Ready (whole (now c)) ⌝ }
+    ensures { λ _. ⌜ whole (now (c .exit)) ≡ cleaned callers keep (moved (useOfByte letter) t (whole (now (c .entry)))) ⌝ }
+{
+    *c = labelled_by(*c, letter, t, keep, callers);
+}
+
+// The lent step, for a state by value.
+pub fn stepped(c: Carried, letter: u8, t: u8, keep: u16, callers: u16) -> Carried
+    requires { ⌜ t < 16 ⌝ }
+    requires { ⌜ Ready (whole c) ⌝ }
+    ensures { λ r. ⌜ whole r ≡ cleaned callers keep (moved (useOfByte letter) t (whole c)) ⌝ }
+{
+    let mut next = c;
+    step(&mut next, letter, t, keep, callers);
+    next
+}
+
 // The stamp of the current copy after an event that is no label: a define or modify gives the step number.
 pub fn stamp_after(x: Action, step: u16, stamp: u16) -> u16
     ensures { λ r. ⌜ r ≡ stampBy x step stamp ⌝ }
@@ -316,29 +331,33 @@ pub fn stamp_after(x: Action, step: u16, stamp: u16) -> u16
 }
 
 // One array at one vertex, by its event, letter and kept set, if it is a label.
-pub fn relabelled(s: State, r: ArrayRecord, x: Action, letter: u8, keep: u16) -> State
+pub fn relabelled(c: Carried, r: ArrayRecord, x: Action, letter: u8, keep: u16) -> Carried
     requires { ⌜ r .initial < 16 ⌝ }
-    requires { ⌜ Visits x s ⌝ }
-    ensures { λ n. ⌜ n ≡ relabelled r x (useOfByte letter) keep s ⌝ }
+    requires { ⌜ Visits x (whole c) ⌝ }
+    ensures { λ n. ⌜ whole n ≡ relabelled r x (useOfByte letter) keep (whole c) ⌝ }
 {
     match x {
-        Action::Nothing => s,
-        Action::Reference(_) => s,
-        Action::Remap(t) => stepped(s, letter, t, keep, callers_of(r)),
-        Action::Unknown => s,
+        Action::Nothing => c,
+        Action::Reference(_) => c,
+        Action::Remap(t) => stepped(c, letter, t, keep, callers_of(r)),
+        Action::Unknown => c,
     }
 }
 
 // At the exit local arrays lose all copies.
-pub fn leave(s: State, r: ArrayRecord, at_exit: bool) -> State
-    ensures { λ n. ⌜ n ≡ left r «at_exit» s ⌝ }
+pub fn leave(c: Carried, r: ArrayRecord, at_exit: bool) -> Carried
+    ensures { λ n. ⌜ whole n ≡ left r «at_exit» (whole c) ⌝ }
 {
     if !at_exit {
-        return s;
+        return c;
     }
     let argument = r.is_argument();
     if argument {
-        return s;
+        return c;
     }
-    empty(s.copies)
+    let s = c.state;
+    Carried {
+        state: empty(s.copies),
+        stamp: 0,
+    }
 }

@@ -1,25 +1,24 @@
 -- The arrays' states as they are held along the path: one more is filled in, and the references of one more array are made.
 -- Assumes nothing.
 use mathlib.Core.Path.{_≡_, refl, sym, ap, ap₂, subst, _∙_}
-use mathlib.Core.Bool.{Bool, false, _||_}
-use mathlib.Core.List.{List, _++_}
-use Prim.Native.Nat.{ℕ, _+_, _-_, _≤_, _<_}
+use mathlib.Core.Bool.{false, true≢false}
+use mathlib.Core.List.{List, [], _++_}
+use Prim.Native.Nat.{ℕ, zero, suc, _+_, _-_, _≤_, _<_}
 use native.Mathlib.Omega.{arith}
 use borrow.Author.Count.{below-more}
 use lib.ListN.{length, getD, set, take, drop, length-append, length-set}
 use lib.Seq.{getD-set-same, getD-set-other}
 use Rattle.labels.specs.Events.{event}
-use Rattle.routine.specs.Actions.{isRemap}
+use Rattle.routine.specs.Actions.{isReference}
 use Rattle.routine.specs.declared.action.Action.{Action}
-use Rattle.state.specs.Current.{currentStamp, stampBy, settled}
+use Rattle.routine.specs.declared.action.Action.the-variants.{Nothing, Reference, Remap, Unknown}
+use Rattle.state.specs.Current.{stampBy, settled}
 use Rattle.state.specs.declared.State.{State}
-use Rattle.state.proofs.Current.{settled-own}
 use Rattle.report.specs.Records.{recordsAt}
 use Rattle.report.specs.Bytes.{stateOf, recordsBytes}
 use Rattle.walk.specs.Walks.{Stands, Held, rowBytes, Referred}
-use Rattle.words.specs.Tables.{wrote}
+use Rattle.words.specs.Tables.{rows, wrote}
 use Rattle.words.proofs.Tables.{entries-next, rows-fit, rows-more}
-use Rattle.words.proofs.Tests.{neither}
 use Rattle.words.proofs.Written.{partFrom, write-more}
 
 -- ---- states
@@ -38,9 +37,9 @@ held-as {want} {want'} {m} {states} {versions} {stamps} same h = record {
 }
 
 -- one more state is filled in
-pub hold-more : {want : ℕ → State} {a stamp : ℕ} {states : List State} {versions stamps : List ℕ} {s : State} → Held want a states versions stamps
-    → a < 8 → s ≡ want a → stamp ≡ currentStamp s → Held want (a + 1) (set states a s) (set versions a (s .current)) (set stamps a stamp)
-hold-more {want} {a} {stamp} {states} {versions} {stamps} {s} h in-a is own = record {
+pub hold-more : {want : ℕ → State} {a : ℕ} {states : List State} {versions stamps : List ℕ} (s : State) (stamp : ℕ) → Held want a states versions stamps
+    → a < 8 → settled stamp s ≡ want a → Held want (a + 1) (set states a s) (set versions a (s .current)) (set stamps a stamp)
+hold-more {want} {a} {states} {versions} {stamps} s stamp h in-a is = record {
   states-sized = length-set states a s ∙ h .states-sized;
   versions-sized = length-set versions a (s .current) ∙ h .versions-sized;
   stamps-sized = length-set stamps a stamp ∙ h .stamps-sized;
@@ -49,11 +48,8 @@ hold-more {want} {a} {stamp} {states} {versions} {stamps} {s} h in-a is own = re
       (λ b in-b. let ne : b ≡ a → ⊥ = λ e. omega arith in
       stands-as (getD-set-other states a b s _ ne) (getD-set-other versions a b (s .current) 0 ne) (getD-set-other stamps a b stamp 0 ne) (h .stand b in-b))
       (stands-as (getD-set-same states a s _ (omega (arith, h .states-sized))) (getD-set-same versions a (s .current) 0 (omega (arith, h .versions-sized)))
-      (getD-set-same stamps a stamp 0 (omega (arith, h .stamps-sized))) new);
+      (getD-set-same stamps a stamp 0 (omega (arith, h .stamps-sized))) (record { is = is; version-is = refl }));
 }
-  where
-    new : Stands (want a) s (s .current) stamp
-    new = record { is = ap (λ (x : ℕ). settled x s) own ∙ settled-own s ∙ is; version-is = refl }
 
 -- the states and stamps from array a on are as they were
 pub record Untouched (a : ℕ) (states₀ : List State) (stamps₀ : List ℕ) (states : List State) (stamps : List ℕ) : Type 0 where
@@ -83,7 +79,7 @@ settling-more {stamps} {old} {new} {a} {s} h in-a is = record {
 
 -- ---- references
 
-pub referred-none : (file : List ℕ) (v step : ℕ) (versions before old : List ℕ) → length before ≡ 8 → Referred file v step versions before old 0 0 false before old
+pub referred-none : (file : List ℕ) (v step : ℕ) (versions before old : List ℕ) → length before ≡ 8 → Referred file v step versions before old 0 0 before old
 unfolding rowBytes
 referred-none file v step versions before old sized = record {
   length-is = refl;
@@ -91,7 +87,6 @@ referred-none file v step versions before old sized = record {
   sized = sized;
   served = λ b h. absurd (omega arith);
   others = λ b h. refl;
-  no-label = λ e b h. absurd (omega arith);
 }
 
 -- the row of a further array has room in the whole
@@ -101,8 +96,8 @@ pub row-fits : (file : List ℕ) (v step : ℕ) (versions before : List ℕ) {m 
 unfolding rowBytes
 row-fits file v step versions before {m} {n} h = rows-fit _ n m h
 
-module _ {file : List ℕ} {v step : ℕ} {versions before old : List ℕ} {m bytes : ℕ} {labels : Bool} {after new : List ℕ}
-    (r : Referred file v step versions before old m bytes labels after new) where
+module _ {file : List ℕ} {v step : ℕ} {versions before old : List ℕ} {m bytes : ℕ} {after new : List ℕ}
+    (r : Referred file v step versions before old m bytes after new) where
   abbrev pub row : ℕ → List ℕ
   row a = recordsBytes (recordsAt (event file a v) step a (getD versions a 0) (getD before a 0))
 
@@ -114,12 +109,12 @@ module _ {file : List ℕ} {v step : ℕ} {versions before old : List ℕ} {m by
     pub bytes-are : recordsBytes (recordsAt x step m (getD versions m 0) (getD after m 0)) ≡ row m
     bytes-are = ap₂ (λ (y : Action) (s : ℕ). recordsBytes (recordsAt y step m (getD versions m 0) s)) is (r .others m (omega arith))
 
-    pub referred-more : {size stamp : ℕ} {ys : List ℕ} {label : Bool} → m < 8
+    pub referred-more : {size stamp : ℕ} {ys : List ℕ} → m < 8
         → size ≡ length (recordsBytes (recordsAt x step m (getD versions m 0) (getD after m 0)))
         → ys ≡ wrote (partFrom new bytes) (recordsBytes (recordsAt x step m (getD versions m 0) (getD after m 0)))
-        → stamp ≡ stampBy x step (getD after m 0) → label ≡ isRemap x
-        → Referred file v step versions before old (m + 1) (bytes + size) (labels || label) (set after m stamp) (take bytes new ++ (ys ++ drop (length new - bytes) (drop bytes new)))
-    referred-more {size} {stamp} {ys} {label} in-m long written given labelled = record {
+        → stamp ≡ stampBy x step (getD after m 0)
+        → Referred file v step versions before old (m + 1) (bytes + size) (set after m stamp) (take bytes new ++ (ys ++ drop (length new - bytes) (drop bytes new)))
+    referred-more {size} {stamp} {ys} in-m long written given = record {
       length-is =
           ap₂ _+_ (r .length-is) (long ∙ ap length bytes-are) ∙ sym (length-append (rowBytes file v step versions before m) (row m)) ∙ ap length row-more;
       out-is =
@@ -130,7 +125,35 @@ module _ {file : List ℕ} {v step : ℕ} {versions before old : List ℕ} {m by
           entries-next 0 (λ b. stampBy (event file b v) step (getD before b 0)) after m (omega (arith, r .sized)) (r .served)
           (given ∙ ap₂ (λ (y : Action) (s : ℕ). stampBy y step s) is (r .others m (omega arith)));
       others = λ b h. getD-set-other after m b stamp 0 (λ e. omega arith) ∙ r .others b (omega arith);
-      no-label = λ e.
-          let p = neither labels label e in
-          below-more (λ b. isRemap (event file b v) ≡ false) m (r .no-label (p .0)) (ap isRemap (sym is) ∙ sym labelled ∙ p .1);
     }
+
+-- ---- a vertex without references
+
+no-record : (x : Action) (step a version stamp : ℕ) → isReference x ≡ false → recordsBytes (recordsAt x step a version stamp) ≡ []
+no-record Nothing step a version stamp e = refl
+no-record (Reference y) step a version stamp e = absurd (true≢false e)
+no-record (Remap t) step a version stamp e = refl
+no-record Unknown step a version stamp e = refl
+
+stamp-stays : (x : Action) (step stamp : ℕ) → isReference x ≡ false → stampBy x step stamp ≡ stamp
+stamp-stays Nothing step stamp e = refl
+stamp-stays (Reference y) step stamp e = absurd (true≢false e)
+stamp-stays (Remap t) step stamp e = refl
+stamp-stays Unknown step stamp e = refl
+
+module _ (file : List ℕ) (v step : ℕ) (versions before old : List ℕ) where
+  no-row : (m : ℕ) → ((b : ℕ) → b < m → isReference (event file b v) ≡ false) → rowBytes file v step versions before m ≡ []
+  unfolding rowBytes rows
+  no-row zero none = refl
+  no-row (suc m) none =
+      ap₂ _++_ (no-row m (λ b h. none b (omega arith))) (no-record (event file m v) step m (getD versions m 0) (getD before m 0) (none m (omega arith)))
+
+  pub nothing-referred : (m : ℕ) → length before ≡ 8 → ((b : ℕ) → b < m → isReference (event file b v) ≡ false)
+      → Referred file v step versions before old m 0 before old
+  nothing-referred m sized none = record {
+    length-is = ap length (sym (no-row m none));
+    out-is = ap (wrote old) (sym (no-row m none));
+    sized = sized;
+    served = λ b h. sym (stamp-stays (event file b v) step (getD before b 0) (none b h));
+    others = λ b h. refl;
+  }

@@ -1,7 +1,7 @@
 -- Following the path: what has been written, and how the arrays stand, after the first i vertices.
 -- Assumes nothing.
 use mathlib.Core.Path.{_≡_, refl, sym, ap, ap₂, subst, _∙_}
-use mathlib.Core.Bool.{Bool, false}
+use mathlib.Core.Bool.{Bool}
 use mathlib.Core.List.{List, _++_}
 use Prim.Native.Nat.{ℕ, _+_, _-_, _≤_, _<_}
 use native.Mathlib.Numerals.{add-one}
@@ -31,12 +31,12 @@ use Rattle.state.specs.States.{stampOf, Current}
 use Rattle.state.specs.Vertex.{labelled, visited, relabelled, Visits}
 use Rattle.state.specs.declared.State.{State}
 use Rattle.state.proofs.States.{current-as}
-use Rattle.state.proofs.Current.{settled-current, settled-copies, settled-before, seen-is, visited-is, no-label}
+use Rattle.state.proofs.Current.{settled-current, settled-copies, settled-length, settled-before, seen-is, visited-is, no-label}
 use Rattle.path.specs.Paths.{steps, vertexAt, pathCheck}
 use Rattle.report.specs.Records.{recordsAt}
 use Rattle.report.specs.Bytes.{stateOf, recordsBytes}
 use Rattle.demand.specs.Run.{stateAfter, runRecords}
-use Rattle.walk.specs.Walks.{Held, rowBytes, Referred, relabelledAt}
+use Rattle.walk.specs.Walks.{Held, rowBytes, Referred, Unlabelled, relabelledAt}
 use Rattle.walk.proofs.Bytes.{recordBytesAt, records-bytes}
 use Rattle.walk.proofs.Held.{held-as}
 use Rattle.demand.proofs.Demand.{state-fits, reference-below}
@@ -69,11 +69,11 @@ room file path {i} in-i fits =
 -- ---- one vertex
 
 -- an array's next state, from what the code has
-pub relabelled-is : (file : List ℕ) (a v : ℕ) {letter keep : ℕ} {r : ArrayRecord} {x : Action} {s s' t n : State} {ends : Bool} → r ≡ arrayOf file a
-    → x ≡ event file a v → letter ≡ letterByte (useOf file a v) → keep ≡ keptOf file a v → s ≡ s' → ends ≡ eqb v (exit file)
-    → t ≡ relabelled r x (useOfByte letter) keep s → n ≡ left r ends t → n ≡ relabelledAt file a v s'
+pub relabelled-is : (file : List ℕ) (a v : ℕ) (s : State) {letter keep : ℕ} {r : ArrayRecord} {x : Action} {t n : State} {ends : Bool} → r ≡ arrayOf file a
+    → x ≡ event file a v → letter ≡ letterByte (useOf file a v) → keep ≡ keptOf file a v → ends ≡ eqb v (exit file)
+    → t ≡ relabelled r x (useOfByte letter) keep s → n ≡ left r ends t → n ≡ relabelledAt file a v s
 unfolding relabelledAt
-relabelled-is file a v e1 e2 e3 e4 e5 e6 e7 e8 = e8 ∙ rw (e7, e1, e2, e3, letter-use, e4, e5, e6)
+relabelled-is file a v s e1 e2 e3 e4 e5 e6 e7 = e7 ∙ rw (e6, e1, e2, e3, letter-use, e4, e5)
 
 -- the states after the labels of vertex v, and the exit, from states and stamps before them
 abbrev pub relabelledFrom : List ℕ → ℕ → List State → List ℕ → ℕ → State
@@ -122,8 +122,7 @@ module _ (file path : List ℕ) (well : WellFormed file) (accepted : pathCheck f
   row-is = rows-same _ (recordBytesAt file path i) (arrays file) record-is
 
   -- once the references are made
-  module _ {old : List ℕ} {bytes : ℕ} {labels : Bool} {after new : List ℕ}
-      (r : Referred file v (i + 1) versions stamps old (arrays file) bytes labels after new) where
+  module _ {old : List ℕ} {bytes : ℕ} {after new : List ℕ} (r : Referred file v (i + 1) versions stamps old (arrays file) bytes after new) where
     module _ (b : ℕ) (in-b : b < arrays file) where
       abbrev after-b : State
       after-b = settled (getD after b 0) (stateOf states b)
@@ -137,8 +136,11 @@ module _ (file path : List ℕ) (well : WellFormed file) (accepted : pathCheck f
       pub visits-after : Visits (event file b v) after-b
       unfolding version
       visits-after = record {
-        current = current-as (stateAfter file path b i) after-b (sym current-same) (fits b in-b .current);
-        few-copies = omega (arith, copies-same, fits b in-b .copies);
+        ready = record {
+          current = current-as (stateAfter file path b i) after-b (sym current-same) (fits b in-b .current);
+          sixteen = settled-length (getD after b 0) (stateOf states b) ∙ sym (settled-length (getD stamps b 0) (stateOf states b)) ∙ sixteen b in-b;
+          few-copies = omega (arith, copies-same, fits b in-b .copies);
+        };
         at-remap = λ t g. subst (λ (x : Action). versionOf x < 16) g (version-fits file b (proper file well b in-b) v);
       }
 
@@ -155,19 +157,19 @@ module _ (file path : List ℕ) (well : WellFormed file) (accepted : pathCheck f
           ∙ ap (visited a x u keep (i + 1)) (is b in-b))
           ∙ ap (stateAfter file path b) (sym (add-one i))
 
-      unlabelled : labels ≡ false → eqb v (exit file) ≡ false → relabelledAt file b v after-b ≡ after-b
+      stays : Unlabelled file v → relabelledAt file b v after-b ≡ after-b
       unfolding relabelledAt labelled
-      unlabelled e f =
-          ap (λ (t : Bool). left (arrayOf file b) t (relabelled (arrayOf file b) (event file b v) (useOf file b v) (keptOf file b v) after-b)) f
-          ∙ no-label (arrayOf file b) (useOf file b v) (keptOf file b v) after-b (event file b v) (r .no-label e b in-b)
+      stays u =
+          ap (λ (t : Bool). left (arrayOf file b) t (relabelled (arrayOf file b) (event file b v) (useOf file b v) (keptOf file b v) after-b)) (u .inner)
+          ∙ no-label (arrayOf file b) (useOf file b v) (keptOf file b v) after-b (event file b v) (u .no-label b in-b)
 
     -- no array has a label, and the path is not at the exit
-    pub held-on : labels ≡ false → eqb v (exit file) ≡ false → Held (λ b. stateAfter file path b (i + 1)) (arrays file) states versions after
-    held-on e f = record {
+    pub held-on : Unlabelled file v → Held (λ b. stateAfter file path b (i + 1)) (arrays file) states versions after
+    held-on u = record {
       states-sized = held .states-sized;
       versions-sized = held .versions-sized;
       stamps-sized = r .sized;
-      stand = λ b in-b. record { is = sym (unlabelled b in-b e f) ∙ relabelled-next b in-b; version-is = held .stand b in-b .version-is };
+      stand = λ b in-b. record { is = sym (stays b in-b u) ∙ relabelled-next b in-b; version-is = held .stand b in-b .version-is };
     }
 
     pub held-labelled : {states' : List State} {versions' stamps' : List ℕ} → Held (relabelledFrom file v states after) (arrays file) states' versions' stamps'
@@ -177,7 +179,7 @@ module _ (file path : List ℕ) (well : WellFormed file) (accepted : pathCheck f
 -- the step is made
 module _ (file path : List ℕ) (well : WellFormed file) (accepted : pathCheck file path ≡ Passed) {old : List ℕ} {at i : ℕ}
     {states : List State} {versions stamps out : List ℕ} (in-i : i < steps path) (short : steps path ≤ 4096) (w : Walking file path old at i states versions stamps out)
-    {bytes : ℕ} {labels : Bool} {after new : List ℕ} (r : Referred file (vertexAt path i) (i + 1) versions stamps (partFrom out at) (arrays file) bytes labels after new) where
+    {bytes : ℕ} {after new : List ℕ} (r : Referred file (vertexAt path i) (i + 1) versions stamps (partFrom out at) (arrays file) bytes after new) where
   abbrev row : List ℕ
   row = rows (recordBytesAt file path i) (arrays file)
 

@@ -1,16 +1,16 @@
 -- What the functions that follow the path are handed, and what they leave.
 -- Assumes nothing.
 use mathlib.Core.Path.{_≡_}
-use mathlib.Core.Bool.{Bool, false}
+use mathlib.Core.Bool.{Bool, true, false, cond}
 use mathlib.Core.List.{List}
 use Prim.Native.Nat.{ℕ, _≤_, _<_}
 use lib.Dec.{eqb}
 use lib.ListN.{length, getD}
 use Rattle.labels.specs.Events.{event}
-use Rattle.routine.specs.Layout.{exit}
+use Rattle.routine.specs.Layout.{arrays, exit}
 use Rattle.labels.specs.Kept.{keptOf}
 use Rattle.labels.specs.Uses.{useOf}
-use Rattle.routine.specs.Actions.{isRemap}
+use Rattle.routine.specs.Actions.{action, isReference, isRemap}
 use Rattle.routine.specs.Arrays.{arrayOf}
 use Rattle.state.specs.Current.{stampBy, settled}
 use Rattle.state.specs.Exit.{left}
@@ -38,14 +38,28 @@ unfolding rows event
 rowBytes file v step versions stamps m =
     rows (λ a. recordsBytes (recordsAt (event file a v) step a (getD versions a 0) (getD stamps a 0))) m
 
--- the references of the first m arrays at vertex v: the records, the stamps after them, and whether no array has a label there
-pub record Referred (file : List ℕ) (v step : ℕ) (versions before old : List ℕ) (m bytes : ℕ) (labels : Bool) (after new : List ℕ) : Type 0 where
+-- the references of the first m arrays at vertex v: the records, and the stamps after them
+pub record Referred (file : List ℕ) (v step : ℕ) (versions before old : List ℕ) (m bytes : ℕ) (after new : List ℕ) : Type 0 where
   pub length-is : bytes ≡ length (rowBytes file v step versions before m)
   pub out-is : new ≡ wrote old (rowBytes file v step versions before m)
   pub sized : length after ≡ 8
   pub served : (b : ℕ) → b < m → getD after b 0 ≡ stampBy (event file b v) step (getD before b 0)
   pub others : (b : ℕ) → m ≤ b → getD after b 0 ≡ getD before b 0
-  pub no-label : labels ≡ false → (b : ℕ) → b < m → isRemap (event file b v) ≡ false
+
+-- the row of vertex v has no references, or no remappings
+abbrev pub OneSort : List ℕ → ℕ → Bool → Type 0
+OneSort file v remaps = (b : ℕ) → b < arrays file → cond remaps (isReference (action file v b)) (isRemap (action file v b)) ≡ false
+
+-- vertex v has no labels, and is neither entry nor exit
+pub record Unlabelled (file : List ℕ) (v : ℕ) : Type 0 where
+  pub inner : eqb v (exit file) ≡ false
+  pub as-read : (b : ℕ) → event file b v ≡ action file v b
+  pub no-label : (b : ℕ) → b < arrays file → isRemap (event file b v) ≡ false
+
+-- vertex v has no references, or no labels
+abbrev pub Labels : List ℕ → ℕ → Bool → Type 0
+Labels file v true = (b : ℕ) → b < arrays file → isReference (event file b v) ≡ false
+Labels file v false = Unlabelled file v
 
 -- an array's label at vertex v, and the exit
 unfoldable pub relabelledAt : List ℕ → ℕ → ℕ → State → State

@@ -2,9 +2,11 @@
 // report of an accepted path, and before that its length.
 use labels::event;
 use report::record::Record;
+use routine::action;
 use routine::array;
 use routine::array::ArrayRecord;
 use routine::header::Header;
+use state::Carried;
 use state::State;
 ghost use mathlib.Core.Path.{_≡_};
 ghost use Prim.Native.Nat.{ℕ, _≤_, _<_};
@@ -16,6 +18,7 @@ ghost use Rattle.routine.specs.Arrays.{arrayOf};
 ghost use Rattle.routine.specs.Layout.{arrays, vertices};
 ghost use Rattle.routine.specs.Reader.{WellFormed};
 ghost use Rattle.refusal.specs.declared.Verdict.the-variants.{Passed};
+ghost use Rattle.state.specs.Carrying.{whole};
 ghost use Rattle.state.specs.Current.{settled};
 ghost use Rattle.state.specs.Start.{started};
 ghost use Rattle.state.specs.States.{Current};
@@ -25,7 +28,7 @@ ghost use Rattle.report.specs.Bytes.{stateOf, recordsBytes};
 ghost use Rattle.report.specs.References.{referencesAt};
 ghost use Rattle.walk.specs.Report.{reportBytes, referencesOn, reportLength};
 ghost use Rattle.demand.specs.Run.{stateAfter, runRecords};
-ghost use Rattle.walk.specs.Walks.{Held, rowBytes, Referred, relabelledAt};
+ghost use Rattle.walk.specs.Walks.{Held, rowBytes, Referred, OneSort, Unlabelled, Labels, relabelledAt};
 ghost use Rattle.words.specs.Tables.{table, wrote};
 
 // How many references the path meets.
@@ -83,14 +86,79 @@ fn start_all(
     states
 }
 
-// What the references of a vertex leave: the bytes written, and whether the vertex has a label.
+// Whether the row of vertex v has remappings: the first action that is not 00 tells, since a row has references or remappings, never both.
+fn remaps(file: &[u8], h: Header, v: usize) -> bool
+    requires { ⌜ ReadAs (now file) h ⌝ }
+    requires { ⌜ v < vertices (now file) ⌝ }
+    ensures { λ r. ⌜ OneSort (now (file .entry)) v r ⌝ }
+{
+    let m = h.arrays;
+    let mut a = 0;
+    while a < m {
+        let x = action::at(file, h, v, a);
+        let reference = x.is_reference();
+        if reference {
+            return false;
+        }
+        let remap = x.is_remap();
+        if remap {
+            return true;
+        }
+        a += 1;
+    }
+    false
+}
+
+// Whether vertex v may have labels: it is the entry or the exit, or has remappings. Then it has no references, and else no labels.
+fn has_labels(file: &[u8], h: Header, v: usize) -> bool
+    requires { ⌜ ReadAs (now file) h ⌝ }
+    requires { ⌜ v < vertices (now file) ⌝ }
+    ensures { λ r. ⌜ Labels (now (file .entry)) v r ⌝ }
+{
+    let terminal = (v == 0) | (v == h.vertices - 1);
+    if terminal {
+        return true;
+    }
+    remaps(file, h, v)
+}
+
+// The references of vertex v, which has no labels: their records, and the stamps of the current copies. Returns the bytes written.
+fn refer(
+    file: &[u8],
+    h: Header,
+    v: usize,
+    step: usize,
+    versions: &[u8; ArrayRecord::MAX],
+    stamps: &mut [u16; ArrayRecord::MAX],
+    out: &mut [u8],
+) -> usize
+    requires { ⌜ ReadAs (now file) h ⌝ }
+    requires { ⌜ (v < vertices (now file)) × (step ≤ 4096) ⌝ }
+    requires { ⌜ Unlabelled (now file) v ⌝ }
+    requires { ⌜ length (now stamps) ≡ 8 ⌝ }
+    requires { ⌜ length (rowBytes (now file) v step (now versions) (now stamps) (arrays (now file))) ≤ length (now out) ⌝ }
+    ensures { λ r. ⌜ Referred (now (file .entry)) v step (now (versions .entry)) (now (stamps .entry)) (now (out .entry)) (arrays (now (file .entry))) r (now (stamps .exit)) (now (out .exit)) ⌝ }
+{
+    let m = h.arrays;
+    let mut bytes = 0;
+    let mut a = 0;
+    while a < m {
+        let x = action::at(file, h, v, a);
+        bytes += report::put(x, step, a, versions[a], stamps[a], &mut out[bytes..]);
+        stamps[a] = state::stamp_after(x, step as u16, stamps[a]);
+        a += 1;
+    }
+    bytes
+}
+
+// What a vertex leaves before its labels: the bytes written, and whether it may have labels.
 struct Row {
     bytes: usize,
     labels: bool,
 }
 
-// The references of vertex v: their records, and the stamps of the current copies.
-fn refer(
+// The references of vertex v, if it has no labels.
+fn serve(
     file: &[u8],
     h: Header,
     v: usize,
@@ -103,23 +171,18 @@ fn refer(
     requires { ⌜ (v < vertices (now file)) × (step ≤ 4096) ⌝ }
     requires { ⌜ length (now stamps) ≡ 8 ⌝ }
     requires { ⌜ length (rowBytes (now file) v step (now versions) (now stamps) (arrays (now file))) ≤ length (now out) ⌝ }
-    ensures { λ r. ⌜ Referred (now (file .entry)) v step (now (versions .entry)) (now (stamps .entry)) (now (out .entry)) (arrays (now (file .entry))) (r .bytes) (r .labels) (now (stamps .exit)) (now (out .exit)) ⌝ }
+    ensures { λ r. ⌜ Referred (now (file .entry)) v step (now (versions .entry)) (now (stamps .entry)) (now (out .entry)) (arrays (now (file .entry))) (r .bytes) (now (stamps .exit)) (now (out .exit)) ⌝ }
+    ensures { λ r. ⌜ Labels (now (file .entry)) v (r .labels) ⌝ }
 {
-    let m = h.arrays;
-    let mut bytes = 0;
-    let mut labels = false;
-    let mut a = 0;
-    while a < m {
-        let x = event::at(file, h, array::record_of(file, a), a, v);
-        bytes += report::put(x, step, a, versions[a], stamps[a], &mut out[bytes..]);
-        stamps[a] = state::stamp_after(x, step as u16, stamps[a]);
-        labels = labels | event::is_label(x);
-        a += 1;
+    let labels = has_labels(file, h, v);
+    if labels {
+        return Row { bytes: 0, labels };
     }
+    let bytes = refer(file, h, v, step, versions, stamps, out);
     Row { bytes, labels }
 }
 
-// One array's state after its label at vertex v, if it has one, and the exit. The stamp is that of its current copy.
+// One array's state after its label at vertex v, if it has one, and the exit.
 fn relabel(
     file: &[u8],
     h: Header,
@@ -127,21 +190,19 @@ fn relabel(
     kept: &[u16],
     a: usize,
     v: usize,
-    s: State,
-    stamp: u16,
-) -> State
+    c: Carried,
+) -> Carried
     requires { ⌜ ReadAs (now file) h ⌝ }
     requires { ⌜ (a < arrays (now file)) × (v < vertices (now file)) ⌝ }
     requires { ⌜ LettersAndKept (now file) (now letters) (now kept) ⌝ }
-    requires { ⌜ Visits (event (now file) a v) (settled stamp s) ⌝ }
-    ensures { λ r. ⌜ r ≡ relabelledAt (now (file .entry)) a v (settled stamp s) ⌝ }
-    ensures { λ r. ⌜ Current r ⌝ }
+    requires { ⌜ Visits (event (now file) a v) (whole c) ⌝ }
+    ensures { λ r. ⌜ whole r ≡ relabelledAt (now (file .entry)) a v (whole c) ⌝ }
 {
     let r = array::record_of(file, a);
     let x = event::at(file, h, r, a, v);
     let place = flow::COLUMNS * v + a;
-    let t = state::relabelled(state::settled(s, stamp), r, x, letters[place], kept[place]);
-    state::leave(t, r, v == h.vertices - 1)
+    let labelled = state::relabelled(c, r, x, letters[place], kept[place]);
+    state::leave(labelled, r, v == h.vertices - 1)
 }
 
 // The states with the stamps of their current copies in them.
@@ -190,16 +251,19 @@ fn follow(
     let mut i = 0;
     while i < n {
         let v = path::vertex(path, i);
-        let row = refer(file, h, v, i + 1, &versions, &mut stamps, &mut out[at..]);
+        let row = serve(file, h, v, i + 1, &versions, &mut stamps, &mut out[at..]);
         at += row.bytes;
         i += 1;
-        if row.labels | (v == h.vertices - 1) {
+        if row.labels {
             let mut a = 0;
             while a < m {
                 let s = states[a];
-                let t = relabel(file, h, letters, kept, a, v, s, stamps[a]);
+                let stamp = stamps[a];
+                let c = Carried { state: s, stamp };
+                let next = relabel(file, h, letters, kept, a, v, c);
+                let t = next.state;
                 versions[a] = t.current;
-                stamps[a] = state::current_stamp(t);
+                stamps[a] = next.stamp;
                 states[a] = t;
                 a += 1;
             }

@@ -1,13 +1,10 @@
 -- `relabelled` meets its contract, event by event.
 -- Assumes nothing.
-use mathlib.Core.Path.{sym, ap, _∙_}
-use Prim.Native.Nat.{ℕ}
 use borrow.Author.Needs.{needs}
 use Rattle.labels.specs.Letters.{useOfByte}
-use Rattle.routine.specs.declared.action.Action.{Action}
-use Rattle.state.specs.Cleaning.{cleaned}
-use Rattle.state.specs.Moves.{moved}
-use Rattle.state.specs.Vertex.{labelled, relabelled}
+use Rattle.state.specs.Carrying.{whole}
+use Rattle.state.specs.Vertex.{labelled}
+use Rattle.state.proofs.Current.{label-is}
 use Rattle.state.proofs.relabelled.Statement.{statement}
 use Rattle.state.proofs.relabelled.Tie as tie
 
@@ -26,7 +23,7 @@ callers-of-requires c κs = search needs
 stepped-requires : tie.Need-stepped-requires
 stepped-requires c κs =
     let p = c .before .before .before .before .pre .1 in
-    (p .at-remap _ (c .before .before .x .given .1), (p .current, p .few-copies))
+    (p .at-remap _ (c .before .before .x .given .1), p .ready)
 
 enum-told-3 : tie.Need-enum-told-3
 enum-told-3 c = search needs
@@ -40,11 +37,10 @@ unfolding labelled
 returns-2 c = cc
 
 returns-3 : tie.Need-returns-3
-unfolding labelled
 returns-3 c =
-    let s = c .before .before .before .before .before .args in
-    c .stepped .ensures ∙ ap (λ (own : ℕ). cleaned own (s .keep) (moved (useOfByte (s .letter)) (c .before .before .before .x .given .0 .0) (s .s))) (c .before .callers-of .ensures)
-    ∙ ap (λ (y : Action). relabelled (s .r) y (useOfByte (s .letter)) (s .keep) (s .s)) (sym (c .before .before .before .x .given .1))
+    let b = c .before .before .before in
+    let s = b .before .before .args in
+    label-is (s .r) (useOfByte (s .letter)) (s .keep) (whole (s .c)) (b .x .given .1) (c .before .callers-of .ensures) (c .stepped .ensures)
 
 returns-4 : tie.Need-returns-4
 unfolding labelled

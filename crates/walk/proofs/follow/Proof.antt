@@ -5,17 +5,17 @@ use mathlib.Core.List.{List}
 use Prim.Native.Nat.{ℕ, _+_, _-_, _≤_, _<_}
 use native.Mathlib.Omega.{arith}
 use borrow.Author.Needs.{needs}
-use lib.Dec.{eqb}
 use lib.ListN.{length, getD}
 use Rattle.labels.specs.Events.{event}
 use Rattle.routine.specs.Layout.{arrays, vertices}
+use Rattle.state.specs.Carrying.{whole}
 use Rattle.state.specs.Current.{settled}
 use Rattle.state.specs.Vertex.{Visits}
+use Rattle.state.specs.declared.State.{State}
 use Rattle.path.specs.Paths.{steps, vertexAt}
 use Rattle.report.specs.Bytes.{stateOf, recordsBytes}
 use Rattle.demand.specs.Run.{runRecords}
-use Rattle.words.proofs.Tests.{neither}
-use Rattle.walk.specs.Walks.{Held, rowBytes, Referred, relabelledAt}
+use Rattle.walk.specs.Walks.{Held, rowBytes, Referred, Unlabelled, Labels, relabelledAt}
 use Rattle.walk.proofs.Held.{hold-more, Untouched, untouched-more}
 use Rattle.path.proofs.Paths.{Walk, walk, within-vertices}
 use Rattle.walk.proofs.Walking.{Walking, relabelledFrom, begins, doneAt, room, row-is, visits-after, held-on, held-labelled, steps-on, all-written, last-states, last-current}
@@ -90,64 +90,59 @@ loop-holds c =
 vertex-requires : tie.Need-vertex-requires Inv-loop2 μ-loop2 Inv-loop μ-loop
 vertex-requires c κs = in-i c
 
-add-refer : tie.Need-add-refer Inv-loop2 μ-loop2 Inv-loop μ-loop
-add-refer c = omega (arith, in-i (c .before), along (c .before) .short)
+add-serve : tie.Need-add-serve Inv-loop2 μ-loop2 Inv-loop μ-loop
+add-serve c = omega (arith, in-i (c .before), along (c .before) .short)
 
-sub-refer : tie.Need-sub-refer Inv-loop2 μ-loop2 Inv-loop μ-loop
-sub-refer c = omega (arith, has-room (c .before .before))
+sub-serve : tie.Need-sub-serve Inv-loop2 μ-loop2 Inv-loop μ-loop
+sub-serve c = omega (arith, has-room (c .before .before))
 
-part-refer-start : tie.Need-part-refer-start Inv-loop2 μ-loop2 Inv-loop μ-loop
-part-refer-start c = omega (arith, has-room (c .before .before))
+part-serve-start : tie.Need-part-serve-start Inv-loop2 μ-loop2 Inv-loop μ-loop
+part-serve-start c = omega (arith, has-room (c .before .before))
 
-part-refer-end : tie.Need-part-refer-end Inv-loop2 μ-loop2 Inv-loop μ-loop
-part-refer-end c = search needs
+part-serve-end : tie.Need-part-serve-end Inv-loop2 μ-loop2 Inv-loop μ-loop
+part-serve-end c = search needs
 
-refer-requires : tie.Need-refer-requires Inv-loop2 μ-loop2 Inv-loop μ-loop
-refer-requires c κs =
+serve-requires : tie.Need-serve-requires Inv-loop2 μ-loop2 Inv-loop μ-loop
+serve-requires c κs =
     let q = c .before .before .before in
     let t = turn q in
     (s t .pre .0, ((in-v q, omega (arith, in-i t, along t .short)), (l q .loop .inv .held .stamps-sized, omega (arith, has-room q, part-length (l q .loop .out) (l q .loop .at)))))
 
 -- once the references are made
-module _ (c : tie.After-refer Inv-loop2 μ-loop2 Inv-loop μ-loop) where
+module _ (c : tie.After-serve Inv-loop2 μ-loop2 Inv-loop μ-loop) where
   abbrev q : tie.After-vertex Inv-loop2 μ-loop2 Inv-loop μ-loop
   q = c .before .before .before .before
 
   abbrev after : List ℕ
-  after = c .refer .last .1 .1 .1 .1 .1 .0
+  after = c .serve .last .1 .1 .1 .1 .1 .0
 
-  referred : Referred (file (turn q)) (vertexAt (path (turn q)) (l q .loop .i)) (l q .loop .i + 1) (l q .loop .versions) (l q .loop .stamps) (partFrom (l q .loop .out) (l q .loop .at)) (arrays (file (turn q))) (c .refer .result .bytes) (c .refer .result .labels) after (c .refer .last .1 .1 .1 .1 .1 .1 .0)
+  referred : Referred (file (turn q)) (vertexAt (path (turn q)) (l q .loop .i)) (l q .loop .i + 1) (l q .loop .versions) (l q .loop .stamps) (partFrom (l q .loop .out) (l q .loop .at)) (arrays (file (turn q))) (c .serve .result .bytes) after (c .serve .last .1 .1 .1 .1 .1 .1 .0)
   referred =
-      subst (λ (v : ℕ). Referred (file (turn q)) v (l q .loop .i + 1) (l q .loop .versions) (l q .loop .stamps) (partFrom (l q .loop .out) (l q .loop .at)) (arrays (file (turn q))) (c .refer .result .bytes) (c .refer .result .labels) after (c .refer .last .1 .1 .1 .1 .1 .1 .0))
-      (q .vertex .ensures) (c .refer .ensures)
+      subst (λ (v : ℕ). Referred (file (turn q)) v (l q .loop .i + 1) (l q .loop .versions) (l q .loop .stamps) (partFrom (l q .loop .out) (l q .loop .at)) (arrays (file (turn q))) (c .serve .result .bytes) after (c .serve .last .1 .1 .1 .1 .1 .1 .0))
+      (q .vertex .ensures) (c .serve .ensures .0)
 
 add-at : tie.Need-add-at Inv-loop2 μ-loop2 Inv-loop μ-loop
 add-at c =
     let r = c .before .before .before in
-    omega (arith, r .refer .ensures .length-is, has-room (q r), same-room (turn (q r)), s (turn (q r)) .good)
+    omega (arith, r .serve .ensures .0 .length-is, has-room (q r), same-room (turn (q r)), s (turn (q r)) .good)
 
 add-i : tie.Need-add-i Inv-loop2 μ-loop2 Inv-loop μ-loop
 add-i c =
     let t = turn (q (c .before .before .before)) in
     omega (arith, in-i t, along t .short)
 
-sub-if1 : tie.Need-sub-if1 Inv-loop2 μ-loop2 Inv-loop μ-loop
-sub-if1 c =
-    let t = turn (q (c .before .before .before .before)) in
-    omega (arith, s t .pre .0 .heads .vertices-are, s t .pre .0 .well .laid .limits .two-vertices)
-
 -- ---- the labels of the vertex
 
 loop2-holds : tie.Need-loop2-holds Inv-loop2 μ-loop2 Inv-loop μ-loop
 loop2-holds c =
-    let r = c .before .before .before .before .before .before in
+    let r = c .before .before .before .before in
     let held = l (q r) .loop .inv .held in
-    (omega arith, record { states-sized = held .states-sized; versions-sized = held .versions-sized; stamps-sized = r .refer .ensures .sized; stand = λ b h. absurd (omega arith) }, record { states-same = λ b h. refl; stamps-same = λ b h. refl })
+    (omega arith, record { states-sized = held .states-sized; versions-sized = held .versions-sized; stamps-sized = r .serve .ensures .0 .sized; stand = λ b h. absurd (omega arith) }, record { states-same = λ b h. refl; stamps-same = λ b h. refl })
 
 -- what holds in a turn
 module _ (c : tie.In-loop2 Inv-loop2 μ-loop2 Inv-loop μ-loop) where
-  abbrev served : tie.After-refer Inv-loop2 μ-loop2 Inv-loop μ-loop
-  served = c .before .before .before .before .before .before .before .before
+  abbrev served : tie.After-serve Inv-loop2 μ-loop2 Inv-loop μ-loop
+  served = c .before .before .before .before .before .before
 
   abbrev begun : tie.In-loop Inv-loop2 μ-loop2 Inv-loop μ-loop
   begun = turn (q served)
@@ -177,11 +172,11 @@ mul-s c = omega (arith, small c)
 array-copy-out-s : tie.Need-array-copy-out-s Inv-loop2 μ-loop2 Inv-loop μ-loop
 array-copy-out-s c = omega (arith, small c)
 
-mul-relabel : tie.Need-mul-relabel Inv-loop2 μ-loop2 Inv-loop μ-loop
-mul-relabel c = omega (arith, small (c .before))
+mul-stamp : tie.Need-mul-stamp Inv-loop2 μ-loop2 Inv-loop μ-loop
+mul-stamp c = omega (arith, small (c .before))
 
-array-read-relabel : tie.Need-array-read-relabel Inv-loop2 μ-loop2 Inv-loop μ-loop
-array-read-relabel c = omega (arith, small (c .before))
+array-read-stamp : tie.Need-array-read-stamp Inv-loop2 μ-loop2 Inv-loop μ-loop
+array-read-stamp c = omega (arith, small (c .before))
 
 relabel-requires : tie.Need-relabel-requires Inv-loop2 μ-loop2 Inv-loop μ-loop
 relabel-requires c κs =
@@ -190,10 +185,7 @@ relabel-requires c κs =
     (s .pre .0, ((in-a t, in-v (q (served t))), (s .pre .1 .1 .0, visits t)))
 
 array-write-versions : tie.Need-array-write-versions Inv-loop2 μ-loop2 Inv-loop μ-loop
-array-write-versions c = omega (arith, small (c .before .before))
-
-current-stamp-requires : tie.Need-current-stamp-requires Inv-loop2 μ-loop2 Inv-loop μ-loop
-current-stamp-requires c κs = c .relabel .ensures .1
+array-write-versions c = omega (arith, small (c .before .before .before))
 
 mul-stamps : tie.Need-mul-stamps Inv-loop2 μ-loop2 Inv-loop μ-loop
 mul-stamps c = omega (arith, small (c .before .before .before))
@@ -217,10 +209,11 @@ loop2-again : tie.Need-loop2-again Inv-loop2 μ-loop2 Inv-loop μ-loop
 loop2-again c =
     let t = c .before .before .before in
     let inv = t .before .loop2 .inv in
-    let is = c .before .relabel .ensures .0 ∙ ap (relabelledAt (file (begun t)) (a t) (q (served t) .vertex .result)) (same t) in (
+    let next = c .before .relabel .result in
+    let is = subst (λ (w : State). whole next ≡ relabelledAt (file (begun t)) (a t) (q (served t) .vertex .result) w) (same t) (c .before .relabel .ensures) in (
       omega arith,
-      hold-more (inv .1) (small t) is (c .current-stamp .ensures),
-      untouched-more (c .before .relabel .result) (c .current-stamp .result) (inv .2),
+      hold-more (next .state) (next .stamp) (inv .1) (small t) is,
+      untouched-more (next .state) (next .stamp) (inv .2),
     )
 
 -- ---- the next vertex
@@ -230,7 +223,7 @@ loop-less c = omega arith
 
 loop-again : tie.Need-loop-again Inv-loop2 μ-loop2 Inv-loop μ-loop
 loop-again c =
-    let r = c .before .before .before .before .before .before .before .before in
+    let r = c .before .before .before .before .before .before in
     let t = turn (q r) in
     let g = l (q r) .loop in
     let m = c .before .loop2 in
@@ -248,16 +241,14 @@ loop-less-2 c = omega arith
 
 loop-again-2 : tie.Need-loop-again-2 Inv-loop2 μ-loop2 Inv-loop μ-loop
 loop-again-2 c =
-    let r = c .before .before .before .before .before .before in
+    let r = c .before .before .before .before in
     let t = turn (q r) in
     let g = l (q r) .loop in
     let well = s t .pre .0 .well in
     let accepted = s t .pre .1 .0 in
     let short = along t .short in
-    let no = neither (r .refer .result .labels) _ (c .if1 .left) in
-    let ends = ap₂ (λ (v n : ℕ). eqb v (n - 1)) (q r .vertex .ensures) (s t .pre .0 .heads .vertices-are) in
-    steps-on (file t) (path t) well accepted (in-i t) short (g .inv) (referred r)
-    (held-on (file t) (path t) well accepted (in-i t) short (g .inv .held) (referred r) (no .0) (sym ends ∙ no .1))
+    let none = subst (λ (v : ℕ). Unlabelled (file t) v) (q r .vertex .ensures) (subst (Labels (file t) (q r .vertex .result)) (c .if1 .left) (r .serve .ensures .1)) in
+    steps-on (file t) (path t) well accepted (in-i t) short (g .inv) (referred r) (held-on (file t) (path t) well accepted (in-i t) short (g .inv .held) (referred r) none)
 
 -- the path has been followed
 module _ (c : tie.After-loop Inv-loop2 μ-loop2 Inv-loop μ-loop) where
@@ -298,24 +289,22 @@ follow-spec =
     count-requires
     loop-holds
     vertex-requires
-    add-refer
-    sub-refer
-    part-refer-start
-    part-refer-end
-    refer-requires
+    add-serve
+    sub-serve
+    part-serve-start
+    part-serve-end
+    serve-requires
     add-at
     add-i
-    sub-if1
     loop2-holds
     loop-less
     loop-again
     mul-s
     array-copy-out-s
-    mul-relabel
-    array-read-relabel
+    mul-stamp
+    array-read-stamp
     relabel-requires
     array-write-versions
-    current-stamp-requires
     mul-stamps
     array-write-stamps
     mul-states

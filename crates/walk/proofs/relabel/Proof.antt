@@ -6,17 +6,14 @@ use Prim.Native.Nat.{ℕ, _+_, _-_, _*_, _<_}
 use native.Mathlib.Omega.{arith}
 use borrow.Author.Needs.{needs}
 use lib.Dec.{eqb}
-use lib.ListN.{length, getD}
-use Rattle.labels.specs.Events.{event}
-use Rattle.labels.specs.Letters.{useOfByte}
+use lib.ListN.{length}
 use Rattle.labels.proofs.Rules.Proper.{proper}
 use Rattle.passes.proofs.Cells.{few-cells, in-table}
 use Rattle.routine.specs.Layout.{vertices}
 use Rattle.routine.specs.declared.action.Action.{Action}
 use Rattle.routine.specs.declared.array.ArrayRecord.{ArrayRecord}
-use Rattle.state.specs.States.{Current}
+use Rattle.state.specs.Carrying.{whole}
 use Rattle.state.specs.Vertex.{Visits}
-use Rattle.state.proofs.Current.{settled-before, relabelled-current, left-current}
 use Rattle.walk.proofs.Walking.{relabelled-is}
 use Rattle.walk.proofs.relabel.Statement.{statement}
 use Rattle.walk.proofs.relabel.Tie as tie
@@ -44,48 +41,30 @@ mul-place c = omega (arith, few-places (c .before .before .before .before .befor
 add-place : tie.Need-add-place
 add-place c = omega (arith, few-places (c .before .before .before .before .before))
 
-settled-requires : tie.Need-settled-requires
-settled-requires c κs =
-    let s = c .before .before .before .before .before in
-    settled-before (s .args .stamp) (s .args .s) (s .pre .1 .1 .1 .current)
-
 shared-slice-read-relabelled : tie.Need-shared-slice-read-relabelled
 shared-slice-read-relabelled c =
-    let s = c .before .before .before .before .before .before .before in
+    let s = c .before .before .before .before .before .before in
     inside s (s .args .letters .now) (s .pre .1 .1 .0 .letters-are .size)
 
 mul-relabelled : tie.Need-mul-relabelled
-mul-relabelled c = omega (arith, few-places (c .before .before .before .before .before .before .before))
+mul-relabelled c = omega (arith, few-places (c .before .before .before .before .before .before))
 
 shared-slice-read-relabelled-2 : tie.Need-shared-slice-read-relabelled-2
 shared-slice-read-relabelled-2 c =
-    let s = c .before .before .before .before .before .before .before .before in
+    let s = c .before .before .before .before .before .before .before in
     inside s (s .args .kept .now) (s .pre .1 .1 .0 .kept-are .size)
-
--- the settled state, and the array's record and event
-module _ (c : tie.After-settled) where
-  abbrev start : tie.Start
-  start = c .before .before .before .before .before .before
-
-  abbrev r : ArrayRecord
-  r = c .before .before .record-of .result
-
-  abbrev x : Action
-  x = c .before .at .result
-
-  visits : Visits x (c .settled .result)
-  visits =
-      subst (λ (x : Action). Visits x (c .settled .result)) (sym (c .before .at .ensures))
-      (subst (Visits (event (start .args .file .now) (start .args .a) (start .args .v))) (sym (c .settled .ensures)) (start .pre .1 .1 .1))
 
 relabelled-requires : tie.Need-relabelled-requires
 relabelled-requires c κs =
     let q = c .before .before in
-    (subst (λ (r : ArrayRecord). r .initial < 16) (sym (q .before .before .record-of .ensures)) (proper _ (start q .pre .0 .well) _ (start q .pre .1 .0 .0) .initial-fits), visits q)
+    let s = q .before .before .before .before .before in (
+      subst (λ (r : ArrayRecord). r .initial < 16) (sym (q .before .record-of .ensures)) (proper _ (s .pre .0 .well) _ (s .pre .1 .0 .0) .initial-fits),
+      subst (λ (x : Action). Visits x (whole (s .args .c))) (sym (q .at .ensures)) (s .pre .1 .1 .1),
+    )
 
 sub-leave : tie.Need-sub-leave
 sub-leave c =
-    let s = start (c .before .before .before .before) in
+    let s = c .before .before .before .before .before .before .before .before .before in
     omega (arith, s .pre .0 .heads .vertices-are, s .pre .0 .well .laid .limits .two-vertices)
 
 leave-requires : tie.Need-leave-requires
@@ -94,18 +73,12 @@ leave-requires c κs = search needs
 returns : tie.Need-returns
 returns c =
     let q = c .before .before .before .before .before in
-    let s = start q in
+    let s = q .before .before .before .before .before in
     let g = s .args in
-    let heads = s .pre .0 .heads in
     let letter = s .pre .1 .1 .0 .letters-are .cells (g .a) (g .v) (s .pre .1 .0 .0) (s .pre .1 .0 .1) in
     let keep = s .pre .1 .1 .0 .kept-are .cells (g .a) (g .v) (s .pre .1 .0 .0) (s .pre .1 .0 .1) in
-    let ends = ap (λ (n : ℕ). eqb (g .v) (n - 1)) (heads .vertices-are) in
-    let t = c .before .before .relabelled in
-    let u = useOfByte (getD (g .letters .now) (place s) 0) in
-    let labelled = subst Current (sym (t .ensures)) (relabelled-current (r q) u (getD (g .kept .now) (place s) 0) (q .settled .result) (x q) (visits q)) in (
-      relabelled-is (g .file .now) (g .a) (g .v) (q .before .before .record-of .ensures) (q .before .at .ensures) letter keep (q .settled .ensures) ends (t .ensures) (c .leave .ensures),
-      subst Current (sym (c .leave .ensures)) (left-current (r q) (eqb (g .v) (g .h .vertices - 1)) (t .result) labelled),
-    )
+    let ends = ap (λ (n : ℕ). eqb (g .v) (n - 1)) (s .pre .0 .heads .vertices-are) in
+    relabelled-is (g .file .now) (g .a) (g .v) (whole (g .c)) (q .before .record-of .ensures) (q .at .ensures) letter keep ends (c .before .before .relabelled .ensures) (c .leave .ensures)
 
 pub relabel-spec : {M : Type 1} → statement M
 relabel-spec =
@@ -115,7 +88,6 @@ relabel-spec =
     at-requires
     mul-place
     add-place
-    settled-requires
     shared-slice-read-relabelled
     mul-relabelled
     shared-slice-read-relabelled-2

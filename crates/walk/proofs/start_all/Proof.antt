@@ -9,8 +9,10 @@ use Rattle.labels.proofs.Rules.Proper.{proper}
 use Rattle.routine.specs.Arrays.{arrayOf}
 use Rattle.routine.specs.Layout.{arrays}
 use Rattle.routine.specs.declared.array.ArrayRecord.{ArrayRecord}
+use Rattle.state.specs.Current.{settled}
 use Rattle.state.specs.Start.{started}
 use Rattle.state.specs.States.{Current}
+use Rattle.state.proofs.Current.{settled-own}
 use Rattle.state.proofs.Fits.{started-fits}
 use Rattle.walk.specs.Walks.{Held}
 use Rattle.walk.proofs.Held.{hold-more}
@@ -76,7 +78,9 @@ loop-less c = omega arith
 loop-again : tie.Need-loop-again Inv-loop μ-loop
 loop-again c =
     let t = c .before .before .before in
-    (omega arith, hold-more (t .before .loop .inv .1) (small t) (c .before .start .ensures ∙ ap started (c .before .before .record-of .ensures)) (c .current-stamp .ensures))
+    let s = c .before .start .result in
+    let own = ap (λ (x : ℕ). settled x s) (c .current-stamp .ensures) ∙ settled-own s in
+    (omega arith, hold-more s (c .current-stamp .result) (t .before .loop .inv .1) (small t) (own ∙ c .before .start .ensures ∙ ap started (c .before .before .record-of .ensures)))
 
 returns : tie.Need-returns Inv-loop μ-loop
 returns c =

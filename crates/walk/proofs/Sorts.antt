@@ -1,0 +1,60 @@
+-- A vertex has references or labels, never both: one action of its row tells.
+-- Assumes nothing.
+use mathlib.Core.Path.{_≡_, refl, sym, ap, ap₂, _∙_}
+use mathlib.Core.Bool.{Bool, true, false, _&&_, _||_, cond, and-true}
+use mathlib.Core.List.{List}
+use Prim.Native.Nat.{ℕ, _<_}
+use borrow.Author.Tests.{eqb-true}
+use lib.Dec.{eqb}
+use Rattle.labels.specs.Events.{event}
+use Rattle.routine.specs.Actions.{action, isReference, isRemap}
+use Rattle.routine.specs.Arrays.{kind, initial, isArgument}
+use Rattle.routine.specs.Layout.{arrays, vertices, exit}
+use Rattle.routine.specs.Reader.{WellFormed}
+use Rattle.routine.specs.declared.action.Action.{Action}
+use Rattle.routine.specs.declared.action.Action.the-variants.{Nothing, Reference, Remap, Unknown}
+use Rattle.routine.proofs.WellFormed.{entry-nothing, exit-nothing, never-both}
+use Rattle.words.proofs.Tests.{at-cond, or-cases}
+use Rattle.walk.specs.Walks.{OneSort, Labels}
+
+module _ {file : List ℕ} (well : WellFormed file) (v : ℕ) where
+  -- ---- its row
+
+  module _ (in-v : v < vertices file) where
+    apart : {a b : ℕ} → a < arrays file → b < arrays file → (x y : Action) → action file v a ≡ x → action file v b ≡ y → (isReference x && isRemap y) ≡ false
+    apart in-a in-b Nothing y e f = refl
+    apart in-a in-b (Reference r) Nothing e f = refl
+    apart in-a in-b (Reference r) (Reference s) e f = refl
+    apart in-a in-b (Reference r) (Remap k) e f = absurd (never-both well in-v in-a in-b e f)
+    apart in-a in-b (Reference r) Unknown e f = refl
+    apart in-a in-b (Remap k) y e f = refl
+    apart in-a in-b Unknown y e f = refl
+
+    pub after-reference : {a : ℕ} → a < arrays file → isReference (action file v a) ≡ true → OneSort file v false
+    after-reference {a} in-a is b in-b = ap (λ (t : Bool). t && isRemap (action file v b)) (sym is) ∙ apart in-a in-b (action file v a) (action file v b) refl refl
+
+    pub after-remap : {a : ℕ} → a < arrays file → isRemap (action file v a) ≡ true → OneSort file v true
+    after-remap {a} in-a is b in-b =
+        sym (and-true (isReference (action file v b))) ∙ ap (λ (t : Bool). isReference (action file v b) && t) (sym is)
+        ∙ apart in-b in-a (action file v b) (action file v a) refl refl
+
+  -- ---- and its labels
+
+  -- the entry's and the exit's rows are all 00
+  pub at-terminal : (eqb v 0 || eqb v (exit file)) ≡ true → Labels file v true
+  unfolding event
+  at-terminal t b in-b =
+      at-cond (λ (x : Action). isReference x ≡ false) (eqb v 0 || (eqb v (exit file) && isArgument (kind file b))) (λ _. refl)
+      (λ _. ap isReference (or-cases (eqb v 0) (eqb v (exit file))
+      (λ e. ap (λ (w : ℕ). action file w b) (eqb-true v 0 e) ∙ entry-nothing well in-b)
+      (λ e. ap (λ (w : ℕ). action file w b) (eqb-true v (exit file) e) ∙ exit-nothing well in-b) t))
+
+-- elsewhere the row tells
+module _ (file : List ℕ) (v : ℕ) (first : eqb v 0 ≡ false) (last : eqb v (exit file) ≡ false) where
+  as-read : (b : ℕ) → event file b v ≡ action file v b
+  unfolding event
+  as-read b = ap₂ (λ (p q : Bool). cond (p || (q && isArgument (kind file b))) (Remap (initial file b)) (action file v b)) first last
+
+  pub at-inner : (r : Bool) → OneSort file v r → Labels file v r
+  at-inner true sort = λ b in-b. ap isReference (as-read b) ∙ sort b in-b
+  at-inner false sort = record { inner = last; as-read = as-read; no-label = λ b in-b. ap isRemap (as-read b) ∙ sort b in-b }
