@@ -12,7 +12,7 @@ ghost use Rattle.sets.specs.Sets.{minus};
 ghost use Rattle.solver.specs.Blocks.{NextPending, Marked, Took, TookBlock, Taken, Closed};
 
 // Rounds that take every edge. Most passes end within them.
-const WHOLE: usize = 4;
+const WHOLE: usize = 3;
 
 // Edges of a block, by their turns.
 const BLOCK: usize = 16;

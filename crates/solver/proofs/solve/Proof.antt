@@ -15,7 +15,7 @@ abbrev Inv-loop : tie.InvT-loop
 Inv-loop edges order along gives passes sets₀ r₀ sets r = Going edges order along gives passes (rowCount sets₀) sets r
 
 abbrev μ-loop : tie.MeasureT-loop
-μ-loop edges order along gives passes sets₀ r₀ sets r = 4 - r
+μ-loop edges order along gives passes sets₀ r₀ sets r = 3 - r
 
 -- there are as many sets as before they were cleared
 size : (c : tie.After-clear Inv-loop μ-loop) → length (c .clear .last .0) ≡ length (c .before .before .before .before .before .before .before .args .sets .now)
