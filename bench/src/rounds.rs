@@ -1,7 +1,8 @@
 //! How many rounds over the edges each pass of the planner takes, the last one, which alters
 //! nothing, included. A round takes the edges in place: those of a pass along them from the last to
-//! the first, those of a pass against them from the first to the last. The letters take them by
-//! number; if that took more than a few rounds, the other passes take them as searches find them.
+//! the first, those of a pass against them from the first to the last. The letters take them in the
+//! order of [`ordered`]; if that took more than a few rounds, the other passes take them as searches
+//! find them.
 //! It is a mirror of crates/flow, crates/solver and crates/passes/src/pass.rt: the library does not
 //! hand its rounds out, and passing over edges that would alter nothing does not change them.
 
@@ -10,11 +11,11 @@ use std::fmt;
 use oracle::labels::{Label, Use, fixpoint};
 use oracle::routine::{Event, Kind, Reference, Routine};
 
-use crate::order::{Edge, by_search};
+use crate::order::{Edge, by_search, ordered};
 
 const EVERY: u16 = 0xffff;
 
-/// A pass of so many rounds shows that the edges are numbered well.
+/// A pass of so many rounds shows that the order is good.
 const FEW: usize = 4;
 
 /// The most rounds of a pass for any array: the library solves all arrays at once.
@@ -43,14 +44,15 @@ impl Rounds {
         let arrays: Vec<Array> = (0..routine.array_count())
             .map(|index| Array::new(routine, index))
             .collect();
-        let mut edges: Vec<Edge> = routine.edges().collect();
+        let numbered: Vec<Edge> = routine.edges().collect();
+        let mut edges = ordered(&numbered, vertices);
         let letters: Vec<_> = arrays.iter().map(|array| array.letters(&edges)).collect();
         let mut most = Rounds {
             letters: letters.iter().map(|(_, rounds)| *rounds).max().unwrap_or(0),
             ..Rounds::default()
         };
         if most.letters > FEW {
-            edges = by_search(&edges, vertices);
+            edges = by_search(&numbered, vertices);
         }
         let (mut reached, rounds) = solve(&edges, false, vertices, |v| (u16::from(v == 0), 1));
         reached[0] = 1;

@@ -1,6 +1,7 @@
 // Orders in which the solver takes the edges: by their numbers, or by the place of the vertex that they leave in a reverse postorder, so
 // that a round by rising place carries a fact along every path without a retreating edge.
 // Vertices are below 256: the low byte of an edge's end names it.
+mod rising;
 mod search;
 
 ghost use mathlib.Core.Path.{_≡_};
@@ -26,15 +27,6 @@ fn index(v: u8) -> usize
     v as usize
 }
 
-// Takes the edges by their numbers.
-pub fn by_number(edges: &[u8], order: &mut [u16])
-    requires { ⌜ edgeCount (now edges) ≤ 1024 ⌝ }
-    requires { ⌜ length (now order) ≡ edgeCount (now edges) ⌝ }
-    ensures { λ _. ⌜ Order (edgeCount (now (edges .entry))) (now (order .exit)) ⌝ }
-{
-    identity(order);
-}
-
 // Takes the edges in the order that searches find.
 pub fn by_search(edges: &[u8], order: &mut [u16])
     requires { ⌜ edgeCount (now edges) ≤ 1024 ⌝ }
@@ -45,4 +37,17 @@ pub fn by_search(edges: &[u8], order: &mut [u16])
     let mut place = [0u16; 1024];
     identity(&mut place);
     search::settle_all(edges, order, &mut place);
+}
+
+// An order of the edges: by number if that is good enough, else by searches.
+pub fn fill(edges: &[u8], order: &mut [u16])
+    requires { ⌜ edgeCount (now edges) ≤ 1024 ⌝ }
+    requires { ⌜ length (now order) ≡ edgeCount (now edges) ⌝ }
+    ensures { λ _. ⌜ Order (edgeCount (now (edges .entry))) (now (order .exit)) ⌝ }
+{
+    identity(order);
+    if rising::is_good(edges) {
+        return;
+    }
+    by_search(edges, order);
 }

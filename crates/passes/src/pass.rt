@@ -7,17 +7,17 @@ ghost use Rattle.labels.specs.Routines.{ReadAs, EdgeOrder};
 ghost use Rattle.passes.specs.Tables.{Pass};
 ghost use Rattle.routine.specs.Layout.{vertices, edges};
 
-// A pass of so many rounds shows that the edges are numbered well.
+// A pass of so many rounds shows that the order is good.
 const FEW: usize = 4;
 
-// The order in which the first pass takes the edges: by their numbers.
+// The order in which the first pass takes the edges.
 pub fn order(file: &[u8], h: Header, order: &mut [u16])
     requires { ⌜ ReadAs (now file) h ⌝ }
     requires { ⌜ length (now order) ≡ edges (now file) ⌝ }
     ensures { λ _. ⌜ EdgeOrder (now (file .entry)) (now (order .exit)) ⌝ }
 {
     let at = h.edges_at();
-    order::by_number(&file[at..], order);
+    order::fill(&file[at..], order);
 }
 
 // The order in which later passes take them: by searches, where one pass took more than a few rounds.

@@ -15,17 +15,17 @@ use Rattle.passes.proofs.pass.order.Tie as tie
 edges-at-requires : tie.Need-edges-at-requires
 edges-at-requires c κs = search needs
 
-sub-by-number : tie.Need-sub-by-number
-sub-by-number c = edges-inside (c .before .before .before .pre .0) (c .edges-at .ensures)
+sub-fill : tie.Need-sub-fill
+sub-fill c = edges-inside (c .before .before .before .pre .0) (c .edges-at .ensures)
 
-part-by-number-start : tie.Need-part-by-number-start
-part-by-number-start c = edges-inside (c .before .before .before .pre .0) (c .edges-at .ensures)
+part-fill-start : tie.Need-part-fill-start
+part-fill-start c = edges-inside (c .before .before .before .pre .0) (c .edges-at .ensures)
 
-part-by-number-end : tie.Need-part-by-number-end
-part-by-number-end c = search needs
+part-fill-end : tie.Need-part-fill-end
+part-fill-end c = search needs
 
-by-number-requires : tie.Need-by-number-requires
-by-number-requires c κs =
+fill-requires : tie.Need-fill-requires
+fill-requires c κs =
     let e = c .before .before in
     let s = e .before .before .before in
     let file = s .args .file .now in
@@ -39,16 +39,16 @@ returns : tie.Need-returns
 returns c =
     let e = c .before .before .before .before .before in
     let s = e .before .before .before in
-    subst (λ (es : List ℕ). Order (edgeCount es) (c .before .before .by-number .last .1 .0)) (edges-part (s .pre .0) (e .edges-at .ensures)) (c .before .before .by-number .ensures)
+    subst (λ (es : List ℕ). Order (edgeCount es) (c .before .before .fill .last .1 .0)) (edges-part (s .pre .0) (e .edges-at .ensures)) (c .before .before .fill .ensures)
 
 pub order-spec : {M : Type 1} → statement M
 order-spec =
     tie.close
     (tie.spec
     edges-at-requires
-    sub-by-number
-    part-by-number-start
-    part-by-number-end
-    by-number-requires
+    sub-fill
+    part-fill-start
+    part-fill-end
+    fill-requires
     same-length
     returns)
