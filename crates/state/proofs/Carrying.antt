@@ -15,7 +15,7 @@ use Rattle.sets.proofs.Laws.{has-or, has-minus}
 use Rattle.words.proofs.Tests.{at-cond, by-test}
 use Rattle.state.specs.declared.Carried.{Carried}
 use Rattle.state.specs.declared.State.{State}
-use Rattle.state.specs.Carrying.{whole, targetBeside, stampBeside, shifted}
+use Rattle.state.specs.Carrying.{whole, stampBeside, shifted}
 use Rattle.state.specs.Cleaning.{currentSet, dying, cleared, cleaned}
 use Rattle.state.specs.Current.{settled}
 use Rattle.state.specs.Moves.{moves, copiesStamp, targetStamp, moved}
@@ -28,11 +28,11 @@ use Rattle.state.proofs.States.{below-current, copied-below}
 -- ---- by what the code has
 
 module _ (u : Use) (t stamp : ℕ) (s : State) where
-  pub target-is : (copied live : Bool) → copied ≡ copiesStamp u t s → live ≡ has (s .live) t → cond copied stamp (cond live (stampOf s t) 0) ≡ targetBeside u t stamp s
-  unfolding targetBeside
+  pub target-is : (copied live : Bool) → copied ≡ copiesStamp u t s → live ≡ has (s .live) t → cond copied stamp (cond live (stampOf s t) 0) ≡ targetStamp u t stamp s
+  unfolding copiesStamp
   target-is copied live e f = simp (e, f)
 
-  pub next-is : (takes : Bool) (target : ℕ) → takes ≡ moves u t s → target ≡ targetBeside u t stamp s → cond takes target stamp ≡ stampBeside u t stamp s
+  pub next-is : (takes : Bool) (target : ℕ) → takes ≡ moves u t s → target ≡ targetStamp u t stamp s → cond takes target stamp ≡ stampBeside u t stamp s
   unfolding stampBeside
   next-is takes target e f = simp (e, f)
 
@@ -99,8 +99,8 @@ module _ (u : Use) (t stamp : ℕ) (s : State) (below : t < 16) (current : Curre
   abbrev w : State
   w = settled stamp s
 
-  target-same : targetBeside u t stamp w ≡ targetStamp u t w
-  unfolding targetBeside
+  target-same : targetStamp u t stamp w ≡ targetStamp u t (stampOf w (w .current)) w
+  unfolding copiesStamp
   target-same =
       by-test (copiesStamp u t w)
       (λ h. rw h (sym (seen-is stamp s sixteen (copied-below u t w current h))))
@@ -117,13 +117,13 @@ module _ (u : Use) (t stamp : ℕ) (s : State) (below : t < 16) (current : Curre
   moved-whole =
       by-test (moves u t w)
       (λ m.
-      ap₂ settled (ap (λ (b : Bool). cond b (targetBeside u t stamp w) stamp) m ∙ target-same) (ap (λ (b : Bool). cond b taken w) m)
-      ∙ settled-at (targetStamp u t w) taken (below-current taken below)
-      ∙ ap (λ (b : Bool). cond b (put (targetStamp u t w) taken) w) (sym m))
+      ap₂ settled (ap (λ (b : Bool). cond b (targetStamp u t stamp w) stamp) m ∙ target-same) (ap (λ (b : Bool). cond b taken w) m)
+      ∙ settled-at (targetStamp u t (stampOf w (w .current)) w) taken (below-current taken below)
+      ∙ ap (λ (b : Bool). cond b (put (targetStamp u t (stampOf w (w .current)) w) taken) w) (sym m))
       (λ m.
-      ap₂ settled (ap (λ (b : Bool). cond b (targetBeside u t stamp w) stamp) m) (ap (λ (b : Bool). cond b taken w) m)
+      ap₂ settled (ap (λ (b : Bool). cond b (targetStamp u t stamp w) stamp) m) (ap (λ (b : Bool). cond b taken w) m)
       ∙ settled-twice stamp s
-      ∙ ap (λ (b : Bool). cond b (put (targetStamp u t w) taken) w) (sym m))
+      ∙ ap (λ (b : Bool). cond b (put (targetStamp u t (stampOf w (w .current)) w) taken) w) (sym m))
 
 -- a label, from what the code has
 pub carried-on : (own keep : ℕ) (u : Use) (t : ℕ) (c : Carried) {u' : Use} {s m n : State} {stamp : ℕ} → t < 16 → Ready (whole c) → u' ≡ u → s ≡ whole c

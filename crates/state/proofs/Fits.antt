@@ -74,7 +74,7 @@ cleaned-fits own keep {s} f =
     }
 
 module _ (u : Use) (t : ℕ) (below : t < 16) {s : State} {n : ℕ} (f : Fits s n) where
-  target-small : targetStamp u t s ≤ 65535
+  target-small : targetStamp u t (stampOf s (s .current)) s ≤ 65535
   unfolding copiesStamp
   target-small =
       at-cond (λ (x : ℕ). x ≤ 65535) (copiesStamp u t s)
@@ -88,7 +88,7 @@ module _ (u : Use) (t : ℕ) (below : t < 16) {s : State} {n : ℕ} (f : Fits s 
       (λ _. record {
         current = inl below;
         live = or-lt 16 (s .live) (2 ^ t) (f .live) (pow-lt below);
-        stamps = set-stamps (s .stamps) t (targetStamp u t s) (f .stamps) target-small;
+        stamps = set-stamps (s .stamps) t (targetStamp u t (stampOf s (s .current)) s) (f .stamps) target-small;
         copies = at-cond (λ (x : ℕ). s .copies + x ≤ suc n) (copiesStamp u t s) (λ _. omega arith) (λ _. omega arith);
       })
       (λ _. longer f)

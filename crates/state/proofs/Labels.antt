@@ -81,7 +81,7 @@ module _ (own keep : ℕ) (s : State) where
 -- ---- the move
 
 module _ (u : Use) (t : ℕ) (s : State) where
-  taken-stamp : {x : ℕ} → isD u ≡ false → moves u t s ≡ true → Agree s x → Sits s x → targetStamp u t s ≡ x
+  taken-stamp : {x : ℕ} → isD u ≡ false → moves u t s ≡ true → Agree s x → Sits s x → targetStamp u t (stampOf s (s .current)) s ≡ x
   unfolding copiesStamp
   taken-stamp {x} d m a c =
       at-cond (λ (n : ℕ). n ≡ x) (copiesStamp u t s)
@@ -93,7 +93,7 @@ module _ (u : Use) (t : ℕ) (s : State) where
   moved-agree {x} f d a c =
       at-cond (λ (s' : State). Agree s' x) (moves u t s)
       (λ m k h.
-      let y = targetStamp u t s in
+      let y = targetStamp u t (stampOf s (s .current)) s in
       by-test (eqb t k)
       (λ e. subst (λ (j : ℕ). getD (set (s .stamps) t y) j 0 ≡ x) (eqb-true t k e) (getD-set-same (s .stamps) t y 0 f ∙ taken-stamp d m a c))
       (λ e. getD-set-other (s .stamps) t k y 0 (λ g. eqb-false t k e (sym g)) ∙ a k (cc (has-with (s .live) t k, or-false (has (s .live) k)))))

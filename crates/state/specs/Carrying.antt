@@ -4,26 +4,19 @@ use mathlib.Core.Bool.{cond}
 use Prim.Native.Nat.{ℕ, _+_, _^_}
 use lib.Bits.{bitOr}
 use Rattle.labels.specs.declared.Use.{Use}
-use Rattle.sets.specs.Sets.{has}
 use Rattle.state.specs.declared.Carried.{Carried}
 use Rattle.state.specs.declared.State.{State}
 use Rattle.state.specs.Current.{settled}
-use Rattle.state.specs.Moves.{moves, copiesStamp}
-use Rattle.state.specs.States.{stampOf}
+use Rattle.state.specs.Moves.{moves, copiesStamp, targetStamp}
 
 -- the state, whole
 abbrev pub whole : Carried → State
 whole c = settled (c .stamp) (c .state)
 
--- the target's stamp, where the current copy has this one
-unfoldable pub targetBeside : Use → ℕ → ℕ → State → ℕ
-unfolding copiesStamp has
-targetBeside u t stamp s = cond (copiesStamp u t s) stamp (cond (has (s .live) t) (stampOf s t) 0)
-
 -- the current copy's stamp after the move, where it had this one before
 unfoldable pub stampBeside : Use → ℕ → ℕ → State → ℕ
-unfolding targetBeside
-stampBeside u t stamp s = cond (moves u t s) (targetBeside u t stamp s) stamp
+unfolding copiesStamp
+stampBeside u t stamp s = cond (moves u t s) (targetStamp u t stamp s) stamp
 
 -- the move, but for the target's stamp
 unfoldable pub shifted : Use → ℕ → State → State

@@ -28,10 +28,10 @@ unfoldable pub copiesStamp : Use → ℕ → State → Bool
 unfolding has
 copiesStamp u t s = moves u t s && (not (has (s .live) t) && (not (isD u) && hasCurrent s))
 
--- the target's stamp: copied; or its own if it is live; or 0
-abbrev pub targetStamp : Use → ℕ → State → ℕ
+-- the target's stamp, where the current copy has this one: copied; or its own if it is live; or 0
+abbrev pub targetStamp : Use → ℕ → ℕ → State → ℕ
 unfolding copiesStamp
-targetStamp u t s = cond (copiesStamp u t s) (stampOf s (s .current)) (cond (has (s .live) t) (stampOf s t) 0)
+targetStamp u t stamp s = cond (copiesStamp u t s) stamp (cond (has (s .live) t) (stampOf s t) 0)
 
 -- the target becomes live and current
 unfoldable pub moved : Use → ℕ → State → State
@@ -41,7 +41,7 @@ moved u t s =
     (record {
       current = t;
       live = bitOr (s .live) (2 ^ t);
-      stamps = set (s .stamps) t (targetStamp u t s);
+      stamps = set (s .stamps) t (targetStamp u t (stampOf s (s .current)) s);
       copies = s .copies + cond (copiesStamp u t s) 1 0;
     })
     s

@@ -9,11 +9,11 @@ ghost use mathlib.Core.Bool.{true, cond};
 ghost use Prim.Native.Nat.{_+_, _<_};
 ghost use lib.ListN.{set};
 ghost use Rattle.labels.specs.Letters.{useOfByte};
-ghost use Rattle.state.specs.Carrying.{whole, targetBeside, stampBeside, shifted};
+ghost use Rattle.state.specs.Carrying.{whole, stampBeside, shifted};
 ghost use Rattle.state.specs.Cleaning.{currentSet, callers, cleared, cleaned};
 ghost use Rattle.state.specs.Current.{currentStamp, settled, stampBy};
 ghost use Rattle.state.specs.Exit.{left};
-ghost use Rattle.state.specs.Moves.{moves, isD, copiesStamp, moved};
+ghost use Rattle.state.specs.Moves.{moves, isD, copiesStamp, targetStamp, moved};
 ghost use Rattle.state.specs.Start.{started};
 ghost use Rattle.state.specs.States.{hasCurrent, emptied, Current};
 ghost use Rattle.state.specs.Vertex.{relabelled, Ready, Visits};
@@ -126,7 +126,7 @@ impl State {
     // The target's stamp, where the current copy has this one.
     fn target_stamp(self, u: Use, t: u8, stamp: u16) -> u16
         requires { ⌜ t < 16 ⌝ }
-        ensures { λ r. ⌜ r ≡ targetBeside u t stamp self ⌝ }
+        ensures { λ r. ⌜ r ≡ targetStamp u t stamp self ⌝ }
     {
         let copied = self.copies_stamp(u, t);
         if copied {
