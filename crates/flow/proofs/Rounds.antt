@@ -1,18 +1,16 @@
 -- Laws of rounds, by any step: what each step keeps, rounds keep; and what two tables have in common, they keep in common.
 -- Assumes nothing.
-use mathlib.Core.Path.{_≡_, refl, sym, ap, subst, _∙_}
-use mathlib.Core.Bool.{Bool, true, false, cond}
+use mathlib.Core.Path.{_≡_, sym, ap, subst, _∙_}
+use mathlib.Core.Bool.{Bool, true, false}
 use mathlib.Core.List.{List}
-use Prim.Native.Nat.{ℕ, zero, suc, _+_, _-_, _*_, _≤_, _<_}
+use Prim.Native.Nat.{ℕ, zero, suc, _-_, _≤_, _<_}
 use native.Mathlib.Nat.{le-refl, le-of-lt}
 use native.Mathlib.Omega.{arith}
 use lib.ListN.{length, getD}
 use Rattle.flow.specs.Order.{Order, natural}
 use Rattle.flow.specs.Paths.{edgeCount}
 use Rattle.flow.specs.Solver.{near, far, turn, swept, rounds, Ends}
-use Rattle.words.specs.Words.{word}
 use Rattle.words.proofs.Tables.{table-length, table-at}
-use Rattle.words.proofs.Tests.{at-cond}
 
 -- ---- turns
 
@@ -55,19 +53,6 @@ near-lt ends false i h = ends .tos i h
 pub far-lt : {es : List ℕ} {n : ℕ} → Ends es n → (along : Bool) (i : ℕ) → i < edgeCount es → far es along i < n
 far-lt ends true i h = ends .tos i h
 far-lt ends false i h = ends .froms i h
-
--- where an edge's ends are read
-pub near-word : (es : List ℕ) (along : Bool) (i : ℕ) → word es (4 * i + cond along 0 2) ≡ near es along i
-near-word es true i = ap (word es) (let e : 4 * i + 0 ≡ 4 * i = omega arith in e)
-near-word es false i = refl
-
-pub far-word : (es : List ℕ) (along : Bool) (i : ℕ) → word es (4 * i + cond along 2 0) ≡ far es along i
-far-word es true i = refl
-far-word es false i = ap (word es) (let e : 4 * i + 0 ≡ 4 * i = omega arith in e)
-
--- one of two numbers that are at most n
-pub pick-le : (b : Bool) {x y n r : ℕ} → r ≡ cond b x y → x ≤ n → y ≤ n → r ≤ n
-pick-le b {x} {y} {n} e h k = subst (λ (z : ℕ). z ≤ n) (sym e) (at-cond (λ z. z ≤ n) b (λ _. h) (λ _. k))
 
 -- ---- what each step keeps, rounds keep
 

@@ -27,7 +27,7 @@ InSet es along gives passes v k = Finds (Leads es along (λ u. has (getD passes 
 
 -- ---- by rounds: how it is computed
 
--- the end of edge i whose set grows, and the end that it grows from
+-- the end of edge i whose set grows
 abbrev pub near : List ℕ → Bool → ℕ → ℕ
 near es along i = cond along (edgeFrom es i) (edgeTo es i)
 

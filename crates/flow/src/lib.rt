@@ -2,7 +2,7 @@
 // through vertices that pass k, arrives at a vertex that gives k.
 // A table has eight columns, one for each array that a routine may have: the set of vertex v in column a stands at 8 v + a.
 ghost use mathlib.Core.Path.{_≡_};
-ghost use mathlib.Core.Bool.{true, false, cond, not};
+ghost use mathlib.Core.Bool.{true, false, not};
 ghost use Prim.Native.Nat.{_+_, _*_, _≤_, _<_};
 ghost use lib.Dec.{eqb};
 ghost use lib.ListN.{length, replicate};
@@ -22,22 +22,15 @@ pub fn clear(sets: &mut [u16])
     }
 }
 
-// One of two numbers, by a flag.
-pub fn pick(first: bool, a: usize, b: usize) -> usize
-    ensures { λ r. ⌜ r ≡ cond first a b ⌝ }
-{
-    if first {
-        return a;
-    }
-    b
-}
-
 // The end of edge i whose sets grow.
 pub fn near_end(edges: &[u8], along: bool, i: usize) -> usize
     requires { ⌜ i < edgeCount (now edges) ⌝ }
     ensures { λ r. ⌜ r ≡ near (now (edges .entry)) along i ⌝ }
 {
-    words::at(edges, 4 * i + pick(along, 0, 2))
+    if along {
+        return words::at(edges, 4 * i);
+    }
+    words::at(edges, 4 * i + 2)
 }
 
 // The end that they grow from.
@@ -45,7 +38,10 @@ pub fn far_end(edges: &[u8], along: bool, i: usize) -> usize
     requires { ⌜ i < edgeCount (now edges) ⌝ }
     ensures { λ r. ⌜ r ≡ far (now (edges .entry)) along i ⌝ }
 {
-    words::at(edges, 4 * i + pick(along, 2, 0))
+    if along {
+        return words::at(edges, 4 * i + 2);
+    }
+    words::at(edges, 4 * i)
 }
 
 // What vertex u hands on in each column: what it gives, and what it holds and passes.

@@ -2,7 +2,7 @@
 -- that is not pending.
 -- Assumes nothing.
 use mathlib.Core.Path.{_≡_, refl, sym, ap, subst, _∙_}
-use mathlib.Core.Bool.{Bool, true, false, not, _&&_, _||_, true≢false}
+use mathlib.Core.Bool.{Bool, true, false, not, _&&_, _||_, true≢false, or-true}
 use mathlib.Core.List.{List, [], _∷_}
 use mathlib.Core.Logic.{_⊎_, inl, inr, ⊎-elim}
 use Prim.Native.Nat.{ℕ, _+_, _-_, _*_, _/_, _^_, _≤_, _<_, min}
@@ -87,17 +87,14 @@ marked-more es order along marks j room first =
     (λ k l. at-set (λ u x. u ≡ far es along (turn order along k) → has x (k / 16) ≡ true) marks v m (far es along (turn order along k))
     (λ e. has-or (getD marks v 0) (2 ^ (j / 16)) (k / 16) ∙ ap (λ (y : Bool). y || has (2 ^ (j / 16)) (k / 16)) (ap (λ (u : ℕ). has (getD marks u 0) (k / 16)) e ∙ first k l))
     (λ _. first k l) refl)
-    (ap (λ (x : ℕ). has x (j / 16)) (getD-set-same marks v m 0 room) ∙ has-with (getD marks v 0) (j / 16) (j / 16) ∙ or-true (has (getD marks v 0) (j / 16)) (eq-eqb (j / 16) (j / 16) refl))
+    (ap (λ (x : ℕ). has x (j / 16)) (getD-set-same marks v m 0 room) ∙ has-with (getD marks v 0) (j / 16) (j / 16)
+    ∙ ap (λ (y : Bool). has (getD marks v 0) (j / 16) || y) (eq-eqb (j / 16) (j / 16) refl) ∙ or-true (has (getD marks v 0) (j / 16)))
   where
     v : ℕ
     v = far es along (turn order along j)
 
     m : ℕ
     m = bitOr (getD marks v 0) (2 ^ (j / 16))
-
-    or-true : (x : Bool) {y : Bool} → y ≡ true → (x || y) ≡ true
-    or-true true e = refl
-    or-true false e = e
 
 -- ---- edges that alter nothing
 
