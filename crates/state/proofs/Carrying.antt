@@ -1,14 +1,14 @@
 -- Laws of a state that is carried with the stamp of its current copy beside it; above all that a label does to it what the rule says.
 -- Assumes nothing.
 use mathlib.Core.Path.{_≡_, refl, sym, ap, ap₂, _∙_}
-use mathlib.Core.Bool.{Bool, true, false, _&&_, cond, true≢false, or-true, and-false}
+use mathlib.Core.Bool.{Bool, true, false, _&&_, cond, or-true, and-false}
 use mathlib.Core.List.{List}
 use mathlib.Core.Logic.{inl}
-use Prim.Native.Nat.{ℕ, zero, suc, _+_, _<_, _^_}
+use Prim.Native.Nat.{ℕ, _+_, _<_, _^_}
 use lib.Bits.{bitOr}
 use borrow.Author.Tests.{eq-eqb}
-use lib.ListN.{length, set}
-use lib.Seq.{set-comm, set-set}
+use lib.ListN.{length}
+use lib.Seq.{set-set}
 use Rattle.labels.specs.declared.Use.{Use}
 use Rattle.sets.specs.Sets.{has, minus}
 use Rattle.sets.proofs.Laws.{has-or, has-minus}
@@ -16,14 +16,14 @@ use Rattle.words.proofs.Tests.{at-cond, by-test}
 use Rattle.state.specs.declared.Carried.{Carried}
 use Rattle.state.specs.declared.State.{State}
 use Rattle.state.specs.Carrying.{whole, stampBeside, shifted}
-use Rattle.state.specs.Cleaning.{currentSet, dying, cleared, cleaned}
+use Rattle.state.specs.Cleaning.{currentSet, dying, cleaned}
 use Rattle.state.specs.Current.{settled}
-use Rattle.state.specs.Moves.{moves, copiesStamp, targetStamp, moved}
-use Rattle.state.specs.States.{hasCurrent, stampOf, Current}
+use Rattle.state.specs.Moves.{moves, copiesStamp, targetStamp, takenUp, moved}
+use Rattle.state.specs.States.{hasCurrent, stampOf, stamped, Current}
 use Rattle.state.specs.Vertex.{Ready}
 use Rattle.state.proofs.Current.{seen-is}
 use Rattle.state.proofs.Labels.{current-has}
-use Rattle.state.proofs.States.{below-current, copied-below}
+use Rattle.state.proofs.States.{below-current, copied-below, cleared-set}
 
 -- ---- by what the code has
 
@@ -48,37 +48,23 @@ module _ (u : Use) (t : ℕ) (s : State) where
 
 -- ---- a label does what the rule says
 
--- the stamp of a version that is not dead may be set first
-cleared-set : (dead : ℕ) (l : List ℕ) (k x n : ℕ) → has dead k ≡ false → cleared dead (set l k x) n ≡ set (cleared dead l n) k x
-unfolding cleared
-cleared-set dead l k x zero h = refl
-cleared-set dead l k x (suc n) h =
-    let before = cleared-set dead l k x n h in
-    by-test (has dead n)
-    (λ d. rw d (ap (λ (l : List ℕ). set l n 0) before ∙ set-comm (cleared dead l n) k n x 0 (λ e. true≢false (sym d ∙ ap (has dead) (sym e) ∙ h))))
-    (λ d. rw d before)
-
 -- the current copy does not die
 current-stays : (own keep : ℕ) (s : State) → hasCurrent s ≡ true → has (minus (dying keep s) own) (s .current) ≡ false
 current-stays own keep s h =
     let there : has (currentSet s) (s .current) ≡ true = current-has s (s .current) ∙ ap₂ _&&_ h (eq-eqb (s .current) (s .current) refl) in
     simp (has-minus, has-or, there, or-true, and-false)
 
--- the state with this stamp in its current copy, if there is one
-abbrev put : ℕ → State → State
-put x s = record { current = s .current; live = s .live; stamps = set (s .stamps) (s .current) x; copies = s .copies }
-
-settled-at : (x : ℕ) (s : State) → hasCurrent s ≡ true → settled x s ≡ put x s
-settled-at x s h = ap (λ (b : Bool). cond b (put x s) s) h
+settled-at : (x : ℕ) (s : State) → hasCurrent s ≡ true → settled x s ≡ stamped x s
+settled-at x s h = ap (λ (b : Bool). cond b (stamped x s) s) h
 
 settled-none : (x : ℕ) (s : State) → hasCurrent s ≡ false → settled x s ≡ s
-settled-none x s h = ap (λ (b : Bool). cond b (put x s) s) h
+settled-none x s h = ap (λ (b : Bool). cond b (stamped x s) s) h
 
 settled-twice : (x : ℕ) (s : State) → settled x (settled x s) ≡ settled x s
 settled-twice x s =
     by-test (hasCurrent s)
     (λ h.
-    ap (settled x) (settled-at x s h) ∙ settled-at x (put x s) h
+    ap (settled x) (settled-at x s h) ∙ settled-at x (stamped x s) h
     ∙ ap (λ (l : List ℕ). record { current = s .current; live = s .live; stamps = l; copies = s .copies }) (set-set (s .stamps) (s .current) x x)
     ∙ sym (settled-at x s h))
     (λ h. ap (settled x) (settled-none x s h))
@@ -106,24 +92,19 @@ module _ (u : Use) (t stamp : ℕ) (s : State) (below : t < 16) (current : Curre
       (λ h. rw h (sym (seen-is stamp s sixteen (copied-below u t w current h))))
       (λ h. rw h)
 
-  -- the state once the target is taken up, but for its stamp
-  abbrev taken : State
-  unfolding copiesStamp
-  taken = record { current = t; live = bitOr (w .live) (2 ^ t); stamps = w .stamps; copies = w .copies + cond (copiesStamp u t w) 1 0 }
-
   -- the move, and then the target's stamp
   moved-whole : settled (stampBeside u t stamp w) (shifted u t w) ≡ moved u t w
   unfolding stampBeside shifted moved
   moved-whole =
       by-test (moves u t w)
       (λ m.
-      ap₂ settled (ap (λ (b : Bool). cond b (targetStamp u t stamp w) stamp) m ∙ target-same) (ap (λ (b : Bool). cond b taken w) m)
-      ∙ settled-at (targetStamp u t (stampOf w (w .current)) w) taken (below-current taken below)
-      ∙ ap (λ (b : Bool). cond b (put (targetStamp u t (stampOf w (w .current)) w) taken) w) (sym m))
+      ap₂ settled (ap (λ (b : Bool). cond b (targetStamp u t stamp w) stamp) m ∙ target-same) (ap (λ (b : Bool). cond b (takenUp u t w) w) m)
+      ∙ settled-at (targetStamp u t (stampOf w (w .current)) w) (takenUp u t w) (below-current (takenUp u t w) below)
+      ∙ ap (λ (b : Bool). cond b (stamped (targetStamp u t (stampOf w (w .current)) w) (takenUp u t w)) w) (sym m))
       (λ m.
-      ap₂ settled (ap (λ (b : Bool). cond b (targetStamp u t stamp w) stamp) m) (ap (λ (b : Bool). cond b taken w) m)
+      ap₂ settled (ap (λ (b : Bool). cond b (targetStamp u t stamp w) stamp) m) (ap (λ (b : Bool). cond b (takenUp u t w) w) m)
       ∙ settled-twice stamp s
-      ∙ ap (λ (b : Bool). cond b (put (targetStamp u t (stampOf w (w .current)) w) taken) w) (sym m))
+      ∙ ap (λ (b : Bool). cond b (stamped (targetStamp u t (stampOf w (w .current)) w) (takenUp u t w)) w) (sym m))
 
 -- a label, from what the code has
 pub carried-on : (own keep : ℕ) (u : Use) (t : ℕ) (c : Carried) {u' : Use} {s m n : State} {stamp : ℕ} → t < 16 → Ready (whole c) → u' ≡ u → s ≡ whole c

@@ -56,19 +56,23 @@ with-more stamps new at k x is =
     rw e (set-getD new k 0) ∙ is
     ∙ ap (λ (b : Bool). cond b (set stamps at x) stamps) (one-more at k (λ f. eqb-false k at e (sym f))))
 
--- ---- a member t of `dead` is cleared first, and the rest later
+-- ---- the cleaning
 
-set-twice : (l : List ℕ) (i j : ℕ) → set (set l i 0) j 0 ≡ set (set l j 0) i 0
-set-twice l i j = by-test (eqb i j) (λ e. rw (eqb-true i j e)) (λ e. set-comm l i j 0 0 (eqb-false i j e))
+-- the stamp of a version that is not dead may be set first
+pub cleared-set : (dead : ℕ) (l : List ℕ) (k x n : ℕ) → has dead k ≡ false → cleared dead (set l k x) n ≡ set (cleared dead l n) k x
+unfolding cleared
+cleared-set dead l k x zero h = refl
+cleared-set dead l k x (suc n) h =
+    let before = cleared-set dead l k x n h in
+    by-test (has dead n)
+    (λ d. rw d (ap (λ (l : List ℕ). set l n 0) before ∙ set-comm (cleared dead l n) k n x 0 (λ e. true≢false (sym d ∙ ap (has dead) (sym e) ∙ h))))
+    (λ d. rw d before)
 
 -- the next version, cleared if b
 abbrev next : ℕ → Bool → List ℕ → List ℕ
 next n b l = cond b (set l n 0) l
 
-set-next : (l : List ℕ) (t n : ℕ) (b : Bool) → set (next n b l) t 0 ≡ next n b (set l t 0)
-set-next l t n true = set-twice l n t
-set-next l t n false = refl
-
+-- a member t of `dead` is cleared first, and the rest later
 module _ (dead t : ℕ) where
   abbrev rest : ℕ
   rest = minus dead (2 ^ t)
@@ -90,29 +94,21 @@ module _ (dead t : ℕ) where
       ⊎-elim (λ (e : rest ≡ dead). absurd (true≢false (sym m ∙ ap (λ (n : ℕ). has n t) (sym e) ∙ rest-same t (eq-eqb t t refl)))) (λ h. h) (eq-or-lt-of-le most)
 
   module _ (stamps : List ℕ) where
-    set-first : (n : ℕ) → cleared rest (set stamps t 0) n ≡ set (cleared rest stamps n) t 0
-    unfolding cleared
-    set-first zero = refl
-    set-first (suc n) = ap (next n (has rest n)) (set-first n) ∙ sym (set-next (cleared rest stamps n) t n (has rest n))
-
     below : (n : ℕ) → n ≤ t → cleared rest stamps n ≡ cleared dead stamps n
     unfolding cleared
     below zero h = refl
     below (suc n) h = ap₂ (next n) (rest-other n (ne-eqb t n (λ e. omega arith))) (below n (omega arith))
 
-    above : has dead t ≡ true → (n : ℕ) → t < n → set (cleared rest stamps n) t 0 ≡ cleared dead stamps n
+    pub cleared-first : has dead t ≡ true → (n : ℕ) → t < n → cleared rest (set stamps t 0) n ≡ cleared dead stamps n
     unfolding cleared
-    above m zero h = absurd (omega arith)
-    above m (suc n) h =
+    cleared-first m zero h = absurd (omega arith)
+    cleared-first m (suc n) h =
         by-test (eqb t n)
         (λ e.
         let same = eqb-true t n e in
         let dies : has dead n ≡ true = ap (has dead) (sym same) ∙ m in
-        rw (rest-same n e, dies) (ap₂ (λ (l : List ℕ) (k : ℕ). set l k 0) (below n (omega arith)) same))
-        (λ e. set-next (cleared rest stamps n) t n (has rest n) ∙ ap₂ (next n) (rest-other n e) (above m n (omega (arith, eqb-false t n e))))
-
-    pub cleared-first : has dead t ≡ true → t < 16 → cleared rest (set stamps t 0) 16 ≡ cleared dead stamps 16
-    cleared-first m h = set-first 16 ∙ above m 16 h
+        rw (rest-same n e, dies) (cleared-set rest stamps t 0 n (rest-same t (eq-eqb t t refl)) ∙ ap₂ (λ (l : List ℕ) (k : ℕ). set l k 0) (below n (omega arith)) same))
+        (λ e. ap₂ (next n) (rest-other n e) (cleared-first m n (omega (arith, eqb-false t n e))))
 
 pub cleared-none : (stamps : List ℕ) (n : ℕ) → cleared 0 stamps n ≡ stamps
 unfolding cleared

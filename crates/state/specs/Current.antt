@@ -2,12 +2,11 @@
 -- Assumes nothing.
 use mathlib.Core.Bool.{cond}
 use Prim.Native.Nat.{ℕ}
-use lib.ListN.{set}
 use Rattle.routine.specs.declared.action.Action.{Action}
 use Rattle.routine.specs.declared.action.Action.the-variants.{Nothing, Reference, Remap, Unknown}
 use Rattle.state.specs.declared.State.{State}
 use Rattle.state.specs.Stamps.{stampAfter}
-use Rattle.state.specs.States.{hasCurrent, stampOf}
+use Rattle.state.specs.States.{hasCurrent, stampOf, stamped}
 
 -- 0 if nothing is current
 abbrev pub currentStamp : State → ℕ
@@ -20,9 +19,6 @@ stampBy (Reference x) step stamp = stampAfter x step stamp
 stampBy (Remap k) step stamp = stamp
 stampBy Unknown step stamp = stamp
 
--- the state with this stamp in its current copy
+-- the state with this stamp in its current copy, if there is one
 abbrev pub settled : ℕ → State → State
-settled stamp s =
-    cond (hasCurrent s)
-    (record { current = s .current; live = s .live; stamps = set (s .stamps) (s .current) stamp; copies = s .copies })
-    s
+settled stamp s = cond (hasCurrent s) (stamped stamp s) s

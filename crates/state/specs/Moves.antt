@@ -4,13 +4,12 @@ use mathlib.Core.Bool.{Bool, true, false, not, _&&_, cond}
 use Prim.Native.Nat.{ℕ, _+_, _^_}
 use lib.Bits.{bitOr}
 use lib.Dec.{eqb}
-use lib.ListN.{set}
 use Rattle.labels.specs.Uses.{isN}
 use Rattle.labels.specs.declared.Use.{Use}
 use Rattle.labels.specs.declared.Use.the-variants.{N, D, R, W}
 use Rattle.sets.specs.Sets.{has}
 use Rattle.state.specs.declared.State.{State}
-use Rattle.state.specs.States.{hasCurrent, stampOf}
+use Rattle.state.specs.States.{hasCurrent, stampOf, stamped}
 
 -- the target is to be taken up: the label is kept, and the target is not current, or nothing is
 abbrev pub moves : Use → ℕ → State → Bool
@@ -33,15 +32,12 @@ abbrev pub targetStamp : Use → ℕ → ℕ → State → ℕ
 unfolding copiesStamp
 targetStamp u t stamp s = cond (copiesStamp u t s) stamp (cond (has (s .live) t) (stampOf s t) 0)
 
--- the target becomes live and current
+-- the target becomes live and current; one copy is counted if a stamp is copied
+abbrev pub takenUp : Use → ℕ → State → State
+unfolding copiesStamp
+takenUp u t s = record { current = t; live = bitOr (s .live) (2 ^ t); stamps = s .stamps; copies = s .copies + cond (copiesStamp u t s) 1 0 }
+
+-- the move: the target is taken up and gets its stamp
 unfoldable pub moved : Use → ℕ → State → State
 unfolding copiesStamp has
-moved u t s =
-    cond (moves u t s)
-    (record {
-      current = t;
-      live = bitOr (s .live) (2 ^ t);
-      stamps = set (s .stamps) t (targetStamp u t (stampOf s (s .current)) s);
-      copies = s .copies + cond (copiesStamp u t s) 1 0;
-    })
-    s
+moved u t s = cond (moves u t s) (stamped (targetStamp u t (stampOf s (s .current)) s) (takenUp u t s)) s

@@ -1,18 +1,11 @@
 -- Document 01, "Run": a reference.
 -- Assumes nothing.
 use Prim.Native.Nat.{ℕ}
-use lib.ListN.{set}
 use Rattle.routine.specs.declared.action.Access.{Access}
 use Rattle.state.specs.declared.State.{State}
 use Rattle.state.specs.Stamps.{stampAfter}
-use Rattle.state.specs.States.{stampOf}
+use Rattle.state.specs.States.{stampOf, stamped}
 
 -- the current version is used, and a define or modify gives it the step number as its stamp
 unfoldable pub referenced : Access → ℕ → State → State
-referenced x step s =
-    record {
-      current = s .current;
-      live = s .live;
-      stamps = set (s .stamps) (s .current) (stampAfter x step (stampOf s (s .current)));
-      copies = s .copies;
-    }
+referenced x step s = stamped (stampAfter x step (stampOf s (s .current))) s

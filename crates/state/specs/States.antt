@@ -5,7 +5,7 @@ use mathlib.Core.Bool.{Bool, not}
 use mathlib.Core.Logic.{_⊎_}
 use Prim.Native.Nat.{ℕ, _<_}
 use lib.Dec.{eqb}
-use lib.ListN.{getD, replicate}
+use lib.ListN.{getD, set, replicate}
 use Rattle.state.specs.declared.State.{State}
 
 -- no current copy
@@ -19,6 +19,10 @@ hasCurrent s = not (eqb (s .current) nothing)
 -- the stamp of a version
 abbrev pub stampOf : State → ℕ → ℕ
 stampOf s k = getD (s .stamps) k 0
+
+-- the state with this stamp in its current copy
+abbrev pub stamped : ℕ → State → State
+stamped stamp s = record { current = s .current; live = s .live; stamps = set (s .stamps) (s .current) stamp; copies = s .copies }
 
 -- no copies: none current, none live
 abbrev pub emptied : ℕ → State

@@ -49,7 +49,7 @@ loop-again c =
     let left = c .difference .ensures ∙ ap (minus (l .rest)) (c .before .single .ensures) in
     ap (λ (n : ℕ). cleared n (c .before .before .with .result) 16) left
     ∙ ap (λ (stamps : List ℕ). cleared (minus (l .rest) (2 ^ low .result)) stamps 16) (c .before .before .with .ensures)
-    ∙ cleared-first (l .rest) (low .result) (l .left) (low .ensures .1) (low .ensures .0)
+    ∙ cleared-first (l .rest) (low .result) (l .left) (low .ensures .1) 16 (low .ensures .0)
     ∙ l .inv
 
 returns : tie.Need-returns Inv-loop μ-loop
