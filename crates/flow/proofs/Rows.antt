@@ -15,8 +15,8 @@ use lib.ListN.{length, getD, set, replicate, length-replicate, length-set}
 use lib.Seq.{getD-set-same, getD-set-other, ext-getD}
 use Rattle.sets.specs.Sets.{bit, minus}
 use Rattle.sets.proofs.Laws.{bit-none, bit-minus, or-none}
-use Rattle.words.specs.Tables.{withRow}
-use Rattle.words.proofs.Rows.{row-length, row-other, row-at, row-still}
+use Rattle.words.specs.Tables.{replaced}
+use Rattle.words.proofs.Replaced.{replaced-length, replaced-other, replaced-at, replaced-still}
 use Rattle.words.proofs.Tables.{table-length, table-at, zeros-at}
 use Rattle.flow.specs.Order.{Order}
 use Rattle.flow.specs.Paths.{edgeCount}
@@ -31,17 +31,17 @@ abbrev pub grows : List ℕ → ℕ → List ℕ → ℕ → ℕ
 grows s v row a = bitOr (getD s (8 * v + a) 0) (getD row a 0)
 
 pub grown-length : (s : List ℕ) (v : ℕ) (row : List ℕ) (m : ℕ) → length (grown s v row m) ≡ length s
-grown-length s v row = row-length s v (grows s v row)
+grown-length s v row = replaced-length s (8 * v) (grows s v row)
 
 pub grown-at : (s : List ℕ) (v : ℕ) (row : List ℕ) (m a : ℕ) → a < m → 8 * v + m ≤ length s → getD (grown s v row m) (8 * v + a) 0 ≡ grows s v row a
-grown-at s v row = row-at s v (grows s v row)
+grown-at s v row m a = replaced-at s (8 * v) (grows s v row) 0 m a refl
 
 -- each element is at most the other list's
 abbrev pub Below : List ℕ → List ℕ → Type 0
 Below s t = (x : ℕ) → getD s x 0 ≤ getD t x 0
 
 pub below-grown : (s : List ℕ) (v : ℕ) (row : List ℕ) (m : ℕ) → 8 * v + m ≤ length s → Below s (grown s v row m)
-unfolding withRow
+unfolding replaced
 below-grown s v row zero l x = le-refl _
 below-grown s v row (suc m) l x =
     elim (ℕ-discrete x (8 * v + m)) [
@@ -69,7 +69,7 @@ module _ (n a : ℕ) (col : a < 8) where
             (grown-at s v row 8 a col (omega arith)
             ∙ ap (λ (x : ℕ). bitOr x (getD row a 0)) (sym (table-at (λ u. getD s (8 * u + a) 0) n v h))
             ∙ sym (getD-set-same (column s n a) v _ 0 (subst (λ (x : ℕ). v < x) (sym (table-length (λ u. getD s (8 * u + a) 0) n)) h)))
-        | no e ↦ row-other s v (grows s v row) 8 (8 * w + a) (λ b lb eq. e (omega arith))
+        | no e ↦ replaced-other s (8 * v) (grows s v row) 0 8 (8 * w + a) (λ b lb eq. e (omega arith))
             ∙ sym (table-at (λ u. getD s (8 * u + a) 0) n w in-w)
             ∙ sym (getD-set-other (column s n a) v w _ 0 e)
       ])
@@ -129,7 +129,7 @@ module _ (note s t : List ℕ) (v : ℕ) (row : List ℕ) (fits : 8 * v + 8 ≤ 
     none = λ all.
         let parts : (a : ℕ) → a < 8 → (getD note a 0 ≡ 0) × (minus (getD row a 0) (getD t (8 * v + a) 0) ≡ 0) =
         λ a l. or-none (getD note a 0) (minus (getD row a 0) (getD t (8 * v + a) 0)) (sym (noted-at a l) ∙ all a l) in
-        row-still t v (grows t v row) 8 (λ a l. lacks-none _ _ (parts a l .1)) ∙ h .none (λ a l. parts a l .0);
+        replaced-still t (8 * v) (grows t v row) 0 8 (λ a l. lacks-none _ _ (parts a l .1)) ∙ h .none (λ a l. parts a l .0);
     some = λ same a l.
         let old : t ≡ s = squeezed s t (grown t v row 8) size st (below-grown t v row 8 fits) same in
         let still : grown t v row 8 ≡ t = same ∙ sym old in

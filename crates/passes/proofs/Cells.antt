@@ -1,6 +1,6 @@
 -- Laws of tables of eight columns, the cell of vertex v and array a at 8 v + a; and the part of a file that holds its edges.
 -- Assumes nothing.
-use mathlib.Core.Path.{_≡_, sym, ap, ap₂, subst, _∙_}
+use mathlib.Core.Path.{_≡_, refl, sym, ap, ap₂, subst, _∙_}
 use mathlib.Core.Bool.{Bool, cond}
 use mathlib.Core.List.{List, [], _∷_}
 use Prim.Native.Nat.{ℕ, _+_, _*_, _/_, _%_, _≤_, _<_}
@@ -17,7 +17,7 @@ use Rattle.routine.specs.declared.header.Header.{Header}
 use Rattle.words.specs.Tables.{table, withRow}
 use Rattle.words.proofs.Tests.{at-cond}
 use Rattle.words.proofs.Written.{partFrom, part-is}
-use Rattle.words.proofs.Rows.{row-length, row-other, row-at}
+use Rattle.words.proofs.Replaced.{replaced-length, replaced-other, replaced-at}
 use Rattle.words.proofs.Tables.{table-length, table-at, rows-same}
 use Rattle.labels.specs.Events.{edgeBytes, solvedSets, event, version, versionOf}
 use Rattle.labels.specs.Routines.{ReadAs}
@@ -69,12 +69,12 @@ module _ {file : List ℕ} (well : WellFormed file) where
       → ((a : ℕ) → a < arrays file → r a ≡ g a w) → ((a v : ℕ) → a < arrays file → (v ≡ w → ⊥) → f a v ≡ g a v)
       → Cells file g (withRow s w r (arrays file))
   cells-row {f} {g} r {s} w in-w h new old = record {
-    size = row-length s w r (arrays file) ∙ h .size;
+    size = replaced-length s (8 * w) r (arrays file) ∙ h .size;
     cells = λ a v in-a in-v.
         elim (ℕ-discrete v w) [
           | yes e ↦ subst (λ (x : ℕ). getD (withRow s w r (arrays file)) (8 * x + a) 0 ≡ g a x) (sym e)
-              (row-at s w r (arrays file) a in-a (omega (arith, h .size, well .laid .limits .few-arrays)) ∙ new a in-a)
-          | no e ↦ row-other s w r (arrays file) (8 * v + a) (λ b in-b q. e (omega (arith, in-eight in-a, in-eight in-b))) ∙ h .cells a v in-a in-v ∙ old a v in-a e
+              (replaced-at s (8 * w) r 0 (arrays file) a refl in-a (omega (arith, h .size, well .laid .limits .few-arrays)) ∙ new a in-a)
+          | no e ↦ replaced-other s (8 * w) r 0 (arrays file) (8 * v + a) (λ b in-b q. e (omega (arith, in-eight in-a, in-eight in-b))) ∙ h .cells a v in-a in-v ∙ old a v in-a e
         ];
   }
 

@@ -1,12 +1,12 @@
 -- How many labels a routine has, how long the parts of its plan are, and bounds of both.
 -- Assumes nothing.
-use mathlib.Core.Path.{_≡_, refl, sym, ap, ap₂, subst, _∙_}
+use mathlib.Core.Path.{_≡_, refl, sym, ap, subst, _∙_}
 use mathlib.Core.Bool.{Bool, true, false, cond}
 use mathlib.Core.List.{List, [], _++_}
-use Prim.Native.Nat.{ℕ, zero, suc, _+_, _-_, _*_, _≤_, _<_, min}
+use Prim.Native.Nat.{ℕ, _+_, _-_, _*_, _≤_, _<_, min}
 use native.Mathlib.Decide.{decLt}
 use native.Mathlib.Omega.{arith}
-use lib.ListN.{length, getD, set, drop, length-append, List·getD-append}
+use lib.ListN.{length, getD, set, length-append}
 use Rattle.labels.specs.Events.{isLabel}
 use Rattle.labels.specs.Routines.{ReadAs}
 use Rattle.planbytes.specs.Plan.{labelsAt, labelsBefore, labelCount, contentsEntry, contents, labelBytes, labelEntry, labelRow, labels, planHead, planBytes, planLength}
@@ -15,10 +15,10 @@ use Rattle.routine.specs.declared.header.Header.{Header}
 use Rattle.routine.specs.Layout.{arrays, vertices}
 use Rattle.routine.specs.Reader.{Laid}
 use Rattle.words.specs.Sums.{total}
-use Rattle.words.specs.Tables.{table, rows}
-use Rattle.words.proofs.Filling.{Filling, fill-next}
+use Rattle.words.specs.Tables.{rows}
+use Rattle.words.proofs.Filling.{Filling, fill-next, fill-at}
 use Rattle.words.proofs.Sums.{total-none, total-more, total-few, count-few, rows-total}
-use Rattle.words.proofs.Tables.{table-length, table-at, rows-length}
+use Rattle.words.proofs.Tables.{rows-empty, rows-length}
 
 -- ---- a count over columns of which those from m on count for nothing
 
@@ -52,18 +52,12 @@ module _ (file : List ℕ) where
   unfolding labelsBefore
   before-more v e f = total-more (labelsAt file) v e f
 
-  -- entry u of a table that has been filled from the front
-  first-at : {n : ℕ} {old new : List ℕ} {v : ℕ} → Filling (labelsBefore file) n old new v → (u : ℕ) → u < v → getD new u 0 ≡ labelsBefore file u
-  first-at {n} {old} {new} {v} t u l =
-      ap (λ (s : List ℕ). getD s u 0) (t .is)
-      ∙ List·getD-append (table (labelsBefore file) v) (drop (length (table (labelsBefore file) v)) old) 0 u (omega (arith, table-length (labelsBefore file) v)) ∙ table-at (labelsBefore file) v u l
-
   -- the last entry: how many labels there are
   pub firsts-done : {old new : List ℕ} {v n count : ℕ} → Filling (labelsBefore file) (8 * vertices file) old new v → v ≡ n → n ≡ vertices file → 2 ≤ vertices file → count ≡ labelsBefore file v
       → Firsts file (set new n count)
   firsts-done {old} {new} {v} {n} {count} t e f two g =
       let done = fill-next t (omega (arith, e, f)) g in
-      subst (λ (m : ℕ). Firsts file (set new m count)) e (record { size = done .sized; first = λ u l. first-at done u (omega (arith, e, f)) })
+      subst (λ (m : ℕ). Firsts file (set new m count)) e (record { size = done .sized; first = λ u l. fill-at done u (omega (arith, e, f)) })
 
   module _ (laid : Laid file) where
     pub at-few : (v : ℕ) → labelsAt file v ≤ 8
@@ -85,13 +79,8 @@ module _ (file : List ℕ) where
 
   -- a vertex without labels writes nothing
   pub row-none : (v : ℕ) → ((a : ℕ) → a < arrays file → isLabel file a v ≡ false) → labelRow file v ≡ []
-  unfolding labelRow rows labelEntry
-  row-none v none = go (arrays file) none
-    where
-      go : (m : ℕ) → ((a : ℕ) → a < m → isLabel file a v ≡ false) → rows (labelEntry file v) m ≡ []
-      go zero h = refl
-      go (suc m) h =
-          ap₂ _++_ (go m (λ a l. h a (omega arith))) (ap (λ (b : Bool). cond b (labelBytes file v m) []) (h m (omega arith)))
+  unfolding labelRow labelEntry
+  row-none v none = rows-empty (labelEntry file v) (arrays file) (λ a l. ap (λ (b : Bool). cond b (labelBytes file v a) []) (none a l))
 
   -- vertex v's entry of the contents, from two indices
   pub entry-holds : {firsts : List ℕ} → Laid file → Firsts file firsts → {v : ℕ} → v < vertices file → IndexEntry file firsts v

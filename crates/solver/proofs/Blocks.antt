@@ -20,7 +20,7 @@ use lib.Pow.{shr-le}
 use lib.Seq.{getD-set-same}
 use Rattle.sets.specs.Sets.{bit, has, minus}
 use Rattle.sets.proofs.Laws.{bit-or, has-shr, has-or, has-minus, has-zero, has-single, has-with, has-full, has-out, lowest-has, lowest-none}
-use Rattle.words.proofs.Rows.{row-other, row-still}
+use Rattle.words.proofs.Replaced.{replaced-other, replaced-still}
 use Rattle.words.proofs.Tables.{rows-same, at-set}
 use Rattle.words.proofs.Tests.{neither}
 use Rattle.flow.specs.Order.{Order}
@@ -104,7 +104,7 @@ module _ (es : List ℕ) (along : Bool) (gives passes : List ℕ) where
   handed-other s v row u other =
       rows-same (λ a. handed gives passes (grown s v row 8) (8 * u + a) ∷ []) (λ a. handed gives passes s (8 * u + a) ∷ []) 8
       (λ a l. ap (λ (x : ℕ). bitOr (getD gives (8 * u + a) 0) (bitAnd x (getD passes (8 * u + a) 0)) ∷ [])
-      (row-other s v (grows s v row) 8 (8 * u + a) (λ b lb eq. other (omega arith))))
+      (replaced-other s (8 * v) (grows s v row) 0 8 (8 * u + a) (λ b lb eq. other (omega arith))))
 
   -- an edge whose far end was left as it was, and whose near end holds what it brings, alters nothing
   holds-still : (s : List ℕ) (v : ℕ) (row : List ℕ) (i : ℕ) → (far es along i ≡ v → ⊥)
@@ -112,7 +112,7 @@ module _ (es : List ℕ) (along : Bool) (gives passes : List ℕ) where
       → step es along gives passes (grown s v row 8) i ≡ grown s v row 8
   holds-still s v row i other has-it =
       ap (λ (r : List ℕ). grown (grown s v row 8) (near es along i) r 8) (handed-other s v row (far es along i) other)
-      ∙ row-still (grown s v row 8) (near es along i) (grows (grown s v row 8) (near es along i) (handedRow gives passes s (far es along i))) 8 has-it
+      ∙ replaced-still (grown s v row 8) (8 * near es along i) (grows (grown s v row 8) (near es along i) (handedRow gives passes s (far es along i))) 0 8 has-it
 
   -- an edge alters nothing right after it was taken
   again-still : (s : List ℕ) (i : ℕ) → 8 * near es along i + 8 ≤ length s → (far es along i ≡ near es along i → ⊥)
@@ -139,7 +139,7 @@ module _ (es : List ℕ) (along : Bool) (gives passes : List ℕ) where
             subst (λ (x : ℕ). getD (grown s v row 8) (8 * x + a) 0 ≡ bitOr (getD s (8 * x + a) 0) (getD row a 0)) (sym e) (grown-at s v row 8 a l fits) in
             ap (λ (x : ℕ). bitOr x (getD r a 0)) g ∙ or-more (getD s (8 * u + a) 0) (getD row a 0) (getD r a 0) (held a l) ∙ sym g
         | no e ↦
-            let g : getD (grown s v row 8) (8 * u + a) 0 ≡ getD s (8 * u + a) 0 = row-other s v (grows s v row) 8 (8 * u + a) (λ b lb eq. e (omega arith)) in
+            let g : getD (grown s v row 8) (8 * u + a) 0 ≡ getD s (8 * u + a) 0 = replaced-other s (8 * v) (grows s v row) 0 8 (8 * u + a) (λ b lb eq. e (omega arith)) in
             ap (λ (x : ℕ). bitOr x (getD r a 0)) g ∙ held a l ∙ sym g
       ])
 

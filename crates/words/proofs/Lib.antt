@@ -1,6 +1,6 @@
 pub mod Buffers
 pub mod Filling
-pub mod Rows
+pub mod Replaced
 pub mod Sums
 pub mod Tables
 pub mod Tests

@@ -1,45 +1,48 @@
--- Laws of a row that is replaced in a table of eight columns.
+-- Laws of a list in which entries that follow each other are replaced, one after the other.
 -- Assumes nothing.
 use mathlib.Core.Path.{_≡_, refl, sym, ap, ap₂, _∙_}
 use mathlib.Core.List.{List}
-use Prim.Native.Nat.{ℕ, zero, suc, _+_, _*_, _≤_, _<_}
+use Prim.Native.Nat.{ℕ, zero, suc, _+_, _≤_, _<_}
 use native.Mathlib.Nat.{le-refl}
 use native.Mathlib.Numerals.{add-one}
 use native.Mathlib.Omega.{arith}
 use borrow.Author.Count.{below-more}
 use lib.ListN.{length, getD, set, length-set}
 use lib.Seq.{set-getD, getD-set-same, getD-set-other}
-use Rattle.words.specs.Tables.{withRow}
+use Rattle.words.specs.Tables.{replaced}
 
-module _ (s : List ℕ) (v : ℕ) (f : ℕ → ℕ) where
-  pub row-length : (m : ℕ) → length (withRow s v f m) ≡ length s
-  unfolding withRow
-  row-length zero = refl
-  row-length (suc m) = length-set (withRow s v f m) _ _ ∙ row-length m
+module _ {A : Type 0} (s : List A) (at : ℕ) (f : ℕ → A) where
+  pub replaced-length : (m : ℕ) → length (replaced s at f m) ≡ length s
+  unfolding replaced
+  replaced-length zero = refl
+  replaced-length (suc m) = length-set (replaced s at f m) _ _ ∙ replaced-length m
 
   -- one more entry
-  pub row-next : {t : List ℕ} {k x : ℕ} (m : ℕ) → t ≡ withRow s v f m → k ≡ 8 * v + m → x ≡ f m → set t k x ≡ withRow s v f (m + 1)
-  unfolding withRow
-  row-next {t} {k} {x} m e at is = ap₂ (λ (i y : ℕ). set t i y) at is ∙ ap (λ (l : List ℕ). set l (8 * v + m) (f m)) e ∙ ap (withRow s v f) (sym (add-one m))
+  pub replaced-next : {t : List A} {k : ℕ} {x : A} (m : ℕ) → t ≡ replaced s at f m → k ≡ at + m → x ≡ f m → set t k x ≡ replaced s at f (m + 1)
+  unfolding replaced
+  replaced-next {t} {k} {x} m e here is =
+      ap₂ (λ (i : ℕ) (y : A). set t i y) here is ∙ ap (λ (l : List A). set l (at + m) (f m)) e ∙ ap (replaced s at f) (sym (add-one m))
 
-  -- outside of the row nothing changes
-  pub row-other : (m x : ℕ) → ((a : ℕ) → a < m → x ≡ 8 * v + a → ⊥) → getD (withRow s v f m) x 0 ≡ getD s x 0
-  unfolding withRow
-  row-other zero x h = refl
-  row-other (suc m) x h = getD-set-other (withRow s v f m) (8 * v + m) x _ 0 (h m (le-refl (suc m))) ∙ row-other m x (λ a l. h a (omega arith))
+  -- the others are as they were
+  pub replaced-other : (d : A) (m x : ℕ) → ((a : ℕ) → a < m → x ≡ at + a → ⊥) → getD (replaced s at f m) x d ≡ getD s x d
+  unfolding replaced
+  replaced-other d zero x h = refl
+  replaced-other d (suc m) x h = getD-set-other (replaced s at f m) (at + m) x _ d (h m (le-refl (suc m))) ∙ replaced-other d m x (λ a l. h a (omega arith))
 
   -- what was replaced
-  pub row-at : (m a : ℕ) → a < m → 8 * v + m ≤ length s → getD (withRow s v f m) (8 * v + a) 0 ≡ f a
-  unfolding withRow
-  row-at zero a h l = absurd (omega arith)
-  row-at (suc m) a h l =
-      below-more (λ x. getD (withRow s v f (suc m)) (8 * v + x) 0 ≡ f x) m
-      (λ x b. getD-set-other (withRow s v f m) (8 * v + m) (8 * v + x) _ 0 (λ e. omega arith) ∙ row-at m x b (omega arith))
-      (getD-set-same (withRow s v f m) (8 * v + m) _ 0 (omega (arith, row-length m)))
+  pub replaced-at : (d : A) (m a : ℕ) {k : ℕ} → k ≡ at + a → a < m → at + m ≤ length s → getD (replaced s at f m) k d ≡ f a
+  unfolding replaced
+  replaced-at d zero a e h l = absurd (omega arith)
+  replaced-at d (suc m) a e h l =
+      ap (λ (k : ℕ). getD (replaced s at f (suc m)) k d) e
+      ∙ below-more (λ x. getD (replaced s at f (suc m)) (at + x) d ≡ f x) m
+      (λ x b. getD-set-other (replaced s at f m) (at + m) (at + x) _ d (λ e. omega arith) ∙ replaced-at d m x refl b (omega arith))
+      (getD-set-same (replaced s at f m) (at + m) _ d (omega (arith, replaced-length m)))
       a (omega arith)
 
   -- entries replaced by themselves
-  pub row-still : (m : ℕ) → ((a : ℕ) → a < m → f a ≡ getD s (8 * v + a) 0) → withRow s v f m ≡ s
-  unfolding withRow
-  row-still zero h = refl
-  row-still (suc m) h = ap₂ (λ (t : List ℕ) (x : ℕ). set t (8 * v + m) x) (row-still m (λ a l. h a (omega arith))) (h m (le-refl (suc m))) ∙ set-getD s (8 * v + m) 0
+  pub replaced-still : (d : A) (m : ℕ) → ((a : ℕ) → a < m → f a ≡ getD s (at + a) d) → replaced s at f m ≡ s
+  unfolding replaced
+  replaced-still d zero h = refl
+  replaced-still d (suc m) h =
+      ap₂ (λ (t : List A) (x : A). set t (at + m) x) (replaced-still d m (λ a l. h a (omega arith))) (h m (le-refl (suc m))) ∙ set-getD s (at + m) d

@@ -7,7 +7,7 @@ use native.Mathlib.Numerals.{add-one}
 use native.Mathlib.Omega.{arith}
 use borrow.Author.Count.{below-more}
 use lib.ListN.{length, getD, set, replicate, length-append, List·getD-append}
-use lib.Seq.{getD-at, getD-set-same, getD-set-other}
+use lib.Seq.{getD-at}
 use Rattle.words.specs.Tables.{table, rows}
 
 -- ---- stores
@@ -19,12 +19,6 @@ at-set Q (x ∷ s) zero m zero new old = new
 at-set Q (x ∷ s) zero m (suc v) new old = old
 at-set Q (x ∷ s) (suc i) m zero new old = old
 at-set Q (x ∷ s) (suc i) m (suc v) new old = at-set (λ u. Q (suc u)) s i m v new old
-
--- the first entries are as they should be, and a store makes it one more
-pub entries-next : {A : Type 0} (d : A) (f : ℕ → A) (s : List A) (a : ℕ) {x : A} → a < length s → ((b : ℕ) → b < a → getD s b d ≡ f b) → x ≡ f a
-    → (b : ℕ) → b < a + 1 → getD (set s a x) b d ≡ f b
-entries-next d f s a {x} room first e =
-    below-more (λ b. getD (set s a x) b d ≡ f b) a (λ b h. getD-set-other s a b x d (λ q. omega arith) ∙ first b h) (getD-set-same s a x d room ∙ e)
 
 -- a list of zeros has 0 everywhere
 pub zeros-at : (n v : ℕ) → _≡_ {A = ℕ} (getD (replicate n 0) v 0) 0
@@ -49,6 +43,12 @@ pub rows-same : {A : Type 0} (f g : ℕ → List A) (n : ℕ) → ((i : ℕ) →
 unfolding rows
 rows-same f g zero same = refl
 rows-same f g (suc n) same = ap₂ _++_ (rows-same f g n (λ i h. same i (omega arith))) (same n (omega arith))
+
+-- rows without entries are none
+pub rows-empty : {A : Type 0} (row : ℕ → List A) (n : ℕ) → ((i : ℕ) → i < n → row i ≡ []) → rows row n ≡ []
+unfolding rows
+rows-empty row zero none = refl
+rows-empty row (suc n) none = ap₂ _++_ (rows-empty row n (λ i h. none i (omega arith))) (none n (omega arith))
 
 pub rows-more : (row : ℕ → List ℕ) (i : ℕ) → rows row i ++ row i ≡ rows row (i + 1)
 unfolding rows

@@ -2,26 +2,32 @@
 -- Assumes nothing.
 use mathlib.Core.Path.{_≡_, refl, ap, _∙_}
 use mathlib.Core.Bool.{Bool, cond}
-use Prim.Native.Nat.{ℕ, _-_, _≤_, _<_}
+use Prim.Native.Nat.{ℕ, _-_, _≤_}
 use native.Mathlib.Omega.{arith}
 use borrow.Author.Needs.{needs}
-use lib.ListN.{length, getD, length-set}
+use mathlib.Core.List.{List}
+use lib.ListN.{length, getD, replicate}
 use Rattle.routine.specs.Arrays.{kind, isIn}
 use Rattle.routine.specs.Layout.{arrays}
 use Rattle.routine.specs.declared.array.ArrayRecord.{ArrayRecord}
-use Rattle.words.proofs.Tables.{entries-next}
+use Rattle.words.specs.Tables.{replaced}
+use Rattle.words.proofs.Replaced.{replaced-length, replaced-next, replaced-at}
 use Rattle.checks.proofs.in_masks.Statement.{statement}
 use Rattle.checks.proofs.in_masks.Tie as tie
 
+-- the mask of array b
+abbrev mask : List ℕ → ℕ → ℕ
+mask file b = cond (isIn (kind file b)) 0b1000 0
+
 abbrev Inv-loop : tie.InvT-loop
-Inv-loop file masks₀ m a₀ masks a =
-    (a ≤ arrays file) × (length masks ≡ 8) × ((b : ℕ) → b < a → getD masks b 0 ≡ cond (isIn (kind file b)) 0b1000 0)
+Inv-loop file masks₀ m a₀ masks a = (a ≤ arrays file) × (masks ≡ replaced masks₀ 0 (mask file) a)
 
 abbrev μ-loop : tie.MeasureT-loop
 μ-loop file masks₀ m a₀ masks a = m - a
 
 loop-holds : tie.Need-loop-holds Inv-loop μ-loop
-loop-holds c = (omega arith, refl, λ b h. absurd (omega arith))
+unfolding replaced
+loop-holds c = (omega arith, refl)
 
 record-of-requires : tie.Need-record-of-requires Inv-loop μ-loop
 record-of-requires c κs = let s = c .before .before .before in (s .pre .well .laid, omega (arith, s .pre .heads .arrays-are))
@@ -47,18 +53,22 @@ loop-less c = omega arith
 loop-again : tie.Need-loop-again Inv-loop μ-loop
 loop-again c =
     let l = c .before .before .before .before in
-    let s = l .before .before in
-    let below : l .loop .a < arrays (s .args .file .now) = omega (arith, s .pre .heads .arrays-are) in (
-      omega arith,
-      length-set (l .loop .masks) _ _ ∙ l .loop .inv .1,
-      entries-next 0 (λ b. cond (isIn (kind (s .args .file .now) b)) 0b1000 0) (l .loop .masks) (l .loop .a) (omega (arith, l .loop .inv .1, s .pre .well .laid .limits .few-arrays)) (l .loop .inv .2)
+    let s = l .before .before in (
+      omega (arith, s .pre .heads .arrays-are),
+      replaced-next _ 0 (mask (s .args .file .now)) (l .loop .a) (l .loop .inv .1) (omega arith)
           (c .set-if .ensures ∙ ap (λ (b : Bool). cond b 0b1000 0) (c .before .is-in .ensures ∙ ap (λ (r : ArrayRecord). isIn (r .kind)) (c .before .before .record-of .ensures))),
     )
 
 returns : tie.Need-returns Inv-loop μ-loop
 returns c =
     let l = c .before in
-    record { size = l .loop .inv .1; are = λ a h. l .loop .inv .2 a (omega (arith, l .before .before .pre .heads .arrays-are)) }
+    let s = l .before .before in
+    let is = l .loop .inv .1 in
+    record {
+      size = ap length is ∙ replaced-length (replicate 8 0) 0 (mask (s .args .file .now)) (l .loop .a);
+      are = λ a h. ap (λ (t : List ℕ). getD t a 0) is
+          ∙ replaced-at (replicate 8 0) 0 (mask (s .args .file .now)) 0 (l .loop .a) a (omega arith) (omega (arith, s .pre .heads .arrays-are)) (omega (arith, l .loop .inv .0, s .pre .well .laid .limits .few-arrays));
+    }
 
 pub in-masks-spec : {M : Type 1} → statement M
 in-masks-spec =

@@ -11,8 +11,8 @@ use lib.Bits.{bitOr}
 use lib.ListN.{length, getD, set, length-set}
 use Rattle.sets.specs.Sets.{minus}
 use Rattle.flow.specs.Solver.{grown}
-use Rattle.words.specs.Tables.{withRow}
-use Rattle.words.proofs.Rows.{row-other}
+use Rattle.words.specs.Tables.{replaced}
+use Rattle.words.proofs.Replaced.{replaced-other}
 use Rattle.words.proofs.Filling.{Filling, fill-begin, fill-next, fill-behind, fill-end}
 use Rattle.flow.proofs.join.Statement.{statement}
 use Rattle.flow.proofs.join.Tie as tie
@@ -26,7 +26,7 @@ abbrev μ-loop : tie.MeasureT-loop
 μ-loop sets₀ v row noted₀ a₀ sets noted a = 8 - a
 
 loop-holds : tie.Need-loop-holds Inv-loop μ-loop
-unfolding withRow
+unfolding replaced
 loop-holds c = (refl, refl, fill-begin _ (c .before .pre .1))
 
 mul-at : tie.Need-mul-at Inv-loop μ-loop
@@ -75,14 +75,14 @@ loop-less : tie.Need-loop-less Inv-loop μ-loop
 loop-less c = omega arith
 
 loop-again : tie.Need-loop-again Inv-loop μ-loop
-unfolding withRow
+unfolding replaced
 loop-again c =
     let l = c .before .before .before in
     let s = l .before .before in
     let a = l .loop .a in
     let v = s .args .v in
     let old : getD (l .loop .sets) (8 * v + a) 0 ≡ getD (s .args .sets .now) (8 * v + a) 0 =
-    ap (λ (t : List ℕ). getD t (8 * v + a) 0) (l .loop .inv .0) ∙ row-other (s .args .sets .now) v _ a (8 * v + a) (λ b h e. omega arith) in (
+    ap (λ (t : List ℕ). getD t (8 * v + a) 0) (l .loop .inv .0) ∙ replaced-other (s .args .sets .now) (8 * v) _ 0 a (8 * v + a) (λ b h e. omega arith) in (
       ap₂ (λ (t : List ℕ) (x : ℕ). set t (8 * v + a) (bitOr x (getD (s .args .t3) a 0))) (l .loop .inv .0) old ∙ ap (grown (s .args .sets .now) v (s .args .t3)) (sym (add-one a)),
       length-set (l .loop .sets) _ _ ∙ l .loop .inv .1,
       fill-next (l .loop .inv .2) (c .before .before .loop-test .taken)

@@ -1,13 +1,13 @@
 -- `reaching::enter` meets its contract: a row is replaced.
 -- Assumes nothing.
 use mathlib.Core.Path.{_≡_, refl, ap, _∙_}
-use Prim.Native.Nat.{_-_, _≤_}
+use Prim.Native.Nat.{_-_, _*_, _≤_}
 use native.Mathlib.Omega.{arith}
 use lib.ListN.{length, length-set}
 use Rattle.labels.specs.Reaching.{reachingOf}
 use Rattle.routine.specs.Layout.{arrays, entry}
-use Rattle.words.specs.Tables.{withRow}
-use Rattle.words.proofs.Rows.{row-next}
+use Rattle.words.specs.Tables.{replaced, withRow}
+use Rattle.words.proofs.Replaced.{replaced-next}
 use Rattle.passes.proofs.reaching.enter.Statement.{statement}
 use Rattle.passes.proofs.reaching.enter.Tie as tie
 
@@ -19,7 +19,7 @@ abbrev μ-loop : tie.MeasureT-loop
 μ-loop file h sets₀ m a₀ sets a = m - a
 
 loop-holds : tie.Need-loop-holds Inv-loop μ-loop
-unfolding withRow
+unfolding replaced
 loop-holds c = (omega arith, refl, refl)
 
 at-entry-requires : tie.Need-at-entry-requires Inv-loop μ-loop
@@ -44,7 +44,7 @@ loop-again c =
     let file = s .args .file .now in (
       omega (arith, s .pre .0 .heads .arrays-are),
       length-set (l .loop .sets) _ _ ∙ l .loop .inv .1,
-      row-next (s .args .sets .now) entry (λ b. reachingOf file b entry) (l .loop .a) (l .loop .inv .2) (omega arith) (c .at-entry .ensures),
+      replaced-next (s .args .sets .now) (8 * entry) (λ b. reachingOf file b entry) (l .loop .a) (l .loop .inv .2) (omega arith) (c .at-entry .ensures),
     )
 
 same-length : tie.Need-same-length Inv-loop μ-loop

@@ -2,7 +2,7 @@
 -- Assumes nothing.
 use mathlib.Core.Path.{_≡_, refl, sym, ap, ap₂, subst, _∙_}
 use mathlib.Core.Bool.{Bool, not, _||_, cond}
-use Prim.Native.Nat.{ℕ, _-_, _≤_, _<_, _^_}
+use Prim.Native.Nat.{ℕ, _-_, _*_, _≤_, _<_, _^_}
 use native.Mathlib.Omega.{arith}
 use borrow.Author.Needs.{needs}
 use lib.ListN.{length, getD, length-set}
@@ -11,8 +11,8 @@ use Rattle.labels.specs.Letters.{useOfByte}
 use Rattle.labels.specs.Uses.{isN}
 use Rattle.routine.specs.Layout.{arrays, entry}
 use Rattle.routine.specs.declared.array.ArrayRecord.{ArrayRecord}
-use Rattle.words.specs.Tables.{withRow}
-use Rattle.words.proofs.Rows.{row-next}
+use Rattle.words.specs.Tables.{replaced, withRow}
+use Rattle.words.proofs.Replaced.{replaced-next}
 use Rattle.labels.proofs.Rules.Proper.{proper}
 use Rattle.passes.proofs.reaching.enter_gives.Statement.{statement}
 use Rattle.passes.proofs.reaching.enter_gives.Tie as tie
@@ -25,7 +25,7 @@ abbrev μ-loop : tie.MeasureT-loop
 μ-loop file letters gives₀ m a₀ gives a = m - a
 
 loop-holds : tie.Need-loop-holds Inv-loop μ-loop
-unfolding withRow
+unfolding replaced
 loop-holds c = (omega arith, refl, refl)
 
 record-of-requires : tie.Need-record-of-requires Inv-loop μ-loop
@@ -69,7 +69,7 @@ loop-again c =
     let r = c .before .before .before .before .before .record-of .ensures in (
       omega (arith, s .pre .0 .heads .arrays-are),
       length-set (l .loop .gives) _ _ ∙ l .loop .inv .1,
-      row-next (s .args .gives .now) entry (λ b. cond (not (isN (useOfByte (getD letters b 0))) || isInOrInout (kind file b)) (2 ^ initial file b) 0) (l .loop .a) (l .loop .inv .2) (omega arith)
+      replaced-next (s .args .gives .now) (8 * entry) (λ b. cond (not (isN (useOfByte (getD letters b 0))) || isInOrInout (kind file b)) (2 ^ initial file b) 0) (l .loop .a) (l .loop .inv .2) (omega arith)
           (c .set-if .ensures
           ∙ ap₂ (λ (b : Bool) (x : ℕ). cond b x 0)
           (ap₂ _||_ (c .before .before .before .leaves .ensures) (c .before .before .is-in-or-inout .ensures ∙ ap (λ (q : ArrayRecord). isInOrInout (q .kind)) r))

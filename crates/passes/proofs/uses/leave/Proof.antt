@@ -1,7 +1,7 @@
 -- `uses::leave` meets its contract: a row is replaced.
 -- Assumes nothing.
 use mathlib.Core.Path.{_≡_, refl, ap, _∙_}
-use Prim.Native.Nat.{_-_, _≤_}
+use Prim.Native.Nat.{_-_, _*_, _≤_}
 use native.Mathlib.Omega.{arith}
 use borrow.Author.Needs.{needs}
 use lib.ListN.{length, length-set}
@@ -10,8 +10,8 @@ use Rattle.labels.specs.Letters.{letterByte}
 use Rattle.labels.specs.Uses.{exitUse}
 use Rattle.routine.specs.Layout.{arrays, exit}
 use Rattle.routine.specs.declared.array.ArrayRecord.{ArrayRecord}
-use Rattle.words.specs.Tables.{withRow}
-use Rattle.words.proofs.Rows.{row-next}
+use Rattle.words.specs.Tables.{replaced, withRow}
+use Rattle.words.proofs.Replaced.{replaced-next}
 use Rattle.passes.proofs.uses.leave.Statement.{statement}
 use Rattle.passes.proofs.uses.leave.Tie as tie
 
@@ -29,7 +29,7 @@ mul-row : tie.Need-mul-row Inv-loop μ-loop
 mul-row c = let s = c .before .before .before in omega (arith, s .pre .0 .heads .vertices-are, s .pre .0 .heads .arrays-are, s .pre .1, s .pre .0 .well .laid .limits .few-arrays, s .pre .0 .well .laid .limits .two-vertices)
 
 loop-holds : tie.Need-loop-holds Inv-loop μ-loop
-unfolding withRow
+unfolding replaced
 loop-holds c = (omega arith, refl, refl)
 
 record-of-requires : tie.Need-record-of-requires Inv-loop μ-loop
@@ -61,7 +61,7 @@ loop-again c =
     let file = s .args .file .now in (
       omega (arith, is .arrays-are),
       length-set (l .loop .letters) _ _ ∙ l .loop .inv .1,
-      row-next (s .args .letters .now) (exit file) (λ b. letterByte (exitUse (kind file b))) (l .loop .a) (l .loop .inv .2)
+      replaced-next (s .args .letters .now) (8 * exit file) (λ b. letterByte (exitUse (kind file b))) (l .loop .a) (l .loop .inv .2)
           (omega (arith, is .vertices-are))
           (c .letter .ensures ∙ ap letterByte (c .before .at-exit .ensures ∙ ap (λ (r : ArrayRecord). exitUse (r .kind)) (c .before .before .record-of .ensures))),
     )
