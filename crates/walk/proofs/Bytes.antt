@@ -41,22 +41,26 @@ recordBytesAt file path i a =
     (recordsAt (event file a (vertexAt path i)) (i + 1) a (stateAfter file path a i .current)
     (stampOf (stateAfter file path a i) (stateAfter file path a i .current)))
 
-pub records-bytes : (file path : List ℕ) → recordsBytes (runRecords file path) ≡ rows (λ i. rows (recordBytesAt file path i) (arrays file)) (steps path)
+-- those of all arrays
+abbrev pub stepBytes : List ℕ → List ℕ → ℕ → List ℕ
+stepBytes file path i = rows (recordBytesAt file path i) (arrays file)
+
+pub records-bytes : (file path : List ℕ) → recordsBytes (runRecords file path) ≡ rows (stepBytes file path) (steps path)
 unfolding runRecords
 records-bytes file path = byStep-bytes _ (arrays file) (steps path)
 
 -- ---- how many bytes
 
 module _ (file path : List ℕ) where
-  at-step : (i : ℕ) → length (rows (recordBytesAt file path i) (arrays file)) ≡ 10 * referencesAt file (vertexAt path i)
+  at-step : (i : ℕ) → length (stepBytes file path i) ≡ 10 * referencesAt file (vertexAt path i)
   at-step i =
       rows-total (recordBytesAt file path i) (λ a. cond (isReference (event file a (vertexAt path i))) 1 0) 10
       (λ a. ten (event file a (vertexAt path i)) (i + 1) a _ _)
       (arrays file)
 
-  on-path : (n : ℕ) → length (rows (λ i. rows (recordBytesAt file path i) (arrays file)) n) ≡ 10 * referencesOn file path n
+  on-path : (n : ℕ) → length (rows (stepBytes file path) n) ≡ 10 * referencesOn file path n
   unfolding referencesOn
-  on-path = rows-total (λ i. rows (recordBytesAt file path i) (arrays file)) (λ i. referencesAt file (vertexAt path i)) 10 at-step
+  on-path = rows-total (stepBytes file path) (λ i. referencesAt file (vertexAt path i)) 10 at-step
 
   -- references on a path, counted vertex by vertex; they are few
   pub on-none : 0 ≡ referencesOn file path 0

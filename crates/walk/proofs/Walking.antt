@@ -7,7 +7,7 @@ use Prim.Native.Nat.{ℕ, _+_, _-_, _≤_, _<_}
 use native.Mathlib.Numerals.{add-one}
 use native.Mathlib.Omega.{arith}
 use lib.Dec.{T, eqb}
-use lib.ListN.{length, getD, take, drop, length-append}
+use lib.ListN.{length, getD, take, drop}
 use Rattle.labels.specs.Events.{event, versionOf, version}
 use Rattle.labels.specs.Kept.{keptOf}
 use Rattle.labels.specs.Letters.{letterByte, useOfByte}
@@ -37,34 +37,29 @@ use Rattle.report.specs.Records.{recordsAt}
 use Rattle.report.specs.Bytes.{stateOf, recordsBytes}
 use Rattle.demand.specs.Run.{stateAfter, runRecords}
 use Rattle.walk.specs.Walks.{Held, rowBytes, Referred, Unlabelled, relabelledAt}
-use Rattle.walk.proofs.Bytes.{recordBytesAt, records-bytes}
-use Rattle.walk.proofs.Held.{held-as}
+use Rattle.walk.proofs.Bytes.{recordBytesAt, stepBytes, records-bytes}
+use Rattle.walk.proofs.Held.{held-as, after-length, after-at}
 use Rattle.demand.proofs.Demand.{state-fits, reference-below}
 use Rattle.words.specs.Tables.{rows, wrote}
-use Rattle.words.proofs.Tables.{rows-fit, rows-more, rows-same}
-use Rattle.words.proofs.Written.{partFrom, write-more}
+use Rattle.words.proofs.Buffers.{Filled, begin, next-row, onward, end}
+use Rattle.words.proofs.Tables.{rows-same}
+use Rattle.words.proofs.Written.{partFrom}
 
--- the records of the first i vertices
-abbrev pub doneAt : List ℕ → List ℕ → ℕ → List ℕ
-doneAt file path i = rows (λ i. rows (recordBytesAt file path i) (arrays file)) i
-
+-- the bytes of the first i vertices stand at the front, up to `at`
 pub record Walking (file path old : List ℕ) (at i : ℕ) (states : List State) (versions stamps out : List ℕ) : Type 0 where
-  pub on-path : i ≤ steps path
   pub held : Held (λ b. stateAfter file path b i) (arrays file) states versions stamps
-  pub out-is : out ≡ wrote old (doneAt file path i)
-  pub place : at ≡ length (doneAt file path i)
+  pub filled : Filled (stepBytes file path) (steps path) old i out
+  pub place : at ≡ length (rows (stepBytes file path) i)
 
 -- before the first step
-pub begins : (file path old : List ℕ) {states : List State} {versions stamps : List ℕ} → Held (λ a. started (arrayOf file a)) (arrays file) states versions stamps
-    → Walking file path old 0 0 states versions stamps old
+pub begins : (file path old : List ℕ) {states : List State} {versions stamps : List ℕ} → length (recordsBytes (runRecords file path)) ≤ length old
+    → Held (λ a. started (arrayOf file a)) (arrays file) states versions stamps → Walking file path old 0 0 states versions stamps old
 unfolding stateAfter rows
-begins file path old h = record { on-path = omega arith; held = h; out-is = refl; place = refl }
-
--- the next records have room
-pub room : (file path : List ℕ) {i size : ℕ} → i < steps path → length (recordsBytes (runRecords file path)) ≤ size
-    → length (doneAt file path i) + length (rows (recordBytesAt file path i) (arrays file)) ≤ size
-room file path {i} in-i fits =
-    omega (arith, rows-fit (λ i. rows (recordBytesAt file path i) (arrays file)) (steps path) i in-i, ap length (records-bytes file path))
+begins file path old fits h = record {
+  held = h;
+  filled = begin (stepBytes file path) (steps path) old (subst (λ (l : List ℕ). length l ≤ length old) (records-bytes file path) fits);
+  place = refl;
+}
 
 -- ---- one vertex
 
@@ -117,12 +112,15 @@ module _ (file path : List ℕ) (well : WellFormed file) (accepted : pathCheck f
           sym (seen-is (getD stamps b 0) s sixteen (below r)) ∙ ap (λ (s : State). stampOf s (s .current)) is,
         )))
 
-  pub row-is : rowBytes file v (i + 1) versions stamps (arrays file) ≡ rows (recordBytesAt file path i) (arrays file)
+  pub row-is : rowBytes file v (i + 1) versions stamps ≡ stepBytes file path i
   unfolding rowBytes
   row-is = rows-same _ (recordBytesAt file path i) (arrays file) record-is
 
   -- once the references are made
-  module _ {old : List ℕ} {bytes : ℕ} {after new : List ℕ} (r : Referred file v (i + 1) versions stamps old (arrays file) bytes after new) where
+  module _ {old : List ℕ} {bytes : ℕ} {after new : List ℕ} (r : Referred file v (i + 1) versions stamps old bytes after new) where
+    pub stamps-sized : length after ≡ 8
+    stamps-sized = after-length file v (i + 1) stamps (r .stamps-are) ∙ held .stamps-sized
+
     module _ (b : ℕ) (in-b : b < arrays file) where
       abbrev after-b : State
       after-b = settled (getD after b 0) (stateOf states b)
@@ -152,7 +150,7 @@ module _ (file path : List ℕ) (well : WellFormed file) (accepted : pathCheck f
           let keep = keptOf file b v in
           let x = event file b v in
           ap (left a (eqb v (exit file)))
-          (ap (λ (y : ℕ). relabelled a x u keep (settled y (stateOf states b))) (r .served b in-b)
+          (ap (λ (y : ℕ). relabelled a x u keep (settled y (stateOf states b))) (after-at file v (i + 1) stamps (r .stamps-are) (omega (arith, held .stamps-sized, well .laid .limits .few-arrays)) b in-b)
           ∙ visited-is a u keep (i + 1) (getD stamps b 0) (stateOf states b) x (sixteen b in-b) (below b in-b)
           ∙ ap (visited a x u keep (i + 1)) (is b in-b))
           ∙ ap (stateAfter file path b) (sym (add-one i))
@@ -168,7 +166,7 @@ module _ (file path : List ℕ) (well : WellFormed file) (accepted : pathCheck f
     held-on u = record {
       states-sized = held .states-sized;
       versions-sized = held .versions-sized;
-      stamps-sized = r .sized;
+      stamps-sized = stamps-sized;
       stand = λ b in-b. record { is = sym (stays b in-b u) ∙ relabelled-next b in-b; version-is = held .stand b in-b .version-is };
     }
 
@@ -179,26 +177,16 @@ module _ (file path : List ℕ) (well : WellFormed file) (accepted : pathCheck f
 -- the step is made
 module _ (file path : List ℕ) (well : WellFormed file) (accepted : pathCheck file path ≡ Passed) {old : List ℕ} {at i : ℕ}
     {states : List State} {versions stamps out : List ℕ} (in-i : i < steps path) (short : steps path ≤ 4096) (w : Walking file path old at i states versions stamps out)
-    {bytes : ℕ} {after new : List ℕ} (r : Referred file (vertexAt path i) (i + 1) versions stamps (partFrom out at) (arrays file) bytes after new) where
-  abbrev row : List ℕ
-  row = rows (recordBytesAt file path i) (arrays file)
-
-  row-same : rowBytes file (vertexAt path i) (i + 1) versions stamps (arrays file) ≡ row
+    {bytes : ℕ} {after new : List ℕ} (r : Referred file (vertexAt path i) (i + 1) versions stamps (partFrom out at) bytes after new) where
+  row-same : rowBytes file (vertexAt path i) (i + 1) versions stamps ≡ stepBytes file path i
   row-same = row-is file path well accepted in-i short (w .held)
-
-  more : doneAt file path i ++ row ≡ doneAt file path (i + 1)
-  more = rows-more (λ i. rows (recordBytesAt file path i) (arrays file)) i
 
   pub steps-on : {states' : List State} {versions' stamps' : List ℕ} → Held (λ b. stateAfter file path b (i + 1)) (arrays file) states' versions' stamps'
       → Walking file path old (at + bytes) (i + 1) states' versions' stamps' (take at out ++ (new ++ drop (length out - at) (drop at out)))
   steps-on h = record {
-    on-path = omega arith;
     held = h;
-    out-is =
-        write-more old (doneAt file path i) out row new at (w .place) (w .out-is) (r .out-is ∙ ap (wrote (partFrom out at)) row-same)
-        ∙ ap (wrote old) more;
-    place =
-        ap₂ _+_ (w .place) (r .length-is ∙ ap length row-same) ∙ sym (length-append (doneAt file path i) row) ∙ ap length more;
+    filled = next-row (w .filled) (w .place) in-i (r .out-is ∙ ap (wrote (partFrom out at)) row-same);
+    place = onward (w .filled) (w .place) (r .length-is ∙ ap length row-same);
   }
 
 -- ---- the path ends
@@ -206,10 +194,10 @@ module _ (file path : List ℕ) (well : WellFormed file) (accepted : pathCheck f
 module _ {file path old : List ℕ} {at i : ℕ} {states : List State} {versions stamps out : List ℕ}
     (w : Walking file path old at i states versions stamps out) (ends : steps path ≤ i) where
   over : i ≡ steps path
-  over = omega (arith, w .on-path)
+  over = omega (arith, w .filled .within)
 
   pub all-written : out ≡ wrote old (recordsBytes (runRecords file path))
-  all-written = w .out-is ∙ ap (wrote old) (ap (doneAt file path) over ∙ sym (records-bytes file path))
+  all-written = end (w .filled) ends ∙ ap (wrote old) (sym (records-bytes file path))
 
   pub last-states : (b : ℕ) → b < arrays file → settled (getD stamps b 0) (stateOf states b) ≡ stateAfter file path b (steps path)
   last-states b in-b = w .held .stand b in-b .is ∙ ap (stateAfter file path b) over
@@ -217,4 +205,4 @@ module _ {file path old : List ℕ} {at i : ℕ} {states : List State} {versions
   pub last-current : WellFormed file → pathCheck file path ≡ Passed → (b : ℕ) → b < arrays file → Current (stateOf states b)
   last-current well accepted b in-b =
       settled-before (getD stamps b 0) (stateOf states b)
-      (subst Current (sym (w .held .stand b in-b .is)) (state-fits file path well accepted b i in-b (w .on-path) .current))
+      (subst Current (sym (w .held .stand b in-b .is)) (state-fits file path well accepted b i in-b (w .filled .within) .current))

@@ -3,7 +3,7 @@
 use mathlib.Core.Path.{_≡_}
 use mathlib.Core.Bool.{Bool, true, false, cond}
 use mathlib.Core.List.{List}
-use Prim.Native.Nat.{ℕ, _≤_, _<_}
+use Prim.Native.Nat.{ℕ, _<_}
 use lib.Dec.{eqb}
 use lib.ListN.{length, getD}
 use Rattle.labels.specs.Events.{event}
@@ -18,7 +18,7 @@ use Rattle.state.specs.Vertex.{labelled, relabelled}
 use Rattle.state.specs.declared.State.{State}
 use Rattle.report.specs.Records.{recordsAt}
 use Rattle.report.specs.Bytes.{stateOf, recordsBytes}
-use Rattle.words.specs.Tables.{rows, wrote}
+use Rattle.words.specs.Tables.{rows, replaced, wrote}
 
 -- an array's state, held as a state, its current version, and the stamp of its current copy
 pub record Stands (want s : State) (version stamp : ℕ) : Type 0 where
@@ -32,19 +32,24 @@ pub record Held (want : ℕ → State) (m : ℕ) (states : List State) (versions
   pub stamps-sized : length stamps ≡ 8
   pub stand : (b : ℕ) → b < m → Stands (want b) (stateOf states b) (getD versions b 0) (getD stamps b 0)
 
--- the records of the first m arrays at vertex v
-unfoldable pub rowBytes : List ℕ → ℕ → ℕ → List ℕ → List ℕ → ℕ → List ℕ
-unfolding rows event
-rowBytes file v step versions stamps m =
-    rows (λ a. recordsBytes (recordsAt (event file a v) step a (getD versions a 0) (getD stamps a 0))) m
+-- the bytes of array a at vertex v: a record, if it is referenced there
+abbrev pub cellBytes : List ℕ → ℕ → ℕ → List ℕ → List ℕ → ℕ → List ℕ
+cellBytes file v step versions stamps a = recordsBytes (recordsAt (event file a v) step a (getD versions a 0) (getD stamps a 0))
 
--- the references of the first m arrays at vertex v: the records, and the stamps after them
-pub record Referred (file : List ℕ) (v step : ℕ) (versions before old : List ℕ) (m bytes : ℕ) (after new : List ℕ) : Type 0 where
-  pub length-is : bytes ≡ length (rowBytes file v step versions before m)
-  pub out-is : new ≡ wrote old (rowBytes file v step versions before m)
-  pub sized : length after ≡ 8
-  pub served : (b : ℕ) → b < m → getD after b 0 ≡ stampBy (event file b v) step (getD before b 0)
-  pub others : (b : ℕ) → m ≤ b → getD after b 0 ≡ getD before b 0
+-- those of all arrays
+unfoldable pub rowBytes : List ℕ → ℕ → ℕ → List ℕ → List ℕ → List ℕ
+unfolding rows event
+rowBytes file v step versions stamps = rows (cellBytes file v step versions stamps) (arrays file)
+
+-- the stamp of array a's current copy after vertex v, if it has no label there
+abbrev pub stampAt : List ℕ → ℕ → ℕ → List ℕ → ℕ → ℕ
+stampAt file v step stamps a = stampBy (event file a v) step (getD stamps a 0)
+
+-- the references of vertex v: the records, and the stamps after them
+pub record Referred (file : List ℕ) (v step : ℕ) (versions before old : List ℕ) (bytes : ℕ) (after new : List ℕ) : Type 0 where
+  pub length-is : bytes ≡ length (rowBytes file v step versions before)
+  pub out-is : new ≡ wrote old (rowBytes file v step versions before)
+  pub stamps-are : after ≡ replaced before 0 (stampAt file v step before) (arrays file)
 
 -- the row of vertex v has no references, or no remappings
 abbrev pub OneSort : List ℕ → ℕ → Bool → Type 0

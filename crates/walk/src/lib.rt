@@ -29,7 +29,7 @@ ghost use Rattle.report.specs.References.{referencesAt};
 ghost use Rattle.walk.specs.Report.{reportBytes, referencesOn, reportLength};
 ghost use Rattle.demand.specs.Run.{stateAfter, runRecords};
 ghost use Rattle.walk.specs.Walks.{Held, rowBytes, Referred, OneSort, Unlabelled, Labels, relabelledAt};
-ghost use Rattle.words.specs.Tables.{table, wrote};
+ghost use Rattle.words.specs.Tables.{table, replaced, wrote};
 
 // How many references the path meets.
 fn references_on(file: &[u8], path: &[u8], counts: &[u8]) -> usize
@@ -136,8 +136,8 @@ fn refer(
     requires { ⌜ (v < vertices (now file)) × (step ≤ 4096) ⌝ }
     requires { ⌜ Unlabelled (now file) v ⌝ }
     requires { ⌜ length (now stamps) ≡ 8 ⌝ }
-    requires { ⌜ length (rowBytes (now file) v step (now versions) (now stamps) (arrays (now file))) ≤ length (now out) ⌝ }
-    ensures { λ r. ⌜ Referred (now (file .entry)) v step (now (versions .entry)) (now (stamps .entry)) (now (out .entry)) (arrays (now (file .entry))) r (now (stamps .exit)) (now (out .exit)) ⌝ }
+    requires { ⌜ length (rowBytes (now file) v step (now versions) (now stamps)) ≤ length (now out) ⌝ }
+    ensures { λ r. ⌜ Referred (now (file .entry)) v step (now (versions .entry)) (now (stamps .entry)) (now (out .entry)) r (now (stamps .exit)) (now (out .exit)) ⌝ }
 {
     let m = h.arrays;
     let mut bytes = 0;
@@ -170,8 +170,8 @@ fn serve(
     requires { ⌜ ReadAs (now file) h ⌝ }
     requires { ⌜ (v < vertices (now file)) × (step ≤ 4096) ⌝ }
     requires { ⌜ length (now stamps) ≡ 8 ⌝ }
-    requires { ⌜ length (rowBytes (now file) v step (now versions) (now stamps) (arrays (now file))) ≤ length (now out) ⌝ }
-    ensures { λ r. ⌜ Referred (now (file .entry)) v step (now (versions .entry)) (now (stamps .entry)) (now (out .entry)) (arrays (now (file .entry))) (r .bytes) (now (stamps .exit)) (now (out .exit)) ⌝ }
+    requires { ⌜ length (rowBytes (now file) v step (now versions) (now stamps)) ≤ length (now out) ⌝ }
+    ensures { λ r. ⌜ Referred (now (file .entry)) v step (now (versions .entry)) (now (stamps .entry)) (now (out .entry)) (r .bytes) (now (stamps .exit)) (now (out .exit)) ⌝ }
     ensures { λ r. ⌜ Labels (now (file .entry)) v (r .labels) ⌝ }
 {
     let labels = has_labels(file, h, v);
@@ -212,10 +212,8 @@ fn settle_all(
     stamps: [u16; ArrayRecord::MAX],
 ) -> [State; ArrayRecord::MAX]
     requires { ⌜ m ≤ 8 ⌝ }
-    requires { ⌜ length states ≡ 8 ⌝ }
-    requires { ⌜ length stamps ≡ 8 ⌝ }
     requires { ⌜ ((b : ℕ) → b < m → Current (stateOf states b)) ⌝ }
-    ensures { λ r. ⌜ ((b : ℕ) → b < m → stateOf r b ≡ settled (getD stamps b 0) (stateOf states b)) ⌝ }
+    ensures { λ r. ⌜ r ≡ replaced states 0 (λ b. settled (getD stamps b 0) (stateOf states b)) m ⌝ }
 {
     let mut new = states;
     let mut a = 0;

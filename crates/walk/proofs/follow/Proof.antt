@@ -13,14 +13,15 @@ use Rattle.state.specs.Current.{settled}
 use Rattle.state.specs.Vertex.{Visits}
 use Rattle.state.specs.declared.State.{State}
 use Rattle.path.specs.Paths.{steps, vertexAt}
-use Rattle.report.specs.Bytes.{stateOf, recordsBytes}
-use Rattle.demand.specs.Run.{runRecords}
+use Rattle.report.specs.Bytes.{stateOf}
 use Rattle.walk.specs.Walks.{Held, rowBytes, Referred, Unlabelled, Labels, relabelledAt}
 use Rattle.walk.proofs.Held.{hold-more, Untouched, untouched-more}
 use Rattle.path.proofs.Paths.{Walk, walk, within-vertices}
-use Rattle.walk.proofs.Walking.{Walking, relabelledFrom, begins, doneAt, room, row-is, visits-after, held-on, held-labelled, steps-on, all-written, last-states, last-current}
+use Rattle.walk.proofs.Walking.{Walking, relabelledFrom, begins, row-is, stamps-sized, visits-after, held-on, held-labelled, steps-on, all-written, last-states, last-current}
 use Rattle.passes.proofs.Cells.{in-eight}
-use Rattle.words.proofs.Written.{partFrom, wrote-length, part-length}
+use Rattle.words.proofs.Buffers.{row-room, buffer-length}
+use Rattle.words.proofs.Replaced.{replaced-at}
+use Rattle.words.proofs.Written.{partFrom, part-length}
 use Rattle.walk.proofs.follow.Statement.{statement}
 use Rattle.walk.proofs.follow.Tie as tie
 
@@ -57,7 +58,7 @@ module _ (c : tie.In-loop Inv-loop2 μ-loop2 Inv-loop μ-loop) where
 
   -- the buffer keeps its length
   same-room : length (c .before .loop .out) ≡ length (s .args .out .now)
-  same-room = wrote-length (s .args .out .now) (doneAt file path (c .before .loop .i)) (c .before .loop .inv .out-is) (omega (arith, room file path in-i (s .pre .1 .1 .1)))
+  same-room = buffer-length (c .before .loop .inv .filled)
 
 -- once the vertex is known
 module _ (c : tie.After-vertex Inv-loop2 μ-loop2 Inv-loop μ-loop) where
@@ -70,11 +71,11 @@ module _ (c : tie.After-vertex Inv-loop2 μ-loop2 Inv-loop μ-loop) where
   in-v : c .vertex .result < vertices (file turn)
   in-v = subst (λ (v : ℕ). v < vertices (file turn)) (sym (c .vertex .ensures)) (within-vertices (s turn .pre .0 .well) (along turn) (l .loop .i) (in-i turn))
 
-  has-room : l .loop .at + length (rowBytes (file turn) (c .vertex .result) (l .loop .i + 1) (l .loop .versions) (l .loop .stamps) (arrays (file turn))) ≤ length (l .loop .out)
+  has-room : l .loop .at + length (rowBytes (file turn) (c .vertex .result) (l .loop .i + 1) (l .loop .versions) (l .loop .stamps)) ≤ length (l .loop .out)
   has-room =
-      let row = ap (λ (v : ℕ). length (rowBytes (file turn) v (l .loop .i + 1) (l .loop .versions) (l .loop .stamps) (arrays (file turn)))) (c .vertex .ensures)
+      let row = ap (λ (v : ℕ). length (rowBytes (file turn) v (l .loop .i + 1) (l .loop .versions) (l .loop .stamps))) (c .vertex .ensures)
       ∙ ap length (row-is (file turn) (path turn) (s turn .pre .0 .well) (s turn .pre .1 .0) (in-i turn) (along turn .short) (l .loop .inv .held)) in
-      omega (arith, row, room (file turn) (path turn) (in-i turn) (s turn .pre .1 .1 .1), l .loop .inv .place, same-room turn)
+      omega (arith, row, row-room (l .loop .inv .filled) (l .loop .inv .place) (in-i turn), same-room turn)
 
 start-all-requires : tie.Need-start-all-requires Inv-loop2 μ-loop2 Inv-loop μ-loop
 start-all-requires c κs = (c .before .before .before .before .before .before .before .pre .0, (refl, refl))
@@ -85,7 +86,7 @@ count-requires c κs = search needs
 loop-holds : tie.Need-loop-holds Inv-loop2 μ-loop2 Inv-loop μ-loop
 loop-holds c =
     let s = c .before .before .before .before .before .before .before .before .before in
-    begins (s .args .file .now) (s .args .path .now) (s .args .out .now) (c .before .start-all .ensures)
+    begins (s .args .file .now) (s .args .path .now) (s .args .out .now) (s .pre .1 .1 .1) (c .before .start-all .ensures)
 
 vertex-requires : tie.Need-vertex-requires Inv-loop2 μ-loop2 Inv-loop μ-loop
 vertex-requires c κs = in-i c
@@ -116,9 +117,9 @@ module _ (c : tie.After-serve Inv-loop2 μ-loop2 Inv-loop μ-loop) where
   abbrev after : List ℕ
   after = c .serve .last .1 .1 .1 .1 .1 .0
 
-  referred : Referred (file (turn q)) (vertexAt (path (turn q)) (l q .loop .i)) (l q .loop .i + 1) (l q .loop .versions) (l q .loop .stamps) (partFrom (l q .loop .out) (l q .loop .at)) (arrays (file (turn q))) (c .serve .result .bytes) after (c .serve .last .1 .1 .1 .1 .1 .1 .0)
+  referred : Referred (file (turn q)) (vertexAt (path (turn q)) (l q .loop .i)) (l q .loop .i + 1) (l q .loop .versions) (l q .loop .stamps) (partFrom (l q .loop .out) (l q .loop .at)) (c .serve .result .bytes) after (c .serve .last .1 .1 .1 .1 .1 .1 .0)
   referred =
-      subst (λ (v : ℕ). Referred (file (turn q)) v (l q .loop .i + 1) (l q .loop .versions) (l q .loop .stamps) (partFrom (l q .loop .out) (l q .loop .at)) (arrays (file (turn q))) (c .serve .result .bytes) after (c .serve .last .1 .1 .1 .1 .1 .1 .0))
+      subst (λ (v : ℕ). Referred (file (turn q)) v (l q .loop .i + 1) (l q .loop .versions) (l q .loop .stamps) (partFrom (l q .loop .out) (l q .loop .at)) (c .serve .result .bytes) after (c .serve .last .1 .1 .1 .1 .1 .1 .0))
       (q .vertex .ensures) (c .serve .ensures .0)
 
 add-at : tie.Need-add-at Inv-loop2 μ-loop2 Inv-loop μ-loop
@@ -136,8 +137,9 @@ add-i c =
 loop2-holds : tie.Need-loop2-holds Inv-loop2 μ-loop2 Inv-loop μ-loop
 loop2-holds c =
     let r = c .before .before .before .before in
+    let t = turn (q r) in
     let held = l (q r) .loop .inv .held in
-    (omega arith, record { states-sized = held .states-sized; versions-sized = held .versions-sized; stamps-sized = r .serve .ensures .0 .sized; stand = λ b h. absurd (omega arith) }, record { states-same = λ b h. refl; stamps-same = λ b h. refl })
+    (omega arith, record { states-sized = held .states-sized; versions-sized = held .versions-sized; stamps-sized = stamps-sized (file t) (path t) (s t .pre .0 .well) (s t .pre .1 .0) (in-i t) (along t .short) held (referred r); stand = λ b h. absurd (omega arith) }, record { states-same = λ b h. refl; stamps-same = λ b h. refl })
 
 -- what holds in a turn
 module _ (c : tie.In-loop2 Inv-loop2 μ-loop2 Inv-loop μ-loop) where
@@ -263,19 +265,17 @@ settle-all-requires c κs =
     let w = c .before .loop .inv in
     let heads = first c .pre .0 .heads in
     let well = first c .pre .0 .well in
-    (omega (arith, heads .arrays-are, well .laid .limits .few-arrays), (w .held .states-sized, (w .held .stamps-sized, λ b in-b. last-current w (over c) well (first c .pre .1 .0) b (omega (arith, heads .arrays-are)))))
+    (omega (arith, heads .arrays-are, well .laid .limits .few-arrays), λ b in-b. last-current w (over c) well (first c .pre .1 .0) b (omega (arith, heads .arrays-are)))
 
 same-length : tie.Need-same-length Inv-loop2 μ-loop2 Inv-loop μ-loop
-same-length c =
-    let s = first (c .before) in
-    wrote-length (s .args .out .now) (recordsBytes (runRecords (s .args .file .now) (s .args .path .now))) (all-written (c .before .before .loop .inv) (over (c .before))) (s .pre .1 .1 .1)
+same-length c = buffer-length (c .before .before .loop .inv .filled)
 
 returns : tie.Need-returns Inv-loop2 μ-loop2 Inv-loop μ-loop
 returns c =
     let w = c .before .before .loop .inv in
     let e = over (c .before) in
     let heads = first (c .before) .pre .0 .heads in
-    (λ a in-a. c .settle-all .ensures a (omega (arith, heads .arrays-are)) ∙ last-states w e a in-a, all-written w e)
+    (λ a in-a. ap (λ (l : List State). stateOf l a) (c .settle-all .ensures) ∙ replaced-at _ 0 _ _ _ a (omega arith) (omega (arith, heads .arrays-are)) (omega (arith, w .held .states-sized, heads .arrays-are, first (c .before) .pre .0 .well .laid .limits .few-arrays)) ∙ last-states w e a in-a, all-written w e)
 
 pub follow-spec : {M : Type 1} → statement M
 follow-spec =

@@ -1,22 +1,33 @@
 -- `walk::refer` meets its contract: one array after the other.
 -- Assumes nothing.
-use mathlib.Core.Path.{_≡_, sym, ap, subst, _∙_}
-use Prim.Native.Nat.{ℕ, _+_, _-_, _≤_, _<_}
+use mathlib.Core.Path.{_≡_, refl, sym, ap, ap₂, _∙_}
+use mathlib.Core.List.{List}
+use Prim.Native.Nat.{ℕ, _-_, _≤_, _<_}
+use native.Mathlib.Nat.{le-antisymm}
 use native.Mathlib.Omega.{arith}
 use borrow.Author.Needs.{needs}
-use lib.ListN.{length}
+use lib.ListN.{length, getD}
 use Rattle.labels.specs.Events.{event}
 use Rattle.routine.specs.Layout.{arrays}
-use Rattle.walk.specs.Walks.{rowBytes, Referred}
-use Rattle.walk.proofs.Held.{referred-none, referred-more, bytes-are, row, row-fits}
+use Rattle.routine.specs.declared.action.Action.{Action}
+use Rattle.report.specs.Bytes.{recordsBytes}
+use Rattle.report.specs.Records.{recordsAt}
+use Rattle.state.specs.Current.{stampBy}
+use Rattle.walk.specs.Walks.{cellBytes, rowBytes, stampAt}
 use Rattle.passes.proofs.Cells.{in-eight}
-use Rattle.words.proofs.Written.{wrote-length, part-length}
+use Rattle.words.specs.Tables.{rows, replaced, wrote}
+use Rattle.words.proofs.Buffers.{Filled, begin, lies, lent, row-room, next-row, onward, all, end, buffer-length}
+use Rattle.words.proofs.Replaced.{replaced-next, replaced-other}
+use Rattle.words.proofs.Written.{partFrom}
 use Rattle.walk.proofs.refer.Statement.{statement}
 use Rattle.walk.proofs.refer.Tie as tie
 
+-- the bytes of the first a arrays stand at the front, and their stamps are those after the references
 abbrev Inv-loop : tie.InvT-loop
 Inv-loop file h v step versions stamps₀ out₀ m bytes₀ a₀ stamps out bytes a =
-    (a ≤ arrays file) × Referred file v step versions stamps₀ out₀ a bytes stamps out
+    Filled (cellBytes file v step versions stamps₀) (arrays file) out₀ a out
+    × (bytes ≡ length (rows (cellBytes file v step versions stamps₀) a))
+    × (stamps ≡ replaced stamps₀ 0 (stampAt file v step stamps₀) a)
 
 abbrev μ-loop : tie.MeasureT-loop
 μ-loop file h v step versions stamps₀ out₀ m bytes₀ a₀ stamps out bytes a = m - a
@@ -32,17 +43,21 @@ module _ (c : tie.In-loop Inv-loop μ-loop) where
   small : c .before .loop .a < 8
   small = in-eight (s .pre .0 .well) in-a
 
-  -- the row up to here, and the next record, have room
-  room : c .before .loop .bytes + length (row (c .before .loop .inv .1) (c .before .loop .a)) ≤ length (s .args .out .now)
-  room = omega (arith, c .before .loop .inv .1 .length-is, row-fits (s .args .file .now) (s .args .v) (s .args .step) (s .args .versions .now) (s .args .stamps .now) in-a, s .pre .1 .1 .1 .1)
+  abbrev cells : ℕ → List ℕ
+  cells = cellBytes (s .args .file .now) (s .args .v) (s .args .step) (s .args .versions .now) (s .args .stamps .now)
 
-  same-room : length (c .before .loop .out) ≡ length (s .args .out .now)
-  same-room = wrote-length (s .args .out .now) (rowBytes (s .args .file .now) (s .args .v) (s .args .step) (s .args .versions .now) (s .args .stamps .now) (c .before .loop .a)) (c .before .loop .inv .1 .out-is) (omega (arith, room, c .before .loop .inv .1 .length-is))
+  abbrev stampsAfter : ℕ → ℕ
+  stampsAfter = stampAt (s .args .file .now) (s .args .v) (s .args .step) (s .args .stamps .now)
+
+  -- the stamp of the next array is as it was
+  same : getD (c .before .loop .stamps) (c .before .loop .a) 0 ≡ getD (s .args .stamps .now) (c .before .loop .a) 0
+  same =
+      ap (λ (l : List ℕ). getD l (c .before .loop .a) 0) (c .before .loop .inv .2)
+      ∙ replaced-other (s .args .stamps .now) 0 stampsAfter 0 (c .before .loop .a) (c .before .loop .a) (λ b h e. omega arith)
 
 loop-holds : tie.Need-loop-holds Inv-loop μ-loop
-loop-holds c =
-    let s = c .before .before in
-    (omega arith, referred-none (s .args .file .now) (s .args .v) (s .args .step) (s .args .versions .now) (s .args .stamps .now) (s .args .out .now) (s .pre .1 .1 .1 .0))
+unfolding rowBytes rows replaced
+loop-holds c = let s = c .before .before in (begin _ _ _ (s .pre .1 .1 .1 .1), refl, refl)
 
 at-requires : tie.Need-at-requires Inv-loop μ-loop
 at-requires c κs = (s c .pre .0 .heads, (s c .pre .1 .0 .0, in-a c))
@@ -50,6 +65,15 @@ at-requires c κs = (s c .pre .0 .heads, (s c .pre .1 .0 .0, in-a c))
 -- the action that is read is the event
 event-is : (c : tie.After-at Inv-loop μ-loop) → c .at .result ≡ event (s (c .before) .args .file .now) (c .before .before .loop .a) (s (c .before) .args .v)
 event-is c = c .at .ensures ∙ sym (s (c .before) .pre .1 .1 .0 .as-read (c .before .before .loop .a))
+
+-- and so its bytes are those of the row
+bytes-are : (c : tie.After-at Inv-loop μ-loop) →
+    let l = c .before .before .loop in
+    recordsBytes (recordsAt (c .at .result) (s (c .before) .args .step) (l .a) (getD (s (c .before) .args .versions .now) (l .a) 0) (getD (l .stamps) (l .a) 0)) ≡ cells (c .before) (l .a)
+bytes-are c =
+    let l = c .before .before .loop in
+    let s = s (c .before) in
+    ap₂ (λ (x : Action) (stamp : ℕ). recordsBytes (recordsAt x (s .args .step) (l .a) (getD (s .args .versions .now) (l .a) 0) stamp)) (event-is c) (same (c .before))
 
 element-copy-out-put : tie.Need-element-copy-out-put Inv-loop μ-loop
 element-copy-out-put c = omega (arith, small (c .before))
@@ -61,10 +85,10 @@ element-copy-out-put-2 : tie.Need-element-copy-out-put-2 Inv-loop μ-loop
 element-copy-out-put-2 c = omega (arith, small (c .before .before))
 
 sub-put : tie.Need-sub-put Inv-loop μ-loop
-sub-put c = omega (arith, room (c .before .before .before), same-room (c .before .before .before))
+sub-put c = let t = c .before .before .before in lies (t .before .loop .inv .0) (t .before .loop .inv .1) (in-a t)
 
 part-put-start : tie.Need-part-put-start Inv-loop μ-loop
-part-put-start c = omega (arith, room (c .before .before .before), same-room (c .before .before .before))
+part-put-start c = let t = c .before .before .before in lies (t .before .loop .inv .0) (t .before .loop .inv .1) (in-a t)
 
 part-put-end : tie.Need-part-put-end Inv-loop μ-loop
 part-put-end c = search needs
@@ -74,13 +98,13 @@ put-requires c κs =
     let q = c .before .before .before in
     let t = q .before in
     let l = t .before .loop in
-    ((s t .pre .1 .0 .1, small t), omega (arith, ap length (bytes-are (l .inv .1) (event-is q)), room t, same-room t, part-length (l .out) (l .bytes)))
+    ((s t .pre .1 .0 .1, small t), omega (arith, ap length (bytes-are q), lent (l .inv .0) (l .inv .1) (in-a t)))
 
 add-bytes : tie.Need-add-bytes Inv-loop μ-loop
 add-bytes c =
     let q = c .before .before .before .before .before .before in
     let t = q .before in
-    omega (arith, c .before .before .put .ensures .0, ap length (bytes-are (t .before .loop .inv .1) (event-is q)), room t, s t .good)
+    omega (arith, c .before .before .put .ensures .0, ap length (bytes-are q), row-room (t .before .loop .inv .0) (t .before .loop .inv .1) (in-a t), s t .good)
 
 cast-stamp-after : tie.Need-cast-stamp-after Inv-loop μ-loop
 cast-stamp-after c = search needs
@@ -108,28 +132,31 @@ loop-less c = omega arith
 
 loop-again : tie.Need-loop-again Inv-loop μ-loop
 loop-again c =
-    let t = c .before .before .before .before .before .before .before .before .before in
-    let put = c .before .before .before .before .put .ensures in
-    (omega (arith, in-a t), referred-more (t .before .loop .inv .1) (event-is (c .before .before .before .before .before .before .before .before)) (small t) (put .0) (put .1) (c .stamp-after .ensures))
-
--- all arrays have been served
-whole : (c : tie.After-loop Inv-loop μ-loop) →
-    let s = c .before .before .before .before in
-    let l = c .before .loop in
-    Referred (s .args .file .now) (s .args .v) (s .args .step) (s .args .versions .now) (s .args .stamps .now) (s .args .out .now) (arrays (s .args .file .now)) (l .bytes) (l .stamps) (l .out)
-whole c =
-    let s = c .before .before .before .before in
-    let l = c .before .loop in
-    let all : l .a ≡ arrays (s .args .file .now) = omega (arith, s .pre .0 .heads .arrays-are, l .inv .0) in
-    subst (λ (m : ℕ). Referred (s .args .file .now) (s .args .v) (s .args .step) (s .args .versions .now) (s .args .stamps .now) (s .args .out .now) m (l .bytes) (l .stamps) (l .out)) all (l .inv .1)
+    let q = c .before .before .before .before .before .before .before .before in
+    let t = q .before in
+    let s = s t in
+    let l = t .before .loop in
+    let put = c .before .before .before .before .put .ensures in (
+      next-row (l .inv .0) (l .inv .1) (in-a t) (put .1 ∙ ap (wrote (partFrom (l .out) (l .bytes))) (bytes-are q)),
+      onward (l .inv .0) (l .inv .1) (put .0 ∙ ap length (bytes-are q)),
+      replaced-next (s .args .stamps .now) 0 (stampsAfter t) (l .a) (l .inv .2) (omega arith)
+          (c .stamp-after .ensures ∙ ap₂ (λ (x : Action) (stamp : ℕ). stampBy x (s .args .step) stamp) (event-is q) (same t)),
+    )
 
 same-length : tie.Need-same-length Inv-loop μ-loop
-same-length c =
-    let s = c .before .before .before .before in
-    wrote-length (s .args .out .now) (rowBytes (s .args .file .now) (s .args .v) (s .args .step) (s .args .versions .now) (s .args .stamps .now) (arrays (s .args .file .now))) (whole c .out-is) (s .pre .1 .1 .1 .1)
+same-length c = buffer-length (c .before .loop .inv .0)
 
 returns : tie.Need-returns Inv-loop μ-loop
-returns c = whole c
+unfolding rowBytes
+returns c =
+    let s = c .before .before .before .before in
+    let l = c .before .loop in
+    let over : arrays (s .args .file .now) ≤ l .a = omega (arith, s .pre .0 .heads .arrays-are) in
+    record {
+      length-is = all (l .inv .0) (l .inv .1) over;
+      out-is = end (l .inv .0) over;
+      stamps-are = l .inv .2 ∙ ap (replaced (s .args .stamps .now) 0 _) (le-antisymm (l .inv .0 .within) over);
+    }
 
 pub refer-spec : {M : Type 1} → statement M
 refer-spec =

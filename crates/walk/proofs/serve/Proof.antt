@@ -2,7 +2,6 @@
 -- Assumes nothing.
 use mathlib.Core.Path.{subst}
 use borrow.Author.Needs.{needs}
-use Rattle.routine.specs.Layout.{arrays}
 use Rattle.walk.specs.Walks.{Labels}
 use Rattle.walk.proofs.Held.{nothing-referred}
 use Rattle.walk.proofs.serve.Statement.{statement}
@@ -16,7 +15,7 @@ returns c =
     let s = c .before .before .before .before in
     let file = s .args .file .now in
     let none = subst (Labels file (s .args .v)) (c .if1 .taken) (c .before .has-labels .ensures) in
-    (nothing-referred file (s .args .v) (s .args .step) (s .args .versions .now) (s .args .stamps .now) (s .args .out .now) (arrays file) (s .pre .1 .1 .0) none, c .before .has-labels .ensures)
+    (nothing-referred file (s .args .v) (s .args .step) (s .args .versions .now) (s .args .stamps .now) (s .args .out .now) none, c .before .has-labels .ensures)
 
 refer-requires : tie.Need-refer-requires
 refer-requires c κs =

@@ -1,22 +1,36 @@
 -- `walk::settle_all` meets its contract: one array after the other.
 -- Assumes nothing.
-use mathlib.Core.Path.{refl, sym, subst}
-use Prim.Native.Nat.{_-_, _≤_}
+use mathlib.Core.Path.{_≡_, refl, sym, ap, subst, _∙_}
+use mathlib.Core.List.{List}
+use Prim.Native.Nat.{ℕ, _-_, _≤_}
 use native.Mathlib.Omega.{arith}
+use lib.ListN.{getD}
+use Rattle.report.specs.Bytes.{stateOf}
+use Rattle.state.specs.Current.{settled}
 use Rattle.state.specs.States.{Current}
-use Rattle.walk.proofs.Held.{Settling, settling-more}
+use Rattle.state.specs.declared.State.{State}
+use Rattle.words.specs.Tables.{replaced}
+use Rattle.words.proofs.Replaced.{replaced-next, replaced-other}
 use Rattle.walk.proofs.settle_all.Statement.{statement}
 use Rattle.walk.proofs.settle_all.Tie as tie
 
+-- an array's state with its stamp in it
+abbrev settledAt : List ℕ → List State → ℕ → State
+settledAt stamps states b = settled (getD stamps b 0) (stateOf states b)
+
 abbrev Inv-loop : tie.InvT-loop
-Inv-loop m stamps new₀ a₀ new a = (a ≤ m) × Settling stamps new₀ a new
+Inv-loop m stamps new₀ a₀ new a = (a ≤ m) × (new ≡ replaced new₀ 0 (settledAt stamps new₀) a)
 
 abbrev μ-loop : tie.MeasureT-loop
 μ-loop m stamps new₀ a₀ new a = m - a
 
+-- the state that comes next is as it was
+same : (c : tie.At-loop Inv-loop μ-loop) → stateOf (c .loop .new) (c .loop .a) ≡ stateOf (c .before .args .states) (c .loop .a)
+same c = ap (λ (l : List State). stateOf l (c .loop .a)) (c .loop .inv .1) ∙ replaced-other (c .before .args .states) 0 (settledAt (c .before .args .t3) (c .before .args .states)) _ (c .loop .a) (c .loop .a) (λ b h e. omega arith)
+
 loop-holds : tie.Need-loop-holds Inv-loop μ-loop
-loop-holds c =
-    (omega arith, record { sized = c .pre .1 .0; done = λ b h. absurd (omega arith); rest = λ b h. refl })
+unfolding replaced
+loop-holds c = (omega arith, refl)
 
 mul-settled : tie.Need-mul-settled Inv-loop μ-loop
 mul-settled c = omega (arith, c .before .before .pre .0)
@@ -33,7 +47,7 @@ array-read-settled c = omega (arith, c .before .before .before .pre .0)
 settled-requires : tie.Need-settled-requires Inv-loop μ-loop
 settled-requires c κs =
     let l = c .before .before in
-    subst Current (sym (l .loop .inv .1 .rest (l .loop .a) (omega arith))) (l .before .pre .1 .1 .1 (l .loop .a) (omega arith))
+    subst Current (sym (same l)) (l .before .pre .1 (l .loop .a) (omega arith))
 
 mul-new : tie.Need-mul-new Inv-loop μ-loop
 mul-new c = omega (arith, c .before .before .before .before .pre .0)
@@ -50,10 +64,13 @@ loop-less c = omega arith
 loop-again : tie.Need-loop-again Inv-loop μ-loop
 loop-again c =
     let l = c .before .before .before in
-    (omega arith, settling-more (l .loop .inv .1) (omega (arith, l .before .pre .0)) (c .settled .ensures))
+    (omega arith, replaced-next (l .before .args .states) 0 (settledAt (l .before .args .t3) (l .before .args .states)) (l .loop .a) (l .loop .inv .1) (omega arith) (c .settled .ensures ∙ ap (settled _) (same l)))
 
 returns : tie.Need-returns Inv-loop μ-loop
-returns c b in-b = c .before .loop .inv .1 .done b (omega arith)
+returns c =
+    let l = c .before in
+    let all : l .loop .a ≡ l .before .args .m = omega (arith, l .loop .inv .0) in
+    l .loop .inv .1 ∙ ap (replaced (l .before .args .states) 0 (settledAt (l .before .args .t3) (l .before .args .states))) all
 
 pub settle-all-spec : {M : Type 1} → statement M
 settle-all-spec =
