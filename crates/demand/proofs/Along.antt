@@ -32,8 +32,8 @@ use Rattle.state.specs.States.{stampOf}
 use Rattle.state.specs.Vertex.{labelled, visited}
 use Rattle.state.proofs.Fits.{started-fits, step-fits}
 use Rattle.state.proofs.States.{below-current}
-use Rattle.demand.proofs.Labels.{Ready, Labelled, labelled-does}
-use Rattle.demand.proofs.Invariant.{ArrayPlan, Sound, AfterVertex, Before, label-holds, ready, used, below, visit, alike}
+use Rattle.demand.proofs.Labels.{Matches, Labelled, labelled-does}
+use Rattle.demand.proofs.Invariant.{ArrayPlan, Sound, AfterVertex, Before, label-holds, matches, used, below, visit, alike}
 
 -- a path of n vertices, and run and machine along it
 pub record Follows (p : ArrayPlan) (at : ℕ → ℕ) (n : ℕ) (run : ℕ → State) (machine : ℕ → Machine) : Type 0 where
@@ -47,9 +47,9 @@ pub record Follows (p : ArrayPlan) (at : ℕ → ℕ) (n : ℕ) (run : ℕ → S
   pub machine-start : machine 0 ≡ machineStart (p .array)
   pub machine-step : (i : ℕ) → machine (suc i) ≡ machineStep (p .event (at i)) (i + 1) (machine i)
 
-started-ready : (r : ArrayRecord) → r .initial < 16 → Ready (started r) (machineStart r)
-started-ready r below =
-    at-cond (λ (s : State). Ready s (machineStart r)) (isInOrInout (r .kind))
+started-matches : (r : ArrayRecord) → r .initial < 16 → Matches (started r) (machineStart r)
+started-matches r below =
+    at-cond (λ (s : State). Matches s (machineStart r)) (isInOrInout (r .kind))
     (λ b. record {
       sixteen = length-set (replicate 16 0) (r .initial) 65535;
       agree = λ k h.
@@ -95,8 +95,8 @@ module _ {p : ArrayPlan} (sound : Sound p) {at : ℕ → ℕ} {n : ℕ} {run : �
   pub first-remaps : p .event (at 0) ≡ Remap (p .array .initial)
   first-remaps = ap (p .event) (f .begins) ∙ sound .entry-remaps
 
-  start : Ready (run 0) (machine 0)
-  start = rw (f .run-start, f .machine-start) (started-ready (p .array) initial-below)
+  start : Matches (run 0) (machine 0)
+  start = rw (f .run-start, f .machine-start) (started-matches (p .array) initial-below)
 
   -- the state after a vertex, before local arrays lose their copies
   abbrev after : ℕ → State
@@ -153,9 +153,9 @@ module _ {p : ArrayPlan} (sound : Sound p) {at : ℕ → ℕ} {n : ℕ} {run : �
   few-at (suc i) h = rw (f .run-step i) (rw left-copies (along i h .1 .cheap .few))
 
   -- a label finds every live version with the machine's stamp
-  ready-at : (i t : ℕ) → i < n → p .event (at i) ≡ Remap t → Ready (run i) (machine i)
-  ready-at zero t h e = start
-  ready-at (suc i) t h e = ready sound (next i h) (rw e tt)
+  matches-at : (i t : ℕ) → i < n → p .event (at i) ≡ Remap t → Matches (run i) (machine i)
+  matches-at zero t h e = start
+  matches-at (suc i) t h e = matches sound (next i h) (rw e tt)
 
   -- at the exit out and inout are home: current in the initial version, with the machine's stamp
   pub home-at : (i : ℕ) → i < n → at i ≡ p .exit → 2 ≤ p .array .kind
@@ -164,7 +164,7 @@ module _ {p : ArrayPlan} (sound : Sound p) {at : ℕ → ℕ} {n : ℕ} {run : �
   home-at i h e k =
       let t = p .array .initial in
       let remaps = ap (p .event) e ∙ sound .exit-remaps k in
-      let y = ready-at i t h remaps in
+      let y = matches-at i t h remaps in
       let g = labelled-does (p .array) (p .letter (at i)) t (p .keep (at i)) (i + 1) (run i) (machine i) initial-below y in
       rw (f .run-step i, f .machine-step i, remaps)
       (at-cond (λ (s : State). (s .current ≡ t) × (stampOf s t ≡ machine i .stamp)) (eqb (at i) (p .exit) && not (isArgument (p .array .kind)))

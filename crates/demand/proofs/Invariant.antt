@@ -27,11 +27,11 @@ use Rattle.demand.specs.Machine.{Machine, machineStep}
 use Rattle.report.specs.Records.{recordsAt}
 use Rattle.state.specs.Moves.{isD}
 use Rattle.state.specs.References.{referenced}
-use Rattle.state.specs.States.{hasCurrent, stampOf}
+use Rattle.state.specs.States.{hasCurrent, stampOf, stamped}
 use Rattle.state.specs.Vertex.{labelled, visited}
 use Rattle.state.proofs.Labels.{Agree, Sits}
 use Rattle.state.proofs.States.{below-current}
-use Rattle.demand.proofs.Labels.{Cheap, Ready, labelled-does}
+use Rattle.demand.proofs.Labels.{Cheap, Matches, labelled-does}
 
 -- one array: the routine's edges, what each vertex does with the array, the letter and kept set of each label, the array's record, the exit
 pub record ArrayPlan : Type 0 where
@@ -104,7 +104,7 @@ not-N W h = refl
 
 module _ {p : ArrayPlan} (sound : Sound p) where
   -- ---- a label
-  pub label-holds : (w t step : ℕ) (s : State) (m : Machine) → p .event w ≡ Remap t → Ready s m
+  pub label-holds : (w t step : ℕ) (s : State) (m : Machine) → p .event w ≡ Remap t → Matches s m
       → AfterVertex p w w (labelled (p .array) (p .letter w) t (p .keep w) s) (machineStep (Remap t) step m)
   label-holds w t step s m e y =
       let g = labelled-does (p .array) (p .letter w) t (p .keep w) step s m (sound .below e) y in
@@ -126,8 +126,8 @@ module _ {p : ArrayPlan} (sound : Sound p) where
     valued : T (needsValue (p .event w)) → Agree s (m .stamp)
     valued n = ⊎-elim (λ a. a) (λ a. absurd (sound .defined (i .held) (a .is-D) (a .onward w edge) n)) (i .value)
 
-    pub ready : T (needsValue (p .event w)) → Ready s m
-    ready n = record { sixteen = sixteen; agree = valued n; sits = i .sits; cheap = i .cheap }
+    pub matches : T (needsValue (p .event w)) → Matches s m
+    matches n = record { sixteen = sixteen; agree = valued n; sits = i .sits; cheap = i .cheap }
 
     module _ (f : T (isReference (p .event w))) where
       kept : isN (p .letter label) ≡ false
@@ -168,7 +168,7 @@ module _ {p : ArrayPlan} (sound : Sound p) where
 
     -- a define or modify: nothing but the current version is live, and it gets the step number
     writes : (step : ℕ) → T (isReference (p .event w)) → T (isWrite (p .event w)) → T (not (isRemap (p .event w)))
-        → AfterVertex p label w (record { current = s .current; live = s .live; stamps = set (s .stamps) (s .current) step; copies = s .copies })
+        → AfterVertex p label w (stamped step s)
         (record { held = m .held; stamp = step; count = m .count })
     writes step f c n =
         let alone = i .alone (kept f) (λ e. sound .only-read (i .held) e (i .onward w edge) c) in
@@ -192,7 +192,7 @@ module _ {p : ArrayPlan} (sound : Sound p) where
     visit step (Reference Read) e = (label, rw (set-getD (s .stamps) (s .current) 0) (quiet (rw e tt) (rw e tt)))
     visit step (Reference Define) e = (label, writes step (rw e tt) (rw e tt) (rw e tt))
     visit step (Reference Modify) e = (label, writes step (rw e tt) (rw e tt) (rw e tt))
-    visit step (Remap t) e = (w, label-holds w t step s m e (ready (rw e tt)))
+    visit step (Remap t) e = (w, label-holds w t step s m e (matches (rw e tt)))
     visit step Unknown e = (label, quiet (rw e tt) (rw e tt))
 
     -- the record is the machine's

@@ -52,7 +52,7 @@ moved-cheap u t step s m c =
 -- ---- the label
 
 -- what a label asks: every live version has the machine's stamp
-pub record Ready (s : State) (m : Machine) : Type 0 where
+pub record Matches (s : State) (m : Machine) : Type 0 where
   pub sixteen : length (s .stamps) ≡ 16
   pub agree : Agree s (m .stamp)
   pub sits : Sits s (m .stamp)
@@ -66,7 +66,7 @@ pub record Labelled (u : Use) (t keep : ℕ) (s : State) (m : Machine) : Type 0 
   pub sits : Sits s (m .stamp)
   pub cheap : Cheap s m
 
-pub labelled-does : (r : ArrayRecord) (u : Use) (t keep step : ℕ) (s : State) (m : Machine) → t < 16 → Ready s m
+pub labelled-does : (r : ArrayRecord) (u : Use) (t keep step : ℕ) (s : State) (m : Machine) → t < 16 → Matches s m
     → Labelled u t keep (labelled r u t keep s) (machineStep (Remap t) step m)
 unfolding labelled
 labelled-does r u t keep step s m below y =

@@ -45,8 +45,8 @@ pub fn fill(edges: &[u8], order: &mut [u16])
     requires { ⌜ length (now order) ≡ edgeCount (now edges) ⌝ }
     ensures { λ _. ⌜ Order (edgeCount (now (edges .entry))) (now (order .exit)) ⌝ }
 {
-    identity(order);
     if rising::is_good(edges) {
+        identity(order);
         return;
     }
     by_search(edges, order);
