@@ -3,6 +3,8 @@ use routine::header::Header;
 ghost use mathlib.Core.Path.{_≡_};
 ghost use Prim.Native.Nat.{_*_};
 ghost use lib.ListN.{length};
+ghost use Rattle.flow.specs.Solver.{Rounds};
+ghost use Rattle.labels.specs.Events.{edgeBytes};
 ghost use Rattle.labels.specs.Routines.{ReadAs, EdgeOrder};
 ghost use Rattle.passes.specs.Tables.{Pass};
 ghost use Rattle.routine.specs.Layout.{vertices, edges};
@@ -49,6 +51,8 @@ pub fn solve(
     requires { ⌜ length (now passes) ≡ 8 * vertices (now file) ⌝ }
     requires { ⌜ length (now sets) ≡ 8 * vertices (now file) ⌝ }
     ensures { λ _. ⌜ Pass (now (file .entry)) along (now (gives .entry)) (now (passes .entry)) (now (sets .exit)) ⌝ }
+    ensures { λ r. ⌜ Rounds (edgeBytes (now (file .entry))) (now (order .entry)) along (now (gives .entry)) (now (passes .entry))
+        (vertices (now (file .entry))) r ⌝ }
 {
     let at = h.edges_at();
     solver::solve(&file[at..], order, along, gives, passes, sets)

@@ -5,8 +5,11 @@ use crate::reaching;
 use crate::uses;
 use routine::header::Header;
 ghost use mathlib.Core.Path.{_≡_};
+ghost use mathlib.Core.Bool.{true};
 ghost use Prim.Native.Nat.{_*_};
 ghost use lib.ListN.{length};
+ghost use Rattle.flow.specs.Solver.{Rounds};
+ghost use Rattle.labels.specs.Events.{edgeBytes};
 ghost use Rattle.labels.specs.Kept.{keptOf};
 ghost use Rattle.labels.specs.Reaching.{reachingOf};
 ghost use Rattle.labels.specs.Routines.{ReadAs, EdgeOrder};
@@ -50,6 +53,8 @@ pub fn letters(
     requires { ⌜ length (now sets) ≡ 8 * vertices (now file) ⌝ }
     requires { ⌜ length (now passes) ≡ 8 * vertices (now file) ⌝ }
     ensures { λ _. ⌜ Letters (now (file .entry)) (now (letters .exit)) ⌝ }
+    ensures { λ r. ⌜ Rounds (edgeBytes (now (file .entry))) (now (order .entry)) true (now (uses .entry)) (now (passes .exit))
+        (vertices (now (file .entry))) r ⌝ }
 {
     uses::fill(uses, passes);
     let rounds = pass::solve(file, h, order, true, uses, passes, sets);

@@ -69,7 +69,7 @@ reaching-requires c κs =
     let l = c .before .before .before .before .before .before .before .before .before .before .before .before .before .before .before in
     let p = start l .pre in
     let q = p .1 .1 .1 in
-    (p .0, (c .before .before .before .before .before .before .before .reorder .ensures, (p .1 .1 .0, (l .letters .ensures, (l .letters .kept .1 .1 .1 .1 .1 .0 ∙ q .1 .1 .0, (q .1 .1 .1 .0, l .letters .kept .1 .1 .1 .1 .1 .1 .0 ∙ q .1 .1 .1 .1))))))
+    (p .0, (c .before .before .before .before .before .before .before .reorder .ensures, (p .1 .1 .0, (l .letters .ensures .0, (l .letters .kept .1 .1 .1 .1 .1 .0 ∙ q .1 .1 .0, (q .1 .1 .1 .0, l .letters .kept .1 .1 .1 .1 .1 .1 .0 ∙ q .1 .1 .1 .1))))))
 
 check-ambiguous-requires : tie.Need-check-ambiguous-requires
 check-ambiguous-requires c κs =
@@ -100,7 +100,7 @@ returns-2 c =
       r .before .before .before .before .before .before .before .before .reorder .ensures,
       record {
         answers = passes (l .before .before .before .before .before .before .before .check-writes .ensures) (l .before .before .before .before .before .enum-told2 .given .1) (c .check-ambiguous .ensures);
-        letters-are = λ e. l .letters .ensures;
+        letters-are = λ e. l .letters .ensures .0;
         reaching-are = λ e. r .reaching2 .ensures;
       },
     )

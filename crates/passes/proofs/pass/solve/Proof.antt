@@ -9,7 +9,7 @@ use borrow.Author.Needs.{needs}
 use lib.ListN.{length}
 use Rattle.flow.specs.Order.{Order}
 use Rattle.flow.specs.Paths.{edgeCount}
-use Rattle.flow.specs.Solver.{column, solution, rowCount, Ends, Solved}
+use Rattle.flow.specs.Solver.{column, solution, rowCount, Ends, Rounds, Solved}
 use Rattle.labels.specs.Events.{edgeBytes}
 use Rattle.passes.specs.Tables.{Pass}
 use Rattle.routine.specs.Layout.{vertices}
@@ -30,6 +30,11 @@ moved file along gives passes {es} {order} {sets} {m} {r} e f h = record {
       subst (λ (n : ℕ). column sets n a ≡ solution (edgeBytes file) along (column gives n a) (column passes n a) n) f
       (subst (λ (bytes : List ℕ). column sets m a ≡ solution bytes along (column gives m a) (column passes m a) m) e (h .sets a l));
 }
+
+counted : (file : List ℕ) (order : List ℕ) (along : Bool) (gives passes : List ℕ) {es : List ℕ} {m r : ℕ} → es ≡ edgeBytes file → m ≡ vertices file
+    → Rounds es order along gives passes m r → Rounds (edgeBytes file) order along gives passes (vertices file) r
+counted file order along gives passes {m = m} {r} e f h =
+    subst (λ (n : ℕ). Rounds (edgeBytes file) order along gives passes n r) f (subst (λ (bytes : List ℕ). Rounds bytes order along gives passes m r) e h)
 
 edges-at-requires : tie.Need-edges-at-requires
 edges-at-requires c κs = search needs
@@ -76,7 +81,9 @@ returns c =
     let s = e .before .before .before .before .before .before in
     let file = s .args .file .now in
     let lent = edges-part (s .pre .0) (e .edges-at .ensures) in
-    moved file (s .args .along) (s .args .gives .now) (s .args .passes .now) lent (rows-are file (s .args .sets .now) (s .pre .1 .1 .1 .1)) (c .before .before .solve .ensures)
+    let rows = rows-are file (s .args .sets .now) (s .pre .1 .1 .1 .1) in
+    let h = c .before .before .solve .ensures in
+    (moved file (s .args .along) (s .args .gives .now) (s .args .passes .now) lent rows h, counted file (s .args .order .now) (s .args .along) (s .args .gives .now) (s .args .passes .now) lent rows (h .counted))
 
 pub solve-spec : {M : Type 1} → statement M
 solve-spec =

@@ -25,7 +25,7 @@ join-requires c κs =
     let f = v .before .before .before .before .before .before .before .before in
     let p = f .before .before .before .before .before .before .before .before .before .before .pre in
     let q = p .1 .1 in
-    let all = sym (v .solve .ensures .size) in
+    let all = sym (v .solve .ensures .0 .size) in
     (q .1 .0 .size ∙ all, kept-gives (p .0 .well) (q .0) (q .1 .0) (f .fill .ensures .0) .size ∙ all)
 
 same-length : tie.Need-same-length
@@ -44,7 +44,7 @@ returns c =
     let p = f .before .before .before .before .before .before .before .before .before .before .pre in
     let q = p .1 .1 in
     let well = p .0 .well in
-    kept-sets well (q .0) (q .1 .0) (kept-gives well (q .0) (q .1 .0) (f .fill .ensures .0)) (kept-passes well (q .0) (q .1 .0) (f .fill .ensures .1)) (v .solve .ensures) (c .before .before .join .ensures)
+    kept-sets well (q .0) (q .1 .0) (kept-gives well (q .0) (q .1 .0) (f .fill .ensures .0)) (kept-passes well (q .0) (q .1 .0) (f .fill .ensures .1)) (v .solve .ensures .0) (c .before .before .join .ensures)
 
 pub kept-spec : {M : Type 1} → statement M
 kept-spec =

@@ -18,13 +18,13 @@ solve-requires c κs =
     (p .0, (p .1 .0, (q .0 .size, (letter-passes (p .0 .well) (q .0) (f .fill .ensures) .size, q .1 .1 .0))))
 
 write-requires : tie.Need-write-requires
-write-requires c κs = let v = c .before .before .before .before in v .before .before .before .before .before .before .before .before .before .before .before .before .before .pre .1 .1 .1 .0 ∙ sym (v .solve .ensures .size)
+write-requires c κs = let v = c .before .before .before .before in v .before .before .before .before .before .before .before .before .before .before .before .before .before .pre .1 .1 .1 .0 ∙ sym (v .solve .ensures .0 .size)
 
 leave-requires : tie.Need-leave-requires
 leave-requires c κs =
     let w = c .before .before .before in
     let v = w .before .before .before .before .before in
-    (v .before .before .before .before .before .before .before .before .before .before .before .before .before .pre .0, ap length (w .write .ensures) ∙ table-length _ _ ∙ v .solve .ensures .size)
+    (v .before .before .before .before .before .before .before .before .before .before .before .before .before .pre .0, ap length (w .write .ensures) ∙ table-length _ _ ∙ v .solve .ensures .0 .size)
 
 same-length : tie.Need-same-length
 same-length c = c .before .before .leave .kept .1 .1 .0 ∙ c .before .before .before .before .before .before .write .kept .1 .0
@@ -43,7 +43,7 @@ returns c =
     let p = f .before .before .before .before .before .before .before .before .pre in
     let q = p .1 .1 in
     let well = p .0 .well in
-    letters-are well (q .0) (letter-passes well (q .0) (f .fill .ensures)) (v .solve .ensures) (w .write .ensures) (c .before .before .leave .ensures)
+    (letters-are well (q .0) (letter-passes well (q .0) (f .fill .ensures)) (v .solve .ensures .0) (w .write .ensures) (c .before .before .leave .ensures), v .solve .ensures .1)
 
 pub letters-spec : {M : Type 1} → statement M
 letters-spec =

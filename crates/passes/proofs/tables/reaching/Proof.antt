@@ -55,7 +55,7 @@ enter-requires : tie.Need-enter-requires
 enter-requires c κs =
     let v = c .before .before .before in
     let p = start (reached (filled (given v))) .pre in
-    (p .0, omega (arith, v .solve .ensures .size, p .0 .well .laid .limits .two-vertices))
+    (p .0, omega (arith, v .solve .ensures .0 .size, p .0 .well .laid .limits .two-vertices))
 
 same-length : tie.Need-same-length
 same-length c =
@@ -82,7 +82,7 @@ returns c =
     let q = p .1 .1 in
     let well = p .0 .well in
     reaching-sets well (reach-gives well (q .0) (q .1 .0) (x .reached .ensures) (f .fill .ensures .0) (g .enter-gives .ensures)) (reach-passes well (q .0) (q .1 .0) (f .fill .ensures .1))
-    (v .solve .ensures) (c .before .before .enter .ensures)
+    (v .solve .ensures .0) (c .before .before .enter .ensures)
 
 pub reaching-spec : {M : Type 1} → statement M
 reaching-spec =
