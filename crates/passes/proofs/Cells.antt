@@ -3,27 +3,27 @@
 use mathlib.Core.Path.{_≡_, refl, sym, ap, ap₂, subst, _∙_}
 use mathlib.Core.Bool.{Bool, cond}
 use mathlib.Core.List.{List, [], _∷_}
-use Prim.Native.Nat.{ℕ, _+_, _*_, _/_, _%_, _≤_, _<_}
+use Prim.Native.Nat.{ℕ, _+_, _*_, _/_, _%_, _≤_, _<_, zero-le}
 use native.Mathlib.Decide.{ℕ-discrete}
 use native.Mathlib.Omega.{arith}
-use borrow.Author.Tests.{lt-ltb, ltb-true}
-use lib.Dec.{ltb}
+use borrow.Author.Tests.{lt-ltb, le-ltb, ne-eqb}
+use lib.Dec.{ltb, eqb}
 use lib.ListN.{length, getD, drop}
 use Rattle.flow.specs.Solver.{column, solution}
-use Rattle.routine.specs.Layout.{arrays, vertices, edgesAt}
+use Rattle.routine.specs.Actions.{action}
+use Rattle.routine.specs.Layout.{arrays, vertices, entry, exit, edgesAt}
 use Rattle.routine.specs.Reader.{WellFormed}
-use Rattle.routine.specs.declared.action.Action.the-variants.{Nothing}
+use Rattle.routine.specs.declared.action.Action.{Action}
 use Rattle.routine.specs.declared.header.Header.{Header}
 use Rattle.words.specs.Tables.{table, withRow}
-use Rattle.words.proofs.Tests.{at-cond}
+use Rattle.words.proofs.Tests.{at-cond, one-more}
 use Rattle.words.proofs.Written.{partFrom, part-is}
 use Rattle.words.proofs.Replaced.{replaced-length, replaced-other, replaced-at}
 use Rattle.words.proofs.Tables.{table-length, table-at, rows-same}
-use Rattle.labels.specs.Events.{edgeBytes, solvedSets, event, version, versionOf}
+use Rattle.labels.specs.Events.{edgeBytes, solvedSets, event}
 use Rattle.labels.specs.Routines.{ReadAs}
-use Rattle.labels.proofs.Rules.Events.{version-fits}
-use Rattle.labels.proofs.Rules.Proper.{proper}
-use Rattle.passes.specs.Tables.{Cells, cellEvent, Pass}
+use Rattle.labels.proofs.Rules.Events.{inner-event}
+use Rattle.passes.specs.Tables.{Cells, Pass}
 
 -- ---- places
 
@@ -33,6 +33,12 @@ row-of v a h = omega arith
 column-of : (v a : ℕ) → a < 8 → (8 * v + a) % 8 ≡ a
 column-of v a h = omega arith
 
+-- ---- what stands in them
+
+-- of a table that is filled row by row: the rows below v are those of f, the others as they were
+abbrev pub rowsTo : (ℕ → ℕ → ℕ) → List ℕ → ℕ → ℕ → ℕ → ℕ
+rowsTo f old v a u = cond (ltb u v) (f a u) (getD old (8 * u + a) 0)
+
 module _ {file : List ℕ} (well : WellFormed file) where
   -- a column for each array
   pub in-eight : {a : ℕ} → a < arrays file → a < 8
@@ -40,20 +46,6 @@ module _ {file : List ℕ} (well : WellFormed file) where
 
   pub in-cells : {a v : ℕ} → a < arrays file → v < vertices file → 8 * v + a < 8 * vertices file
   in-cells h k = omega (arith, in-eight h)
-
-  -- what a cell stands for
-  pub cell-event : {a : ℕ} (v : ℕ) → a < arrays file → cellEvent file (8 * v + a) ≡ event file a v
-  unfolding cellEvent
-  cell-event {a} v h =
-      ap₂ (λ (x y : ℕ). cond (ltb x (arrays file)) (event file x y) Nothing) (column-of v a (in-eight h)) (row-of v a (in-eight h))
-      ∙ ap (λ (b : Bool). cond b (event file a v) Nothing) (lt-ltb a (arrays file) h)
-
-  -- its version is below 16
-  pub cell-below : (i : ℕ) → versionOf (cellEvent file i) < 16
-  unfolding cellEvent version
-  cell-below i =
-      at-cond (λ x. versionOf x < 16) (ltb (i % 8) (arrays file))
-      (λ e. version-fits file (i % 8) (proper file well (i % 8) (ltb-true (i % 8) (arrays file) e)) (i / 8)) (λ _. omega arith)
 
   -- a table that was filled cell by cell
   pub cells-table : (F : ℕ → ℕ) {f : ℕ → ℕ → ℕ} {s : List ℕ} {n : ℕ} → n ≡ 8 * vertices file → s ≡ table F n
@@ -77,6 +69,40 @@ module _ {file : List ℕ} (well : WellFormed file) where
           | no e ↦ replaced-other s (8 * w) r 0 (arrays file) (8 * v + a) (λ b in-b q. e (omega (arith, in-eight in-a, in-eight in-b))) ∙ h .cells a v in-a in-v ∙ old a v in-a e
         ];
   }
+
+  -- a table that is filled row by row
+  module _ (f : ℕ → ℕ → ℕ) (old : List ℕ) where
+    pub rows-none : length old ≡ 8 * vertices file → Cells file (rowsTo f old 0) old
+    rows-none size = record { size = size; cells = λ a v in-a in-v. ap (λ (b : Bool). cond b (f a v) (getD old (8 * v + a) 0)) (sym (le-ltb v 0 zero-le)) }
+
+    pub rows-next : {s t : List ℕ} (v : ℕ) → v < vertices file → Cells file (rowsTo f old v) s → t ≡ withRow s v (λ a. f a v) (arrays file) → Cells file (rowsTo f old (v + 1)) t
+    rows-next v in-v h e =
+        subst (Cells file (rowsTo f old (v + 1))) (sym e)
+        (cells-row (λ a. f a v) v in-v h
+        (λ a in-a. ap (λ (b : Bool). cond b (f a v) (getD old (8 * v + a) 0)) (sym (lt-ltb v (v + 1) (omega arith))))
+        (λ a u in-a other. ap (λ (b : Bool). cond b (f a u) (getD old (8 * u + a) 0)) (one-more u v other)))
+
+    pub rows-all : {s : List ℕ} (v : ℕ) → vertices file ≤ v → Cells file (rowsTo f old v) s → Cells file f s
+    rows-all v all h = record {
+      size = h .size;
+      cells = λ a u in-a in-u. h .cells a u in-a in-u ∙ ap (λ (b : Bool). cond b (f a u) (getD old (8 * u + a) 0)) (lt-ltb u v (omega arith));
+    }
+
+  -- the actions of all vertices, and then the events of the entry and the exit
+  pub cells-events : (f : Action → ℕ) {s t u : List ℕ} → Cells file (λ a v. f (action file v a)) s → t ≡ withRow s entry (λ a. f (event file a entry)) (arrays file)
+      → {w : ℕ} → w ≡ exit file → u ≡ withRow t w (λ a. f (event file a w)) (arrays file) → Cells file (λ a v. f (event file a v)) u
+  cells-events f {s} {t} h e last g =
+      let two = well .laid .limits .two-vertices in
+      subst (Cells file (λ a v. f (event file a v))) (sym (g ∙ ap (λ (w : ℕ). withRow t w (λ a. f (event file a w)) (arrays file)) last))
+      (cells-row (λ a. f (event file a (exit file))) (exit file) (omega arith)
+      (subst (Cells file (λ a v. cond (eqb v (exit file)) (f (action file v a)) (f (event file a v)))) (sym e)
+      (cells-row (λ a. f (event file a entry)) entry (omega arith) h
+      (λ a in-a. ap (λ (b : Bool). cond b (f (action file entry a)) (f (event file a entry))) (sym (ne-eqb entry (exit file) (λ q. omega arith))))
+      (λ a v in-a other.
+      at-cond (λ (x : ℕ). f (action file v a) ≡ x) (eqb v (exit file)) (λ _. refl)
+      (λ q. ap f (sym (inner-event file a v (ne-eqb v entry other) q))))))
+      (λ a in-a. refl)
+      (λ a v in-a other. ap (λ (b : Bool). cond b (f (action file v a)) (f (event file a v))) (ne-eqb v (exit file) other)))
 
   -- the sets that a pass leaves
   pub cells-solved : (G P : ℕ → ℕ → ℕ) {gives passes sets : List ℕ} {along : Bool} → Cells file G gives → Cells file P passes → Pass file along gives passes sets

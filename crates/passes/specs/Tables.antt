@@ -1,15 +1,13 @@
 -- Tables of the label rules: the cell of vertex v and array a stands at 8 v + a.
 -- Assumes nothing.
 use mathlib.Core.Path.{_≡_}
-use mathlib.Core.Bool.{Bool, _||_, cond}
+use mathlib.Core.Bool.{Bool, _||_}
 use mathlib.Core.List.{List}
-use Prim.Native.Nat.{ℕ, _+_, _*_, _/_, _%_, _<_}
+use Prim.Native.Nat.{ℕ, _+_, _*_, _<_}
 use lib.Dec.{ltb}
 use lib.ListN.{length, getD}
 use Rattle.flow.specs.Solver.{column, solution}
 use Rattle.routine.specs.Layout.{arrays, vertices}
-use Rattle.routine.specs.declared.action.Action.{Action}
-use Rattle.routine.specs.declared.action.Action.the-variants.{Nothing}
 use Rattle.sets.specs.Sets.{has}
 use Rattle.labels.specs.Events.{edgeBytes, event, versionSet}
 use Rattle.labels.specs.Kept.{keptOf}
@@ -21,11 +19,6 @@ use Rattle.labels.specs.Uses.{useGives, useOf}
 pub record Cells (file : List ℕ) (f : ℕ → ℕ → ℕ) (s : List ℕ) : Type 0 where
   pub size : length s ≡ 8 * vertices file
   pub cells : (a v : ℕ) → a < arrays file → v < vertices file → getD s (8 * v + a) 0 ≡ f a v
-
--- what cell i stands for; nothing where there is no such array
-unfoldable pub cellEvent : List ℕ → ℕ → Action
-unfolding event
-cellEvent file i = cond (ltb (i % 8) (arrays file)) (event file (i % 8) (i / 8)) Nothing
 
 -- whether cell i is the entry's, or its set says that a path from the entry reaches it
 abbrev pub reachedCell : ℕ → ℕ → Bool

@@ -16,7 +16,7 @@ use Rattle.routine.specs.Layout.{arrays, vertices}
 use Rattle.routine.specs.Reader.{Laid}
 use Rattle.words.specs.Sums.{total}
 use Rattle.words.specs.Tables.{rows}
-use Rattle.words.proofs.Filling.{Filling, fill-next, fill-at}
+use Rattle.words.proofs.Filling.{Filling, fill-length, fill-next, fill-at}
 use Rattle.words.proofs.Sums.{total-none, total-more, total-few, count-few, rows-total}
 use Rattle.words.proofs.Tables.{rows-empty, rows-length}
 
@@ -57,7 +57,7 @@ module _ (file : List ℕ) where
       → Firsts file (set new n count)
   firsts-done {old} {new} {v} {n} {count} t e f two g =
       let done = fill-next t (omega (arith, e, f)) g in
-      subst (λ (m : ℕ). Firsts file (set new m count)) e (record { size = done .sized; first = λ u l. fill-at done u (omega (arith, e, f)) })
+      subst (λ (m : ℕ). Firsts file (set new m count)) e (record { size = fill-length done; first = λ u l. fill-at done u (omega (arith, e, f)) })
 
   module _ (laid : Laid file) where
     pub at-few : (v : ℕ) → labelsAt file v ≤ 8

@@ -1,19 +1,20 @@
 -- A vertex has references or labels, never both: one action of its row tells.
 -- Assumes nothing.
-use mathlib.Core.Path.{_≡_, refl, sym, ap, ap₂, _∙_}
-use mathlib.Core.Bool.{Bool, true, false, _&&_, _||_, cond, and-true}
+use mathlib.Core.Path.{_≡_, refl, sym, ap, _∙_}
+use mathlib.Core.Bool.{Bool, true, false, _&&_, _||_, and-true}
 use mathlib.Core.List.{List}
 use Prim.Native.Nat.{ℕ, _<_}
 use borrow.Author.Tests.{eqb-true}
 use lib.Dec.{eqb}
 use Rattle.labels.specs.Events.{event}
 use Rattle.routine.specs.Actions.{action, isReference, isRemap}
-use Rattle.routine.specs.Arrays.{kind, initial, isArgument}
+use Rattle.routine.specs.Arrays.{kind, isArgument}
 use Rattle.routine.specs.Layout.{arrays, vertices, exit}
 use Rattle.routine.specs.Reader.{WellFormed}
 use Rattle.routine.specs.declared.action.Action.{Action}
 use Rattle.routine.specs.declared.action.Action.the-variants.{Nothing, Reference, Remap, Unknown}
 use Rattle.routine.proofs.WellFormed.{entry-nothing, exit-nothing, never-both}
+use Rattle.labels.proofs.Rules.Events.{inner-event}
 use Rattle.words.proofs.Tests.{at-cond, or-cases}
 use Rattle.walk.specs.Walks.{OneSort, Labels}
 
@@ -52,8 +53,7 @@ module _ {file : List ℕ} (well : WellFormed file) (v : ℕ) where
 -- elsewhere the row tells
 module _ (file : List ℕ) (v : ℕ) (first : eqb v 0 ≡ false) (last : eqb v (exit file) ≡ false) where
   as-read : (b : ℕ) → event file b v ≡ action file v b
-  unfolding event
-  as-read b = ap₂ (λ (p q : Bool). cond (p || (q && isArgument (kind file b))) (Remap (initial file b)) (action file v b)) first last
+  as-read b = inner-event file b v first last
 
   pub at-inner : (r : Bool) → OneSort file v r → Labels file v r
   at-inner true sort = λ b in-b. ap isReference (as-read b) ∙ sort b in-b

@@ -3,7 +3,7 @@
 use mathlib.Core.Path.{_≡_, refl, sym, ap, ap₂, _∙_}
 use mathlib.Core.List.{List}
 use Prim.Native.Nat.{ℕ, zero, suc, _+_, _≤_, _<_}
-use native.Mathlib.Nat.{le-refl}
+use native.Mathlib.Nat.{le-refl, le-antisymm}
 use native.Mathlib.Numerals.{add-one}
 use native.Mathlib.Omega.{arith}
 use borrow.Author.Count.{below-more}
@@ -46,3 +46,25 @@ module _ {A : Type 0} (s : List A) (at : ℕ) (f : ℕ → A) where
   replaced-still d zero h = refl
   replaced-still d (suc m) h =
       ap₂ (λ (t : List A) (x : A). set t (at + m) x) (replaced-still d m (λ a l. h a (omega arith))) (h m (le-refl (suc m))) ∙ set-getD s (at + m) d
+
+-- ---- a loop that replaces n entries: m of them have been
+
+pub record Replacing {A : Type 0} (s : List A) (at : ℕ) (f : ℕ → A) (n : ℕ) (t : List A) (m : ℕ) : Type 0 where
+  pub within : m ≤ n
+  pub sized : length t ≡ length s
+  pub is : t ≡ replaced s at f m
+
+pub replacing-begin : {A : Type 0} (s : List A) (at : ℕ) (f : ℕ → A) (n : ℕ) → Replacing s at f n s 0
+unfolding replaced
+replacing-begin s at f n = record { within = omega arith; sized = refl; is = refl }
+
+module _ {A : Type 0} {s : List A} {at : ℕ} {f : ℕ → A} {n : ℕ} {t : List A} {m : ℕ} (r : Replacing s at f n t m) where
+  -- the next entry, which is as it was
+  pub replacing-behind : (d : A) {k : ℕ} → k ≡ at + m → getD t k d ≡ getD s k d
+  replacing-behind d {k} here = ap (λ (l : List A). getD l k d) (r .is) ∙ replaced-other s at f d m k (λ a l e. omega arith)
+
+  pub replacing-next : {k : ℕ} {x : A} → m < n → k ≡ at + m → x ≡ f m → Replacing s at f n (set t k x) (m + 1)
+  replacing-next l here is = record { within = omega arith; sized = length-set t _ _ ∙ r .sized; is = replaced-next s at f m (r .is) here is }
+
+  pub replacing-end : n ≤ m → t ≡ replaced s at f n
+  replacing-end l = r .is ∙ ap (replaced s at f) (le-antisymm (r .within) l)

@@ -1,17 +1,16 @@
 -- `in_masks` meets its contract: a row is filled in place.
 -- Assumes nothing.
-use mathlib.Core.Path.{_≡_, refl, ap, _∙_}
+use mathlib.Core.Path.{ap, _∙_}
 use mathlib.Core.Bool.{Bool, cond}
-use Prim.Native.Nat.{ℕ, _-_, _≤_}
+use Prim.Native.Nat.{ℕ, _-_}
 use native.Mathlib.Omega.{arith}
 use borrow.Author.Needs.{needs}
 use mathlib.Core.List.{List}
-use lib.ListN.{length, getD, replicate}
+use lib.ListN.{getD}
 use Rattle.routine.specs.Arrays.{kind, isIn}
 use Rattle.routine.specs.Layout.{arrays}
 use Rattle.routine.specs.declared.array.ArrayRecord.{ArrayRecord}
-use Rattle.words.specs.Tables.{replaced}
-use Rattle.words.proofs.Replaced.{replaced-length, replaced-next, replaced-at}
+use Rattle.words.proofs.Replaced.{replaced-at, Replacing, replacing-begin, replacing-next, replacing-end}
 use Rattle.checks.proofs.in_masks.Statement.{statement}
 use Rattle.checks.proofs.in_masks.Tie as tie
 
@@ -20,14 +19,13 @@ abbrev mask : List ℕ → ℕ → ℕ
 mask file b = cond (isIn (kind file b)) 0b1000 0
 
 abbrev Inv-loop : tie.InvT-loop
-Inv-loop file masks₀ m a₀ masks a = (a ≤ arrays file) × (masks ≡ replaced masks₀ 0 (mask file) a)
+Inv-loop file masks₀ m a₀ masks a = Replacing masks₀ 0 (mask file) (arrays file) masks a
 
 abbrev μ-loop : tie.MeasureT-loop
 μ-loop file masks₀ m a₀ masks a = m - a
 
 loop-holds : tie.Need-loop-holds Inv-loop μ-loop
-unfolding replaced
-loop-holds c = (omega arith, refl)
+loop-holds c = replacing-begin _ _ _ _
 
 record-of-requires : tie.Need-record-of-requires Inv-loop μ-loop
 record-of-requires c κs = let s = c .before .before .before in (s .pre .well .laid, omega (arith, s .pre .heads .arrays-are))
@@ -53,21 +51,18 @@ loop-less c = omega arith
 loop-again : tie.Need-loop-again Inv-loop μ-loop
 loop-again c =
     let l = c .before .before .before .before in
-    let s = l .before .before in (
-      omega (arith, s .pre .heads .arrays-are),
-      replaced-next _ 0 (mask (s .args .file .now)) (l .loop .a) (l .loop .inv .1) (omega arith)
-          (c .set-if .ensures ∙ ap (λ (b : Bool). cond b 0b1000 0) (c .before .is-in .ensures ∙ ap (λ (r : ArrayRecord). isIn (r .kind)) (c .before .before .record-of .ensures))),
-    )
+    replacing-next (l .loop .inv) (omega (arith, l .before .before .pre .heads .arrays-are)) (omega arith)
+    (c .set-if .ensures ∙ ap (λ (b : Bool). cond b 0b1000 0) (c .before .is-in .ensures ∙ ap (λ (r : ArrayRecord). isIn (r .kind)) (c .before .before .record-of .ensures)))
 
 returns : tie.Need-returns Inv-loop μ-loop
 returns c =
     let l = c .before in
     let s = l .before .before in
-    let is = l .loop .inv .1 in
+    let file = s .args .file .now in
+    let is = replacing-end (l .loop .inv) (omega (arith, s .pre .heads .arrays-are)) in
     record {
-      size = ap length is ∙ replaced-length (replicate 8 0) 0 (mask (s .args .file .now)) (l .loop .a);
-      are = λ a h. ap (λ (t : List ℕ). getD t a 0) is
-          ∙ replaced-at (replicate 8 0) 0 (mask (s .args .file .now)) 0 (l .loop .a) a (omega arith) (omega (arith, s .pre .heads .arrays-are)) (omega (arith, l .loop .inv .0, s .pre .well .laid .limits .few-arrays));
+      size = l .loop .inv .sized;
+      are = λ a h. ap (λ (t : List ℕ). getD t a 0) is ∙ replaced-at _ 0 (mask file) 0 (arrays file) a (omega arith) h (omega (arith, s .pre .well .laid .limits .few-arrays));
     }
 
 pub in-masks-spec : {M : Type 1} → statement M

@@ -1,33 +1,28 @@
 -- `flow::join` meets its contract: column after column the row grows, and the note is filled.
 -- Assumes nothing.
-use mathlib.Core.Path.{_≡_, refl, sym, ap, ap₂, _∙_}
-use mathlib.Core.List.{List}
+use mathlib.Core.Path.{refl, ap, ap₂, _∙_}
 use Prim.Native.Nat.{ℕ, _+_, _-_, _*_}
-use native.Mathlib.Nat.{le-antisymm}
-use native.Mathlib.Numerals.{add-one}
 use native.Mathlib.Omega.{arith}
 use borrow.Author.Needs.{needs}
 use lib.Bits.{bitOr}
-use lib.ListN.{length, getD, set, length-set}
+use lib.ListN.{getD}
 use Rattle.sets.specs.Sets.{minus}
-use Rattle.flow.specs.Solver.{grown}
-use Rattle.words.specs.Tables.{replaced}
-use Rattle.words.proofs.Replaced.{replaced-other}
+use Rattle.flow.proofs.Rows.{grows}
+use Rattle.words.proofs.Replaced.{Replacing, replacing-begin, replacing-behind, replacing-next, replacing-end}
 use Rattle.words.proofs.Filling.{Filling, fill-begin, fill-next, fill-behind, fill-end}
 use Rattle.flow.proofs.join.Statement.{statement}
 use Rattle.flow.proofs.join.Tie as tie
 
 abbrev Inv-loop : tie.InvT-loop
 Inv-loop sets₀ v row noted₀ a₀ sets noted a =
-    (sets ≡ grown sets₀ v row a) × (length sets ≡ length sets₀)
+    Replacing sets₀ (8 * v) (grows sets₀ v row) 8 sets a
     × Filling (λ b. bitOr (getD noted₀ b 0) (minus (getD row b 0) (getD sets₀ (8 * v + b) 0))) 8 noted₀ noted a
 
 abbrev μ-loop : tie.MeasureT-loop
 μ-loop sets₀ v row noted₀ a₀ sets noted a = 8 - a
 
 loop-holds : tie.Need-loop-holds Inv-loop μ-loop
-unfolding replaced
-loop-holds c = (refl, refl, fill-begin _ (c .before .pre .1))
+loop-holds c = (replacing-begin _ _ _ 8, fill-begin _ (c .before .pre .1))
 
 mul-at : tie.Need-mul-at Inv-loop μ-loop
 mul-at c = omega arith
@@ -75,18 +70,14 @@ loop-less : tie.Need-loop-less Inv-loop μ-loop
 loop-less c = omega arith
 
 loop-again : tie.Need-loop-again Inv-loop μ-loop
-unfolding replaced
 loop-again c =
     let l = c .before .before .before in
     let s = l .before .before in
     let a = l .loop .a in
-    let v = s .args .v in
-    let old : getD (l .loop .sets) (8 * v + a) 0 ≡ getD (s .args .sets .now) (8 * v + a) 0 =
-    ap (λ (t : List ℕ). getD t (8 * v + a) 0) (l .loop .inv .0) ∙ replaced-other (s .args .sets .now) (8 * v) _ 0 a (8 * v + a) (λ b h e. omega arith) in (
-      ap₂ (λ (t : List ℕ) (x : ℕ). set t (8 * v + a) (bitOr x (getD (s .args .t3) a 0))) (l .loop .inv .0) old ∙ ap (grown (s .args .sets .now) v (s .args .t3)) (sym (add-one a)),
-      length-set (l .loop .sets) _ _ ∙ l .loop .inv .1,
-      fill-next (l .loop .inv .2) (c .before .before .loop-test .taken)
-          (ap₂ bitOr (fill-behind (l .loop .inv .2) (c .before .before .loop-test .taken)) (c .difference .ensures ∙ ap (minus (getD (s .args .t3) a 0)) old)),
+    let old = replacing-behind (l .loop .inv .0) 0 {k = 8 * s .args .v + a} refl in
+    let room = c .before .before .loop-test .taken in (
+      replacing-next (l .loop .inv .0) room refl (ap (λ (x : ℕ). bitOr x (getD (s .args .t3) a 0)) old),
+      fill-next (l .loop .inv .1) room (ap₂ bitOr (fill-behind (l .loop .inv .1) room) (c .difference .ensures ∙ ap (minus (getD (s .args .t3) a 0)) old)),
     )
 
 same-length : tie.Need-same-length Inv-loop μ-loop
@@ -95,8 +86,7 @@ same-length c = omega arith
 returns : tie.Need-returns Inv-loop μ-loop
 returns c =
     let l = c .before .loop in
-    let a = c .before .before .before .args in
-    (fill-end (l .inv .2) (c .loop-test .left), l .inv .0 ∙ ap (grown (a .sets .now) (a .v) (a .t3)) (le-antisymm (l .inv .2 .within) (c .loop-test .left)))
+    (fill-end (l .inv .1) (c .loop-test .left), replacing-end (l .inv .0) (c .loop-test .left))
 
 pub join-spec : {M : Type 1} → statement M
 join-spec =

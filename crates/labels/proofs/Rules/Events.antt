@@ -1,7 +1,7 @@
 -- Events: every version is below the width of a version set; tests of events, settled case by case.
 -- Assumes nothing.
-use mathlib.Core.Path.{_≡_, refl}
-use mathlib.Core.Bool.{_&&_, _||_}
+use mathlib.Core.Path.{_≡_, refl, ap₂}
+use mathlib.Core.Bool.{Bool, false, _&&_, _||_, cond}
 use mathlib.Core.List.{List}
 use Prim.Native.Nat.{ℕ, _<_}
 use native.Mathlib.Omega.{arith}
@@ -21,9 +21,9 @@ use Rattle.labels.proofs.Rules.Proper.{Proper}
 abbrev InWidth : Action → Type 0
 InWidth x = versionOf x < width
 
-action-fits : (b : ℕ) → InWidth (actionOf b)
+byte-fits : (b : ℕ) → InWidth (actionOf b)
 unfolding actionOf
-action-fits b =
+byte-fits b =
     at-cond InWidth (eqb b 0x00) (λ _. lit< tt) (λ _.
     at-cond InWidth (eqb b 0x10) (λ _. lit< tt) (λ _.
     at-cond InWidth (eqb b 0x20) (λ _. lit< tt) (λ _.
@@ -31,16 +31,26 @@ action-fits b =
     at-cond InWidth (ltb b 0x40) (λ _. lit< tt) (λ _.
     at-cond InWidth (ltb b 0x50) (λ h. omega (arith, ltb-true b 0x50 h)) (λ _. lit< tt))))))
 
+pub action-fits : (file : List ℕ) (v a : ℕ) → versionOf (action file v a) < width
+unfolding action
+action-fits file v a = byte-fits (actionByte file v a)
+
 -- every version is below the width
 pub version-fits : (file : List ℕ) (a : ℕ) → Proper file a → (v : ℕ) → version file a v < width
 unfolding version event action
 version-fits file a proper v =
-    at-cond InWidth (eqb v entry || (eqb v (exit file) && isArgument (kind file a))) (λ _. proper .initial-fits) (λ _. action-fits (actionByte file v a))
+    at-cond InWidth (eqb v entry || (eqb v (exit file) && isArgument (kind file a))) (λ _. proper .initial-fits) (λ _. action-fits file v a)
 
 -- entry labels every array as a remapping to its initial version
 pub entry-remaps : (file : List ℕ) (a : ℕ) → event file a entry ≡ Remap (initial file a)
 unfolding event
 entry-remaps file a = refl
+
+-- at any other vertex but the exit the action is the event
+pub inner-event : (file : List ℕ) (a v : ℕ) → eqb v entry ≡ false → eqb v (exit file) ≡ false → event file a v ≡ action file v a
+unfolding event
+inner-event file a v first last =
+    ap₂ (λ (p q : Bool). cond (p || (q && isArgument (kind file a))) (Remap (initial file a)) (action file v a)) first last
 
 -- what holds of each kind of event holds of every event
 pub by-event : (P : Action → Type 0) → P Nothing → P (Reference Read) → P (Reference Define) → P (Reference Modify)

@@ -3,7 +3,7 @@
 use mathlib.Core.Path.{refl}
 use Prim.Native.Nat.{_-_}
 use borrow.Author.Needs.{needs}
-use Rattle.words.proofs.Filling.{Filling, fill-begin, fill-next, fill-end}
+use Rattle.words.proofs.Filling.{Filling, fill-begin, fill-length, fill-next, fill-end}
 use Rattle.order.proofs.identity.Statement.{statement}
 use Rattle.order.proofs.identity.Tie as tie
 
@@ -35,7 +35,7 @@ loop-again : tie.Need-loop-again Inv-loop μ-loop
 loop-again c = fill-next (c .before .loop .inv) (c .loop-test .taken) refl
 
 same-length : tie.Need-same-length Inv-loop μ-loop
-same-length c = c .before .loop .inv .sized
+same-length c = fill-length (c .before .loop .inv)
 
 returns : tie.Need-returns Inv-loop μ-loop
 returns c = fill-end (c .before .loop .inv) (c .loop-test .left)

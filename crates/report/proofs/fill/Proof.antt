@@ -4,7 +4,7 @@ use Prim.Native.Nat.{_-_}
 use native.Mathlib.Omega.{arith}
 use borrow.Author.Needs.{needs}
 use Rattle.routine.specs.Layout.{vertices}
-use Rattle.words.proofs.Filling.{Filling, fill-begin, fill-next, fill-end}
+use Rattle.words.proofs.Filling.{Filling, fill-begin, fill-length, fill-next, fill-end}
 use Rattle.report.specs.References.{referencesAt}
 use Rattle.report.proofs.fill.Statement.{statement}
 use Rattle.report.proofs.fill.Tie as tie
@@ -25,7 +25,7 @@ cast-counts : tie.Need-cast-counts Inv-loop μ-loop
 cast-counts c = search needs
 
 slice-write-counts : tie.Need-slice-write-counts Inv-loop μ-loop
-slice-write-counts c = omega (arith, c .before .before .loop .inv .sized)
+slice-write-counts c = omega (arith, fill-length (c .before .before .loop .inv))
 
 add-v : tie.Need-add-v Inv-loop μ-loop
 add-v c = omega arith
@@ -37,7 +37,7 @@ loop-again : tie.Need-loop-again Inv-loop μ-loop
 loop-again c = fill-next (c .before .before .loop .inv) (omega arith) (c .references-at .ensures .0)
 
 same-length : tie.Need-same-length Inv-loop μ-loop
-same-length c = omega (arith, c .before .loop .inv .sized)
+same-length c = omega (arith, fill-length (c .before .loop .inv))
 
 returns : tie.Need-returns Inv-loop μ-loop
 returns c = fill-end (c .before .loop .inv) (omega arith)

@@ -3,7 +3,6 @@
 use mathlib.Core.Path.{_≡_, refl, sym, ap, ap₂, _∙_}
 use mathlib.Core.List.{List}
 use Prim.Native.Nat.{ℕ, _-_, _≤_, _<_}
-use native.Mathlib.Nat.{le-antisymm}
 use native.Mathlib.Omega.{arith}
 use borrow.Author.Needs.{needs}
 use lib.ListN.{length, getD}
@@ -15,9 +14,9 @@ use Rattle.report.specs.Records.{recordsAt}
 use Rattle.state.specs.Current.{stampBy}
 use Rattle.walk.specs.Walks.{cellBytes, rowBytes, stampAt}
 use Rattle.passes.proofs.Cells.{in-eight}
-use Rattle.words.specs.Tables.{rows, replaced, wrote}
+use Rattle.words.specs.Tables.{rows, wrote}
 use Rattle.words.proofs.Buffers.{Filled, begin, lies, lent, row-room, next-row, onward, all, end, buffer-length}
-use Rattle.words.proofs.Replaced.{replaced-next, replaced-other}
+use Rattle.words.proofs.Replaced.{Replacing, replacing-begin, replacing-behind, replacing-next, replacing-end}
 use Rattle.words.proofs.Written.{partFrom}
 use Rattle.walk.proofs.refer.Statement.{statement}
 use Rattle.walk.proofs.refer.Tie as tie
@@ -27,7 +26,7 @@ abbrev Inv-loop : tie.InvT-loop
 Inv-loop file h v step versions stamps₀ out₀ m bytes₀ a₀ stamps out bytes a =
     Filled (cellBytes file v step versions stamps₀) (arrays file) out₀ a out
     × (bytes ≡ length (rows (cellBytes file v step versions stamps₀) a))
-    × (stamps ≡ replaced stamps₀ 0 (stampAt file v step stamps₀) a)
+    × Replacing stamps₀ 0 (stampAt file v step stamps₀) (arrays file) stamps a
 
 abbrev μ-loop : tie.MeasureT-loop
 μ-loop file h v step versions stamps₀ out₀ m bytes₀ a₀ stamps out bytes a = m - a
@@ -46,18 +45,13 @@ module _ (c : tie.In-loop Inv-loop μ-loop) where
   abbrev cells : ℕ → List ℕ
   cells = cellBytes (s .args .file .now) (s .args .v) (s .args .step) (s .args .versions .now) (s .args .stamps .now)
 
-  abbrev stampsAfter : ℕ → ℕ
-  stampsAfter = stampAt (s .args .file .now) (s .args .v) (s .args .step) (s .args .stamps .now)
-
   -- the stamp of the next array is as it was
   same : getD (c .before .loop .stamps) (c .before .loop .a) 0 ≡ getD (s .args .stamps .now) (c .before .loop .a) 0
-  same =
-      ap (λ (l : List ℕ). getD l (c .before .loop .a) 0) (c .before .loop .inv .2)
-      ∙ replaced-other (s .args .stamps .now) 0 stampsAfter 0 (c .before .loop .a) (c .before .loop .a) (λ b h e. omega arith)
+  same = replacing-behind (c .before .loop .inv .2) 0 (omega arith)
 
 loop-holds : tie.Need-loop-holds Inv-loop μ-loop
-unfolding rowBytes rows replaced
-loop-holds c = let s = c .before .before in (begin _ _ _ (s .pre .1 .1 .1 .1), refl, refl)
+unfolding rowBytes rows
+loop-holds c = let s = c .before .before in (begin _ _ _ (s .pre .1 .1 .1 .1), refl, replacing-begin _ _ _ _)
 
 at-requires : tie.Need-at-requires Inv-loop μ-loop
 at-requires c κs = (s c .pre .0 .heads, (s c .pre .1 .0 .0, in-a c))
@@ -139,7 +133,7 @@ loop-again c =
     let put = c .before .before .before .before .put .ensures in (
       next-row (l .inv .0) (l .inv .1) (in-a t) (put .1 ∙ ap (wrote (partFrom (l .out) (l .bytes))) (bytes-are q)),
       onward (l .inv .0) (l .inv .1) (put .0 ∙ ap length (bytes-are q)),
-      replaced-next (s .args .stamps .now) 0 (stampsAfter t) (l .a) (l .inv .2) (omega arith)
+      replacing-next (l .inv .2) (in-a t) (omega arith)
           (c .stamp-after .ensures ∙ ap₂ (λ (x : Action) (stamp : ℕ). stampBy x (s .args .step) stamp) (event-is q) (same t)),
     )
 
@@ -155,7 +149,7 @@ returns c =
     record {
       length-is = all (l .inv .0) (l .inv .1) over;
       out-is = end (l .inv .0) over;
-      stamps-are = l .inv .2 ∙ ap (replaced (s .args .stamps .now) 0 _) (le-antisymm (l .inv .0 .within) over);
+      stamps-are = replacing-end (l .inv .2) over;
     }
 
 pub refer-spec : {M : Type 1} → statement M

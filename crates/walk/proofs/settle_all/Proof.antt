@@ -1,16 +1,15 @@
 -- `walk::settle_all` meets its contract: one array after the other.
 -- Assumes nothing.
-use mathlib.Core.Path.{_≡_, refl, sym, ap, subst, _∙_}
+use mathlib.Core.Path.{_≡_, sym, ap, subst, _∙_}
 use mathlib.Core.List.{List}
-use Prim.Native.Nat.{ℕ, _-_, _≤_}
+use Prim.Native.Nat.{ℕ, _-_}
 use native.Mathlib.Omega.{arith}
 use lib.ListN.{getD}
 use Rattle.report.specs.Bytes.{stateOf}
 use Rattle.state.specs.Current.{settled}
 use Rattle.state.specs.States.{Current}
 use Rattle.state.specs.declared.State.{State}
-use Rattle.words.specs.Tables.{replaced}
-use Rattle.words.proofs.Replaced.{replaced-next, replaced-other}
+use Rattle.words.proofs.Replaced.{Replacing, replacing-begin, replacing-behind, replacing-next, replacing-end}
 use Rattle.walk.proofs.settle_all.Statement.{statement}
 use Rattle.walk.proofs.settle_all.Tie as tie
 
@@ -19,18 +18,17 @@ abbrev settledAt : List ℕ → List State → ℕ → State
 settledAt stamps states b = settled (getD stamps b 0) (stateOf states b)
 
 abbrev Inv-loop : tie.InvT-loop
-Inv-loop m stamps new₀ a₀ new a = (a ≤ m) × (new ≡ replaced new₀ 0 (settledAt stamps new₀) a)
+Inv-loop m stamps new₀ a₀ new a = Replacing new₀ 0 (settledAt stamps new₀) m new a
 
 abbrev μ-loop : tie.MeasureT-loop
 μ-loop m stamps new₀ a₀ new a = m - a
 
 -- the state that comes next is as it was
 same : (c : tie.At-loop Inv-loop μ-loop) → stateOf (c .loop .new) (c .loop .a) ≡ stateOf (c .before .args .states) (c .loop .a)
-same c = ap (λ (l : List State). stateOf l (c .loop .a)) (c .loop .inv .1) ∙ replaced-other (c .before .args .states) 0 (settledAt (c .before .args .t3) (c .before .args .states)) _ (c .loop .a) (c .loop .a) (λ b h e. omega arith)
+same c = replacing-behind (c .loop .inv) _ (omega arith)
 
 loop-holds : tie.Need-loop-holds Inv-loop μ-loop
-unfolding replaced
-loop-holds c = (omega arith, refl)
+loop-holds c = replacing-begin _ _ _ _
 
 mul-settled : tie.Need-mul-settled Inv-loop μ-loop
 mul-settled c = omega (arith, c .before .before .pre .0)
@@ -62,15 +60,10 @@ loop-less : tie.Need-loop-less Inv-loop μ-loop
 loop-less c = omega arith
 
 loop-again : tie.Need-loop-again Inv-loop μ-loop
-loop-again c =
-    let l = c .before .before .before in
-    (omega arith, replaced-next (l .before .args .states) 0 (settledAt (l .before .args .t3) (l .before .args .states)) (l .loop .a) (l .loop .inv .1) (omega arith) (c .settled .ensures ∙ ap (settled _) (same l)))
+loop-again c = let l = c .before .before .before in replacing-next (l .loop .inv) (omega arith) (omega arith) (c .settled .ensures ∙ ap (settled _) (same l))
 
 returns : tie.Need-returns Inv-loop μ-loop
-returns c =
-    let l = c .before in
-    let all : l .loop .a ≡ l .before .args .m = omega (arith, l .loop .inv .0) in
-    l .loop .inv .1 ∙ ap (replaced (l .before .args .states) 0 (settledAt (l .before .args .t3) (l .before .args .states))) all
+returns c = replacing-end (c .before .loop .inv) (omega arith)
 
 pub settle-all-spec : {M : Type 1} → statement M
 settle-all-spec =

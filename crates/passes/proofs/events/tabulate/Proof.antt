@@ -1,102 +1,52 @@
--- `events::tabulate` meets its contract: two tables are filled.
+-- `events::tabulate` meets its contract: all rows by the actions, then those of the entry and the exit by their events.
 -- Assumes nothing.
-use mathlib.Core.Path.{sym, ap, subst, _∙_}
-use Prim.Native.Nat.{ℕ, _-_, _*_, _<_}
-use Rattle.labels.specs.Events.{versionOf, versionSet}
-use Rattle.passes.specs.Tables.{cellEvent}
-use Rattle.labels.specs.Uses.{useGives}
-use Rattle.routine.specs.declared.action.Action.{Action}
-use Rattle.words.proofs.Filling.{Filling, fill-begin, fill-next, fill-end}
+use mathlib.Core.Path.{ap, _∙_}
+use Prim.Native.Nat.{ℕ, _-_}
 use native.Mathlib.Omega.{arith}
 use borrow.Author.Needs.{needs}
-use Rattle.passes.proofs.Cells.{cell-event, cells-table, cell-below}
+use Rattle.labels.specs.Events.{versionSet}
+use Rattle.labels.specs.Uses.{useGives}
+use Rattle.passes.proofs.Cells.{cells-events}
 use Rattle.passes.proofs.events.tabulate.Statement.{statement}
 use Rattle.passes.proofs.events.tabulate.Tie as tie
 
-abbrev Inv-loop : tie.InvT-loop
-Inv-loop file h versions₀ uses₀ n i₀ versions uses i =
-    Filling (λ i. versionSet (cellEvent file i)) n versions₀ versions i × Filling (λ i. useGives (cellEvent file i)) n uses₀ uses i
+action-rows-requires : tie.Need-action-rows-requires
+action-rows-requires c κs = search needs
 
-abbrev μ-loop : tie.MeasureT-loop
-μ-loop file h versions₀ uses₀ n i₀ versions uses i = n - i
+event-rows-requires : tie.Need-event-rows-requires
+event-rows-requires c κs =
+    let a = c .before .before .before .before .before .before .action-rows .ensures in
+    let p = c .before .before .before .before .before .before .before .before .before .before .before .before .pre .0 in
+    (p, (omega (arith, p .well .laid .limits .two-vertices), (a .0 .size, a .1 .size)))
 
-mul-n : tie.Need-mul-n Inv-loop μ-loop
-mul-n c = omega arith
+sub-event-rows : tie.Need-sub-event-rows
+sub-event-rows c = let p = c .before .before .before .before .before .before .before .before .before .before .before .before .before .before .before .before .before .before .pre .0 in omega (arith, p .heads .vertices-are, p .well .laid .limits .two-vertices)
 
-loop-holds : tie.Need-loop-holds Inv-loop μ-loop
-loop-holds c =
-    let s = c .before .before .before .before in
-    let all = ap (λ (n : ℕ). 8 * n) (sym (s .pre .0 .heads .vertices-are)) in
-    (fill-begin _ (s .pre .1 .0 ∙ all), fill-begin _ (s .pre .1 .1 ∙ all))
+event-rows-requires-2 : tie.Need-event-rows-requires-2
+event-rows-requires-2 c κs =
+    let e = c .before .before .before .before .before .before .before .event-rows .kept in
+    let a = c .before .before .before .before .before .before .before .before .before .before .before .before .before .before .action-rows .ensures in
+    let p = c .before .before .before .before .before .before .before .before .before .before .before .before .before .before .before .before .before .before .before .before .pre .0 in
+    (p, (omega (arith, p .heads .vertices-are, p .well .laid .limits .two-vertices), (e .1 .1 .1 .0 ∙ a .0 .size, e .1 .1 .1 .1 .0 ∙ a .1 .size)))
 
-cell-requires : tie.Need-cell-requires Inv-loop μ-loop
-cell-requires c κs = let s = c .before .before .before .before .before .before in (s .pre .0, omega (arith, s .pre .0 .heads .vertices-are))
+same-length : tie.Need-same-length
+same-length c = c .before .before .before .before .event-rows2 .kept .1 .1 .1 .0 ∙ c .before .before .before .before .before .before .before .before .before .before .before .before .event-rows .kept .1 .1 .1 .0 ∙ c .before .before .before .before .before .before .before .before .before .before .before .before .before .before .before .before .before .before .before .action-rows .kept .1 .1 .0
 
-version-set-requires : tie.Need-version-set-requires Inv-loop μ-loop
-version-set-requires c κs = subst (λ (x : Action). versionOf x < 16) (sym (c .cell .ensures)) (cell-below (c .before .before .before .before .before .before .before .pre .0 .well) _)
+same-length-2 : tie.Need-same-length-2
+same-length-2 c = c .before .before .before .before .event-rows2 .kept .1 .1 .1 .1 .0 ∙ c .before .before .before .before .before .before .before .before .before .before .before .before .event-rows .kept .1 .1 .1 .1 .0 ∙ c .before .before .before .before .before .before .before .before .before .before .before .before .before .before .before .before .before .before .before .action-rows .kept .1 .1 .1 .0
 
-mul-versions : tie.Need-mul-versions Inv-loop μ-loop
-mul-versions c = omega arith
-
-slice-write-versions : tie.Need-slice-write-versions Inv-loop μ-loop
-slice-write-versions c = omega arith
-
-gives-of-requires : tie.Need-gives-of-requires Inv-loop μ-loop
-gives-of-requires c κs = search needs
-
-mul-uses : tie.Need-mul-uses Inv-loop μ-loop
-mul-uses c = omega arith
-
-slice-write-uses : tie.Need-slice-write-uses Inv-loop μ-loop
-slice-write-uses c = omega arith
-
-add-i : tie.Need-add-i Inv-loop μ-loop
-add-i c = omega arith
-
-loop-less : tie.Need-loop-less Inv-loop μ-loop
-loop-less c = omega arith
-
-loop-again : tie.Need-loop-again Inv-loop μ-loop
-loop-again c =
-    let l = c .before .before .before .before in (
-      fill-next (l .loop .inv .0) (c .before .before .before .loop-test .taken) (c .before .version-set .ensures ∙ ap versionSet (c .before .before .cell .ensures)),
-      fill-next (l .loop .inv .1) (c .before .before .before .loop-test .taken) (c .gives-of .ensures ∙ ap useGives (c .before .before .cell .ensures)),
-    )
-
-same-length : tie.Need-same-length Inv-loop μ-loop
-same-length c = omega arith
-
-same-length-2 : tie.Need-same-length-2 Inv-loop μ-loop
-same-length-2 c = omega arith
-
-returns : tie.Need-returns Inv-loop μ-loop
+returns : tie.Need-returns
 returns c =
-    let l = c .before .loop in
-    let s = c .before .before .before .before .before .before in
+    let s = c .before .before .before .before .before .before .before .before .before .before .before .before .before .before .before .before .before .before .before .before .before .before .before .before .before in
+    let file = s .args .file .now in
     let well = s .pre .0 .well in
-    let all = ap (λ (n : ℕ). 8 * n) (s .pre .0 .heads .vertices-are) in (
-      cells-table well (λ i. versionSet (cellEvent (s .args .file .now) i)) all (fill-end (l .inv .0) (c .loop-test .left)) (λ a v in-a in-v. ap versionSet (cell-event well v in-a)),
-      cells-table well (λ i. useGives (cellEvent (s .args .file .now) i)) all (fill-end (l .inv .1) (c .loop-test .left)) (λ a v in-a in-v. ap useGives (cell-event well v in-a)),
+    let last = ap (λ (n : ℕ). n - 1) (s .pre .0 .heads .vertices-are) in
+    let a = c .before .before .before .before .before .before .before .before .before .before .before .before .before .before .before .before .before .before .before .action-rows .ensures in
+    let e = c .before .before .before .before .before .before .before .before .before .before .before .before .event-rows .ensures in
+    let x = c .before .before .before .before .event-rows2 .ensures in (
+      cells-events well versionSet (a .0) (e .0) last (x .0),
+      cells-events well useGives (a .1) (e .1) last (x .1),
     )
 
 pub tabulate-spec : {M : Type 1} → statement M
-tabulate-spec =
-    tie.close
-    (tie.spec
-    Inv-loop
-    μ-loop
-    mul-n
-    loop-holds
-    cell-requires
-    version-set-requires
-    mul-versions
-    slice-write-versions
-    gives-of-requires
-    mul-uses
-    slice-write-uses
-    add-i
-    loop-less
-    loop-again
-    same-length
-    same-length-2
-    returns)
+tabulate-spec = tie.close (tie.spec action-rows-requires event-rows-requires sub-event-rows event-rows-requires-2 same-length same-length-2 returns)

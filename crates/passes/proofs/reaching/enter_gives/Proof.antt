@@ -1,32 +1,30 @@
 -- `enter_gives` meets its contract: a row is replaced.
 -- Assumes nothing.
-use mathlib.Core.Path.{_≡_, refl, sym, ap, ap₂, subst, _∙_}
+use mathlib.Core.Path.{sym, ap, ap₂, subst, _∙_}
 use mathlib.Core.Bool.{Bool, not, _||_, cond}
-use Prim.Native.Nat.{ℕ, _-_, _*_, _≤_, _<_, _^_}
+use Prim.Native.Nat.{ℕ, _-_, _*_, _<_, _^_}
 use native.Mathlib.Omega.{arith}
 use borrow.Author.Needs.{needs}
-use lib.ListN.{length, getD, length-set}
+use lib.ListN.{getD}
 use Rattle.routine.specs.Arrays.{kind, initial, isInOrInout}
 use Rattle.labels.specs.Letters.{useOfByte}
 use Rattle.labels.specs.Uses.{isN}
 use Rattle.routine.specs.Layout.{arrays, entry}
 use Rattle.routine.specs.declared.array.ArrayRecord.{ArrayRecord}
-use Rattle.words.specs.Tables.{replaced, withRow}
-use Rattle.words.proofs.Replaced.{replaced-next}
+use Rattle.words.proofs.Replaced.{Replacing, replacing-begin, replacing-next, replacing-end}
 use Rattle.labels.proofs.Rules.Proper.{proper}
 use Rattle.passes.proofs.reaching.enter_gives.Statement.{statement}
 use Rattle.passes.proofs.reaching.enter_gives.Tie as tie
 
 abbrev Inv-loop : tie.InvT-loop
 Inv-loop file letters gives₀ m a₀ gives a =
-    (a ≤ arrays file) × (length gives ≡ length gives₀) × (gives ≡ withRow gives₀ entry (λ b. cond (not (isN (useOfByte (getD letters b 0))) || isInOrInout (kind file b)) (2 ^ initial file b) 0) a)
+    Replacing gives₀ (8 * entry) (λ b. cond (not (isN (useOfByte (getD letters b 0))) || isInOrInout (kind file b)) (2 ^ initial file b) 0) (arrays file) gives a
 
 abbrev μ-loop : tie.MeasureT-loop
 μ-loop file letters gives₀ m a₀ gives a = m - a
 
 loop-holds : tie.Need-loop-holds Inv-loop μ-loop
-unfolding replaced
-loop-holds c = (omega arith, refl, refl)
+loop-holds c = replacing-begin _ _ _ _
 
 record-of-requires : tie.Need-record-of-requires Inv-loop μ-loop
 record-of-requires c κs = let s = c .before .before .before .before .before in (s .pre .0 .well .laid, omega (arith, s .pre .0 .heads .arrays-are))
@@ -64,29 +62,18 @@ loop-again : tie.Need-loop-again Inv-loop μ-loop
 loop-again c =
     let l = c .before .before .before .before .before .before .before in
     let s = l .before .before .before .before in
-    let file = s .args .file .now in
-    let letters = s .args .letters .now in
-    let r = c .before .before .before .before .before .record-of .ensures in (
-      omega (arith, s .pre .0 .heads .arrays-are),
-      length-set (l .loop .gives) _ _ ∙ l .loop .inv .1,
-      replaced-next (s .args .gives .now) (8 * entry) (λ b. cond (not (isN (useOfByte (getD letters b 0))) || isInOrInout (kind file b)) (2 ^ initial file b) 0) (l .loop .a) (l .loop .inv .2) (omega arith)
-          (c .set-if .ensures
-          ∙ ap₂ (λ (b : Bool) (x : ℕ). cond b x 0)
-          (ap₂ _||_ (c .before .before .before .leaves .ensures) (c .before .before .is-in-or-inout .ensures ∙ ap (λ (q : ArrayRecord). isInOrInout (q .kind)) r))
-          (c .before .single .ensures ∙ ap (λ (q : ArrayRecord). 2 ^ q .initial) r)),
-    )
+    let r = c .before .before .before .before .before .record-of .ensures in
+    replacing-next (l .loop .inv) (omega (arith, s .pre .0 .heads .arrays-are)) (omega arith)
+    (c .set-if .ensures
+    ∙ ap₂ (λ (b : Bool) (x : ℕ). cond b x 0)
+    (ap₂ _||_ (c .before .before .before .leaves .ensures) (c .before .before .is-in-or-inout .ensures ∙ ap (λ (q : ArrayRecord). isInOrInout (q .kind)) r))
+    (c .before .single .ensures ∙ ap (λ (q : ArrayRecord). 2 ^ q .initial) r))
 
 same-length : tie.Need-same-length Inv-loop μ-loop
 same-length c = omega arith
 
 returns : tie.Need-returns Inv-loop μ-loop
-returns c =
-    let l = c .before .loop in
-    let s = c .before .before .before .before .before in
-    let file = s .args .file .now in
-    let letters = s .args .letters .now in
-    let all : l .a ≡ arrays file = omega (arith, l .inv .0, s .pre .0 .heads .arrays-are) in
-    l .inv .2 ∙ ap (withRow (s .args .gives .now) entry (λ b. cond (not (isN (useOfByte (getD letters b 0))) || isInOrInout (kind file b)) (2 ^ initial file b) 0)) all
+returns c = replacing-end (c .before .loop .inv) (omega (arith, c .before .before .before .before .before .pre .0 .heads .arrays-are))
 
 pub enter-gives-spec : {M : Type 1} → statement M
 enter-gives-spec =

@@ -1,23 +1,20 @@
 -- `uses::leave` meets its contract: a row is replaced.
 -- Assumes nothing.
-use mathlib.Core.Path.{_≡_, refl, ap, _∙_}
-use Prim.Native.Nat.{_-_, _*_, _≤_}
+use mathlib.Core.Path.{ap, _∙_}
+use Prim.Native.Nat.{_-_, _*_}
 use native.Mathlib.Omega.{arith}
 use borrow.Author.Needs.{needs}
-use lib.ListN.{length, length-set}
 use Rattle.routine.specs.Arrays.{kind}
 use Rattle.labels.specs.Letters.{letterByte}
 use Rattle.labels.specs.Uses.{exitUse}
 use Rattle.routine.specs.Layout.{arrays, exit}
 use Rattle.routine.specs.declared.array.ArrayRecord.{ArrayRecord}
-use Rattle.words.specs.Tables.{replaced, withRow}
-use Rattle.words.proofs.Replaced.{replaced-next}
+use Rattle.words.proofs.Replaced.{Replacing, replacing-begin, replacing-next, replacing-end}
 use Rattle.passes.proofs.uses.leave.Statement.{statement}
 use Rattle.passes.proofs.uses.leave.Tie as tie
 
 abbrev Inv-loop : tie.InvT-loop
-Inv-loop file letters₀ m row a₀ letters a =
-    (a ≤ arrays file) × (length letters ≡ length letters₀) × (letters ≡ withRow letters₀ (exit file) (λ b. letterByte (exitUse (kind file b))) a)
+Inv-loop file letters₀ m row a₀ letters a = Replacing letters₀ (8 * exit file) (λ b. letterByte (exitUse (kind file b))) (arrays file) letters a
 
 abbrev μ-loop : tie.MeasureT-loop
 μ-loop file letters₀ m row a₀ letters a = m - a
@@ -29,8 +26,7 @@ mul-row : tie.Need-mul-row Inv-loop μ-loop
 mul-row c = let s = c .before .before .before in omega (arith, s .pre .0 .heads .vertices-are, s .pre .0 .heads .arrays-are, s .pre .1, s .pre .0 .well .laid .limits .few-arrays, s .pre .0 .well .laid .limits .two-vertices)
 
 loop-holds : tie.Need-loop-holds Inv-loop μ-loop
-unfolding replaced
-loop-holds c = (omega arith, refl, refl)
+loop-holds c = replacing-begin _ _ _ _
 
 record-of-requires : tie.Need-record-of-requires Inv-loop μ-loop
 record-of-requires c κs = let s = c .before .before .before .before .before in (s .pre .0 .well .laid, omega (arith, s .pre .0 .heads .arrays-are))
@@ -56,26 +52,15 @@ loop-less c = omega arith
 loop-again : tie.Need-loop-again Inv-loop μ-loop
 loop-again c =
     let l = c .before .before .before .before in
-    let s = l .before .before .before .before in
-    let is = s .pre .0 .heads in
-    let file = s .args .file .now in (
-      omega (arith, is .arrays-are),
-      length-set (l .loop .letters) _ _ ∙ l .loop .inv .1,
-      replaced-next (s .args .letters .now) (8 * exit file) (λ b. letterByte (exitUse (kind file b))) (l .loop .a) (l .loop .inv .2)
-          (omega (arith, is .vertices-are))
-          (c .letter .ensures ∙ ap letterByte (c .before .at-exit .ensures ∙ ap (λ (r : ArrayRecord). exitUse (r .kind)) (c .before .before .record-of .ensures))),
-    )
+    let is = l .before .before .before .before .pre .0 .heads in
+    replacing-next (l .loop .inv) (omega (arith, is .arrays-are)) (omega (arith, is .vertices-are))
+    (c .letter .ensures ∙ ap letterByte (c .before .at-exit .ensures ∙ ap (λ (r : ArrayRecord). exitUse (r .kind)) (c .before .before .record-of .ensures)))
 
 same-length : tie.Need-same-length Inv-loop μ-loop
 same-length c = omega arith
 
 returns : tie.Need-returns Inv-loop μ-loop
-returns c =
-    let l = c .before .loop in
-    let s = c .before .before .before .before .before in
-    let file = s .args .file .now in
-    let all : l .a ≡ arrays file = omega (arith, l .inv .0, s .pre .0 .heads .arrays-are) in
-    l .inv .2 ∙ ap (withRow (s .args .letters .now) (exit file) (λ b. letterByte (exitUse (kind file b)))) all
+returns c = replacing-end (c .before .loop .inv) (omega (arith, c .before .before .before .before .before .pre .0 .heads .arrays-are))
 
 pub leave-spec : {M : Type 1} → statement M
 leave-spec =

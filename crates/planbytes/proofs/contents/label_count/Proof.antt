@@ -1,13 +1,13 @@
 -- `contents::label_count` meets its contract. The invariant: `count` is the number of labels of the vertices before v, and the index of the first label
 -- is filled in for each of these. The measure is what is left. Assumes nothing.
-use mathlib.Core.Path.{_≡_, refl, sym, ap, _∙_}
+use mathlib.Core.Path.{_≡_, refl, ap, _∙_}
 use Prim.Native.Nat.{_*_, _-_, _≤_}
 use native.Mathlib.Omega.{arith}
 use lib.ListN.{length, set, length-set}
 use Rattle.planbytes.specs.Plan.{labelsBefore, labelCount}
 use Rattle.planbytes.proofs.Sizes.{before-more, before-few, firsts-done}
 use Rattle.routine.specs.Layout.{vertices}
-use Rattle.words.proofs.Filling.{Filling, fill-begin, fill-next}
+use Rattle.words.proofs.Filling.{Filling, fill-begin, fill-length, fill-next}
 use Rattle.planbytes.proofs.contents.label_count.Statement.{statement}
 use Rattle.planbytes.proofs.contents.label_count.Tie as tie
 
@@ -37,7 +37,7 @@ mul-firsts c = omega arith
 slice-write-firsts : tie.Need-slice-write-firsts Inv-loop μ-loop
 slice-write-firsts c =
     let s = c .before .before .before .before .before in
-    omega (arith, c .before .loop .inv .2 .sized, c .loop-test .taken, s .pre .0 .heads .vertices-are)
+    omega (arith, fill-length (c .before .loop .inv .2), c .loop-test .taken, s .pre .0 .heads .vertices-are)
 
 labels-at-requires : tie.Need-labels-at-requires Inv-loop μ-loop
 labels-at-requires c κs =
@@ -74,14 +74,14 @@ mul-firsts-2 c = omega arith
 slice-write-firsts-2 : tie.Need-slice-write-firsts-2 Inv-loop μ-loop
 slice-write-firsts-2 c =
     let s = c .before .before .before .before .before in
-    omega (arith, c .before .loop .inv .2 .sized, s .pre .0 .heads .vertices-are, s .pre .0 .heads .laid .limits .two-vertices)
+    omega (arith, fill-length (c .before .loop .inv .2), s .pre .0 .heads .vertices-are, s .pre .0 .heads .laid .limits .two-vertices)
 
 same-length : tie.Need-same-length Inv-loop μ-loop
 same-length c =
     let s = c .before .before .before .before .before in
     let l = c .before .loop in
     let t = l .inv .2 in
-    let e : length (set (l .firsts) (s .args .h .vertices) (l .count)) ≡ length (s .args .firsts .now) = simp length-set (t .sized ∙ sym (t .whole)) in e
+    let e : length (set (l .firsts) (s .args .h .vertices) (l .count)) ≡ length (s .args .firsts .now) = simp length-set (t .replacing .sized) in e
 
 returns : tie.Need-returns Inv-loop μ-loop
 unfolding labelCount
