@@ -2,7 +2,7 @@
 -- Assumes nothing.
 use mathlib.Core.Path.{_≡_, refl, sym, ap, ap₂, subst, _∙_}
 use mathlib.Core.Bool.{Bool, true, false, not}
-use mathlib.Core.List.{List}
+use mathlib.Core.List.{List, [], _∷_}
 use Prim.Native.Nat.{ℕ, zero, suc, _+_, _-_, _*_, _/_, _%_, _≤_, _<_, zero-le}
 use native.Mathlib.Nat.{le-refl, le-trans, le-antisymm, le-of-lt}
 use native.Mathlib.Decide.{le-ind, decLt, ℕ-discrete}
@@ -15,12 +15,13 @@ use lib.ListN.{length, getD, set, replicate, length-replicate, length-set}
 use lib.Seq.{getD-set-same, getD-set-other, ext-getD}
 use Rattle.sets.specs.Sets.{bit, minus}
 use Rattle.sets.proofs.Laws.{bit-none, bit-minus, or-none}
-use Rattle.words.specs.Tables.{replaced}
-use Rattle.words.proofs.Replaced.{replaced-length, replaced-other, replaced-at, replaced-still}
-use Rattle.words.proofs.Tables.{table-length, table-at, zeros-at}
+use Rattle.words.specs.Tables.{table, replaced, withRow}
+use Rattle.words.proofs.Replaced.{replaced-length, replaced-other, replaced-at, replaced-still, replaced-same}
+use Rattle.words.proofs.Tables.{table-length, table-at, rows-same, zeros-at}
+use Rattle.flow.specs.declared.Carry.{Carry}
 use Rattle.flow.specs.Order.{Order}
 use Rattle.flow.specs.Paths.{edgeCount}
-use Rattle.flow.specs.Solver.{near, far, turn, handed, relaxed, swept, rounds, solution, column, handedRow, grown, relaxedRow, roundsRow, Ends, Tables, noted, inAll, Altered, Advanced, Going, Solved}
+use Rattle.flow.specs.Solver.{near, far, turn, handed, relaxed, swept, rounds, solution, column, handedRow, grown, relaxedRow, roundsRow, Ends, rowOf, Recent, Tables, noted, inAll, Altered, Advanced, Going, Solved}
 use Rattle.flow.proofs.Rounds.{turn-lt, near-lt, far-lt, swept-keeps, rounds-keeps, rounds-both}
 use Rattle.flow.proofs.Exact.{or-le, or-subset, after, ends-alike}
 
@@ -35,6 +36,51 @@ grown-length s v row = replaced-length s (8 * v) (grows s v row)
 
 pub grown-at : (s : List ℕ) (v : ℕ) (row : List ℕ) (m a : ℕ) → a < m → 8 * v + m ≤ length s → getD (grown s v row m) (8 * v + a) 0 ≡ grows s v row a
 grown-at s v row m a = replaced-at s (8 * v) (grows s v row) 0 m a refl
+
+-- ---- by the rows at hand
+
+-- none is, before the first edge
+pub recent-none : (sets : List ℕ) {r : Carry} → r .vertex ≡ length sets → Recent sets r
+recent-none sets e = record { row-is = λ h. absurd (omega (arith, e)) }
+
+-- and the note does not matter
+pub recent-as : {sets note : List ℕ} {r q : Carry} → q ≡ record { vertex = r .vertex; row = r .row; note = note } → Recent sets r → Recent sets q
+recent-as {sets} e h = subst (Recent sets) (sym e) (record { row-is = h .row-is })
+
+module _ (sets : List ℕ) (v : ℕ) {held : List ℕ} (is : held ≡ rowOf sets v) where
+  held-at : (a : ℕ) → a < 8 → getD held a 0 ≡ getD sets (8 * v + a) 0
+  held-at a l = ap (λ (r : List ℕ). getD r a 0) is ∙ table-at (λ b. getD sets (8 * v + b) 0) 8 a l
+
+  -- what a vertex hands on
+  pub handed-by : (gives passes : List ℕ)
+      → table (λ a. bitOr (getD gives (8 * v + a) 0) (bitAnd (getD held a 0) (getD passes (8 * v + a) 0))) 8 ≡ handedRow gives passes sets v
+  handed-by gives passes =
+      rows-same _ (λ a. handed gives passes sets (8 * v + a) ∷ []) 8
+      (λ a l. ap (λ (x : ℕ). bitOr (getD gives (8 * v + a) 0) (bitAnd x (getD passes (8 * v + a) 0)) ∷ []) (held-at a l))
+
+  -- what is noted of a row that it was brought
+  pub noted-by : (note row : List ℕ) → table (λ a. bitOr (getD note a 0) (minus (getD row a 0) (getD held a 0))) 8 ≡ noted note sets v row
+  noted-by note row =
+      rows-same _ (λ a. bitOr (getD note a 0) (minus (getD row a 0) (getD sets (8 * v + a) 0)) ∷ []) 8
+      (λ a l. ap (λ (x : ℕ). bitOr (getD note a 0) (minus (getD row a 0) x) ∷ []) (held-at a l))
+
+  module _ (row : List ℕ) {new : List ℕ} (joined : new ≡ table (λ a. bitOr (getD held a 0) (getD row a 0)) 8) where
+    new-at : (a : ℕ) → a < 8 → getD new a 0 ≡ grows sets v row a
+    new-at a l =
+        ap (λ (r : List ℕ). getD r a 0) joined ∙ table-at (λ b. bitOr (getD held b 0) (getD row b 0)) 8 a l
+        ∙ ap (λ (x : ℕ). bitOr x (getD row a 0)) (held-at a l)
+
+    -- the sets once it has grown
+    pub grown-by : withRow sets v (λ a. getD new a 0) 8 ≡ grown sets v row 8
+    grown-by = replaced-same sets (8 * v) (λ a. getD new a 0) (grows sets v row) 8 new-at
+
+    pub recent-by : {after note : List ℕ} → 8 * v + 8 ≤ length sets → after ≡ grown sets v row 8 → Recent after (record { vertex = v; row = new; note = note })
+    recent-by {after} fits e = record {
+      row-is = λ _. joined
+          ∙ rows-same _ (λ a. getD after (8 * v + a) 0 ∷ []) 8
+          (λ a l. ap (λ (x : ℕ). x ∷ [])
+          (ap (λ (x : ℕ). bitOr x (getD row a 0)) (held-at a l) ∙ sym (grown-at sets v row 8 a l fits) ∙ ap (λ (q : List ℕ). getD q (8 * v + a) 0) (sym e)));
+    }
 
 -- each element is at most the other list's
 abbrev pub Below : List ℕ → List ℕ → Type 0
@@ -171,12 +217,15 @@ module _ (es : List ℕ) (along : Bool) (gives passes : List ℕ) where
   pub record Sweeping (order old : List ℕ) (j : ℕ) (sets note : List ℕ) : Type 0 where
     pub is : sets ≡ swept step order along old j
     pub within : j ≤ length order
-    pub eight : length note ≡ 8
     pub notes : Notes note old sets
 
-  pub sweeping-none : (order s : List ℕ) → Sweeping order s 0 s (replicate 8 0)
+  pub sweeping-none : (order s : List ℕ) {r : Carry} → r ≡ record { vertex = length s; row = replicate 8 0; note = replicate 8 0 }
+      → Sweeping order s 0 s (r .note) × Recent s r
   unfolding swept
-  sweeping-none order s = record { is = refl; within = zero-le; eight = refl; notes = notes-none s }
+  sweeping-none order s e = (
+    record { is = refl; within = zero-le; notes = subst (λ (r : Carry). Notes (r .note) s s) (sym e) (notes-none s) },
+    recent-none s (ap (λ (r : Carry). r .vertex) e),
+  )
 
   module _ {order : List ℕ} (ord : Order (edgeCount es) order) where
     pub swept-length : (s : List ℕ) (j : ℕ) → j ≤ length order → length (swept step order along s j) ≡ length s
@@ -211,7 +260,6 @@ module _ (es : List ℕ) (along : Bool) (gives passes : List ℕ) where
           record {
             is = made ∙ ap (λ (q : List ℕ). step q i) (w .is) ∙ ap (swept step order along s) (sym (add-one j));
             within = omega arith;
-            eight = ap length now ∙ table-length (λ a. bitOr (getD note a 0) (minus (getD row a 0) (getD t (8 * near es along i + a) 0))) 8;
             notes =
                 subst (λ (q : List ℕ). Notes new s q) (sym made)
                 (subst (λ (q : List ℕ). Notes q s (step t i)) (sym now)

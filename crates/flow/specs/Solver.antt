@@ -12,6 +12,7 @@ use lib.ListN.{length, getD, set, replicate}
 use Rattle.sets.specs.Sets.{has, minus}
 use Rattle.words.specs.Tables.{table, withRow}
 use Rattle.flow.specs.Order.{natural}
+use Rattle.flow.specs.declared.Carry.{Carry}
 use Rattle.flow.specs.Paths.{edgeCount, edgeFrom, edgeTo, Path, Finds}
 
 -- ---- by paths: what a set holds
@@ -116,6 +117,14 @@ pub record Tables (es gives passes sets : List ℕ) : Type 0 where
   pub whole : length sets ≡ 8 * rowCount sets
   pub gives-all : length gives ≡ length sets
   pub passes-all : length passes ≡ length sets
+
+-- the sets of vertex v
+abbrev pub rowOf : List ℕ → ℕ → List ℕ
+rowOf sets v = table (λ a. getD sets (8 * v + a) 0) 8
+
+-- the row beside the sets is that of its vertex, if it is one
+pub record Recent (sets : List ℕ) (r : Carry) : Type 0 where
+  pub row-is : 8 * r .vertex + 8 ≤ length sets → r .row ≡ rowOf sets (r .vertex)
 
 -- a note of what rows were given, in each column, joined with what a row has that the sets of vertex v have not
 abbrev pub noted : List ℕ → List ℕ → ℕ → List ℕ → List ℕ

@@ -4,11 +4,14 @@
 ghost use mathlib.Core.Path.{_≡_};
 ghost use mathlib.Core.Bool.{true, false, not};
 ghost use Prim.Native.Nat.{_+_, _*_, _≤_, _<_};
+ghost use lib.Bits.{bitAnd, bitOr};
 ghost use lib.Dec.{eqb};
-ghost use lib.ListN.{length, replicate};
+ghost use lib.ListN.{length, getD, replicate};
 ghost use Rattle.flow.specs.Order.{Order};
 ghost use Rattle.flow.specs.Paths.{edgeCount};
-ghost use Rattle.flow.specs.Solver.{near, far, handedRow, grown, relaxedRow, swept, noted, inAll, Tables, Advanced};
+ghost use Rattle.flow.specs.Solver.{near, far, handedRow, relaxedRow, swept, rowOf, noted, inAll, Recent, Tables, Advanced};
+ghost use Rattle.sets.specs.Sets.{minus};
+ghost use Rattle.words.specs.Tables.{table, withRow};
 
 // Columns of a table.
 pub const COLUMNS: usize = 8;
@@ -44,44 +47,121 @@ pub fn far_end(edges: &[u8], along: bool, i: usize) -> usize
     words::at(edges, 4 * i)
 }
 
-// What vertex u hands on in each column: what it gives, and what it holds and passes.
-fn handed(gives: &[u16], passes: &[u16], sets: &[u16], u: usize) -> [u16; COLUMNS]
-    requires { ⌜ 8 * u + 8 ≤ length (now gives) ⌝ }
-    requires { ⌜ 8 * u + 8 ≤ length (now passes) ⌝ }
-    requires { ⌜ 8 * u + 8 ≤ length (now sets) ⌝ }
-    ensures { λ r. ⌜ r ≡ handedRow (now (gives .entry)) (now (passes .entry)) (now (sets .entry)) u ⌝ }
+// What the edges that were taken leave beside the sets: the vertex whose sets grew last, these sets, and a note of what was added. A set
+// that was just written takes long to be read again, and the next edge mostly asks for it.
+pub struct Carry {
+    pub vertex: usize,
+    pub row: [u16; COLUMNS],
+    pub note: [u16; COLUMNS],
+}
+
+// Before the first edge: no vertex of so many sets, and nothing noted.
+pub fn untouched(sets: usize) -> Carry
+    ensures { λ r. ⌜ r ≡ record { vertex = sets; row = replicate 8 0; note = replicate 8 0 } ⌝ }
+{
+    Carry {
+        vertex: sets,
+        row: [0; COLUMNS],
+        note: [0; COLUMNS],
+    }
+}
+
+// The same with nothing noted.
+pub fn unnoted(last: Carry) -> Carry
+    ensures { λ r. ⌜ r ≡ record { vertex = last .vertex; row = last .row; note = replicate 8 0 } ⌝ }
+{
+    let row = last.row;
+    Carry {
+        vertex: last.vertex,
+        row,
+        note: [0; COLUMNS],
+    }
+}
+
+// The sets of vertex v.
+fn row_at(sets: &[u16], v: usize) -> [u16; COLUMNS]
+    requires { ⌜ 8 * v + 8 ≤ length (now sets) ⌝ }
+    ensures { λ r. ⌜ r ≡ rowOf (now (sets .entry)) v ⌝ }
 {
     let mut row = [0u16; COLUMNS];
     let mut a: usize = 0;
     while a < COLUMNS {
-        let at = COLUMNS * u + a;
-        row[a] = gives[at] | (sets[at] & passes[at]);
+        let at = COLUMNS * v + a;
+        row[a] = sets[at];
         a += 1;
     }
     row
 }
 
-// The sets of vertex v grow by a row. Adds to a note what they did not have.
-fn join(sets: &mut [u16], v: usize, row: [u16; COLUMNS], note: [u16; COLUMNS]) -> [u16; COLUMNS]
+// The same, where those of the last vertex are at hand.
+fn held_row(sets: &[u16], v: usize, last: Carry) -> [u16; COLUMNS]
     requires { ⌜ 8 * v + 8 ≤ length (now sets) ⌝ }
-    requires { ⌜ length note ≡ 8 ⌝ }
-    ensures { λ r. ⌜ r ≡ noted note (now (sets .entry)) v row ⌝ }
-    ensures { λ _. ⌜ now (sets .exit) ≡ grown (now (sets .entry)) v row 8 ⌝ }
+    requires { ⌜ Recent (now sets) last ⌝ }
+    ensures { λ r. ⌜ r ≡ rowOf (now (sets .entry)) v ⌝ }
 {
-    let mut noted = note;
+    if v == last.vertex {
+        return last.row;
+    }
+    row_at(sets, v)
+}
+
+// What vertex u hands on in each column, where it holds this row: what it gives, and what it holds and passes.
+fn handed(gives: &[u16], passes: &[u16], held: [u16; COLUMNS], u: usize) -> [u16; COLUMNS]
+    requires { ⌜ 8 * u + 8 ≤ length (now gives) ⌝ }
+    requires { ⌜ 8 * u + 8 ≤ length (now passes) ⌝ }
+    ensures { λ r. ⌜ r
+        ≡ table (λ a. bitOr (getD (now (gives .entry)) (8 * u + a) 0) (bitAnd (getD held a 0) (getD (now (passes .entry)) (8 * u + a) 0))) 8 ⌝ }
+{
+    let mut row = [0u16; COLUMNS];
+    let mut a: usize = 0;
+    while a < COLUMNS {
+        let at = COLUMNS * u + a;
+        row[a] = gives[at] | (held[a] & passes[at]);
+        a += 1;
+    }
+    row
+}
+
+// Two rows, joined.
+fn joined(held: [u16; COLUMNS], brought: [u16; COLUMNS]) -> [u16; COLUMNS]
+    ensures { λ r. ⌜ r ≡ table (λ a. bitOr (getD held a 0) (getD brought a 0)) 8 ⌝ }
+{
+    let mut row = [0u16; COLUMNS];
+    let mut a: usize = 0;
+    while a < COLUMNS {
+        row[a] = held[a] | brought[a];
+        a += 1;
+    }
+    row
+}
+
+// A note, joined with what a row brought that another did not hold.
+fn noted(note: [u16; COLUMNS], brought: [u16; COLUMNS], held: [u16; COLUMNS]) -> [u16; COLUMNS]
+    ensures { λ r. ⌜ r ≡ table (λ a. bitOr (getD note a 0) (minus (getD brought a 0) (getD held a 0))) 8 ⌝ }
+{
+    let mut new = [0u16; COLUMNS];
+    let mut a: usize = 0;
+    while a < COLUMNS {
+        new[a] = note[a] | sets::difference(brought[a], held[a]);
+        a += 1;
+    }
+    new
+}
+
+// Puts a row in the place of vertex v's.
+fn put(sets: &mut [u16], v: usize, row: [u16; COLUMNS])
+    requires { ⌜ 8 * v + 8 ≤ length (now sets) ⌝ }
+    ensures { λ _. ⌜ now (sets .exit) ≡ withRow (now (sets .entry)) v (λ a. getD row a 0) 8 ⌝ }
+{
     let mut a: usize = 0;
     while a < COLUMNS {
         let at = COLUMNS * v + a;
-        let held = sets[at];
-        let brought = row[a];
-        noted[a] = noted[a] | sets::difference(brought, held);
-        sets[at] = held | brought;
+        sets[at] = row[a];
         a += 1;
     }
-    noted
 }
 
-// Takes edge i: its near end's sets grow by what the far end hands on. Adds to a note what they did not have.
+// Takes edge i: its near end's sets grow by what the far end hands on. Adds to the note what they did not have.
 pub fn relax(
     edges: &[u8],
     along: bool,
@@ -89,19 +169,30 @@ pub fn relax(
     passes: &[u16],
     sets: &mut [u16],
     i: usize,
-    note: [u16; COLUMNS],
-) -> [u16; COLUMNS]
+    last: Carry,
+) -> Carry
     requires { ⌜ Tables (now edges) (now gives) (now passes) (now sets) ⌝ }
     requires { ⌜ i < edgeCount (now edges) ⌝ }
-    requires { ⌜ length note ≡ 8 ⌝ }
-    ensures { λ r. ⌜ r ≡ noted note (now (sets .entry)) (near (now (edges .entry)) along i)
+    requires { ⌜ Recent (now sets) last ⌝ }
+    ensures { λ r. ⌜ r .note ≡ noted (last .note) (now (sets .entry)) (near (now (edges .entry)) along i)
         (handedRow (now (gives .entry)) (now (passes .entry)) (now (sets .entry)) (far (now (edges .entry)) along i)) ⌝ }
+    ensures { λ r. ⌜ r .vertex ≡ near (now (edges .entry)) along i ⌝ }
+    ensures { λ r. ⌜ Recent (now (sets .exit)) r ⌝ }
     ensures { λ _. ⌜ now (sets .exit) ≡ relaxedRow (now (edges .entry)) along (now (gives .entry)) (now (passes .entry)) (now (sets .entry)) i ⌝ }
 {
     let near = near_end(edges, along, i);
     let far = far_end(edges, along, i);
-    let row = handed(gives, passes, sets, far);
-    join(sets, near, row, note)
+    let brought = handed(gives, passes, held_row(sets, far, last), far);
+    let held = held_row(sets, near, last);
+    let row = joined(held, brought);
+    put(sets, near, row);
+    let before = last.note;
+    let note = noted(before, brought, held);
+    Carry {
+        vertex: near,
+        row,
+        note,
+    }
 }
 
 // Whether a note has anything in it.
@@ -127,12 +218,13 @@ fn fall(edges: &[u8], order: &[u16], gives: &[u16], passes: &[u16], sets: &mut [
         (now (sets .entry)) r (now (sets .exit)) ⌝ }
 {
     let count = order.len();
-    let mut note = [0u16; COLUMNS];
+    let mut last = untouched(sets.len());
     for j in 0..count {
         let i = order[count - 1 - j] as usize;
-        let noted = relax(edges, true, gives, passes, sets, i, note);
-        note = noted;
+        let next = relax(edges, true, gives, passes, sets, i, last);
+        last = next;
     }
+    let note = last.note;
     any(note)
 }
 
@@ -145,12 +237,13 @@ fn rise(edges: &[u8], order: &[u16], gives: &[u16], passes: &[u16], sets: &mut [
         (now (order .entry)) false (now (sets .entry)) (length (now (order .entry))))
         (now (sets .entry)) r (now (sets .exit)) ⌝ }
 {
-    let mut note = [0u16; COLUMNS];
+    let mut last = untouched(sets.len());
     for j in 0..order.len() {
         let i = order[j] as usize;
-        let noted = relax(edges, false, gives, passes, sets, i, note);
-        note = noted;
+        let next = relax(edges, false, gives, passes, sets, i, last);
+        last = next;
     }
+    let note = last.note;
     any(note)
 }
 

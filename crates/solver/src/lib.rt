@@ -1,5 +1,6 @@
 // The solver: rounds over the edges until one alters no set. The first rounds take every edge. If more are needed, the edges are cut
 // into blocks, and a round takes only the blocks that may alter a set.
+use flow::Carry;
 ghost use mathlib.Core.Path.{_≡_};
 ghost use mathlib.Core.Bool.{true, false};
 ghost use Prim.Native.Nat.{_+_, _*_, _≤_, _<_, _^_, min};
@@ -7,7 +8,7 @@ ghost use lib.Bits.{bitOr};
 ghost use lib.ListN.{length, getD, set};
 ghost use Rattle.flow.specs.Order.{Order};
 ghost use Rattle.flow.specs.Paths.{edgeCount};
-ghost use Rattle.flow.specs.Solver.{turn, Ends, rowCount, Tables, Going, Solved};
+ghost use Rattle.flow.specs.Solver.{turn, Ends, rowCount, Recent, Tables, Going, Solved};
 ghost use Rattle.sets.specs.Sets.{minus};
 ghost use Rattle.solver.specs.Blocks.{NextPending, Marked, Took, TookBlock, Taken, Closed};
 
@@ -104,6 +105,12 @@ fn mark_all(edges: &[u8], order: &[u16], along: bool, marks: &mut [u64])
     }
 }
 
+// What a turn leaves beside the sets.
+struct Turn {
+    progress: Progress,
+    last: Carry,
+}
+
 // Takes the j-th edge of a round. If that alters a set, the blocks that have an edge from its near end are pending.
 fn take(
     edges: &[u8],
@@ -115,24 +122,36 @@ fn take(
     marks: &[u64],
     j: usize,
     p: Progress,
-) -> Progress
+    last: Carry,
+) -> Turn
     requires { ⌜ Order (edgeCount (now edges)) (now order) ⌝ }
     requires { ⌜ Tables (now edges) (now gives) (now passes) (now sets) ⌝ }
     requires { ⌜ rowCount (now sets) ≤ length (now marks) ⌝ }
     requires { ⌜ j < length (now order) ⌝ }
-    ensures { λ q. ⌜ Took (now (edges .entry)) (now (order .entry)) along (now (gives .entry)) (now (passes .entry)) (now (marks .entry)) j
-        (now (sets .entry)) p (now (sets .exit)) q ⌝ }
+    requires { ⌜ Recent (now sets) last ⌝ }
+    ensures { λ t. ⌜ Took (now (edges .entry)) (now (order .entry)) along (now (gives .entry)) (now (passes .entry)) (now (marks .entry)) j
+        (now (sets .entry)) p (now (sets .exit)) (t .progress) ⌝ }
+    ensures { λ t. ⌜ Recent (now (sets .exit)) (t .last) ⌝ }
 {
     let i = edge_at(order, along, j);
-    let v = flow::near_end(edges, along, i);
-    let note = flow::relax(edges, along, gives, passes, sets, i, [0u16; flow::COLUMNS]);
+    let before = flow::unnoted(last);
+    let next = flow::relax(edges, along, gives, passes, sets, i, before);
+    let note = next.note;
     if flow::any(note) {
-        return Progress {
+        let v = next.vertex;
+        let progress = Progress {
             pending: p.pending | marks[v],
             altered: true,
         };
+        return Turn {
+            progress,
+            last: next,
+        };
     }
-    p
+    Turn {
+        progress: p,
+        last: next,
+    }
 }
 
 // Takes block b.
@@ -161,9 +180,11 @@ fn take_block(
         pending: without(p.pending, b),
         altered: p.altered,
     };
+    let mut last = flow::untouched(sets.len());
     for j in from..to {
-        let next = take(edges, order, along, gives, passes, sets, marks, j, q);
-        q = next;
+        let next = take(edges, order, along, gives, passes, sets, marks, j, q, last);
+        q = next.progress;
+        last = next.last;
     }
     q
 }

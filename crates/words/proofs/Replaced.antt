@@ -47,6 +47,13 @@ module _ {A : Type 0} (s : List A) (at : ℕ) (f : ℕ → A) where
   replaced-still d (suc m) h =
       ap₂ (λ (t : List A) (x : A). set t (at + m) x) (replaced-still d m (λ a l. h a (omega arith))) (h m (le-refl (suc m))) ∙ set-getD s (at + m) d
 
+-- by the same entries
+pub replaced-same : {A : Type 0} (s : List A) (at : ℕ) (f g : ℕ → A) (m : ℕ) → ((a : ℕ) → a < m → f a ≡ g a) → replaced s at f m ≡ replaced s at g m
+unfolding replaced
+replaced-same s at f g zero same = refl
+replaced-same s at f g (suc m) same =
+    ap₂ (λ (l : List _) (x : _). set l (at + m) x) (replaced-same s at f g m (λ a h. same a (omega arith))) (same m (le-refl (suc m)))
+
 -- ---- a loop that replaces n entries: m of them have been
 
 pub record Replacing {A : Type 0} (s : List A) (at : ℕ) (f : ℕ → A) (n : ℕ) (t : List A) (m : ℕ) : Type 0 where

@@ -1,18 +1,20 @@
--- `flow::handed` meets its contract: a row is filled in place.
+-- `flow::handed` meets its contract: a row is filled.
 -- Assumes nothing.
 use mathlib.Core.Path.{refl}
 use Prim.Native.Nat.{_+_, _-_, _*_}
 use native.Mathlib.Omega.{arith}
-use Rattle.flow.specs.Solver.{handed}
+use lib.Bits.{bitAnd, bitOr}
+use lib.ListN.{getD}
 use Rattle.words.proofs.Filling.{Filling, fill-begin, fill-next, fill-end}
 use Rattle.flow.proofs.handed.Statement.{statement}
 use Rattle.flow.proofs.handed.Tie as tie
 
 abbrev Inv-loop : tie.InvT-loop
-Inv-loop gives passes sets u row₀ a₀ row a = Filling (λ b. handed gives passes sets (8 * u + b)) 8 row₀ row a
+Inv-loop gives passes u held row₀ a₀ row a =
+    Filling (λ b. bitOr (getD gives (8 * u + b) 0) (bitAnd (getD held b 0) (getD passes (8 * u + b) 0))) 8 row₀ row a
 
 abbrev μ-loop : tie.MeasureT-loop
-μ-loop gives passes sets u row₀ a₀ row a = 8 - a
+μ-loop gives passes u held row₀ a₀ row a = 8 - a
 
 loop-holds : tie.Need-loop-holds Inv-loop μ-loop
 loop-holds c = fill-begin _ refl
@@ -32,14 +34,14 @@ shared-slice-read-row c = omega arith
 mul-row-2 : tie.Need-mul-row-2 Inv-loop μ-loop
 mul-row-2 c = omega arith
 
-shared-slice-read-row-2 : tie.Need-shared-slice-read-row-2 Inv-loop μ-loop
-shared-slice-read-row-2 c = omega arith
+array-read-row : tie.Need-array-read-row Inv-loop μ-loop
+array-read-row c = omega arith
 
 mul-row-3 : tie.Need-mul-row-3 Inv-loop μ-loop
 mul-row-3 c = omega arith
 
-shared-slice-read-row-3 : tie.Need-shared-slice-read-row-3 Inv-loop μ-loop
-shared-slice-read-row-3 c = omega arith
+shared-slice-read-row-2 : tie.Need-shared-slice-read-row-2 Inv-loop μ-loop
+shared-slice-read-row-2 c = omega arith
 
 mul-row-4 : tie.Need-mul-row-4 Inv-loop μ-loop
 mul-row-4 c = omega arith
@@ -54,9 +56,7 @@ loop-less : tie.Need-loop-less Inv-loop μ-loop
 loop-less c = omega arith
 
 loop-again : tie.Need-loop-again Inv-loop μ-loop
-loop-again c =
-    let l = c .before .before .before .before in
-    fill-next (l .loop .inv) (c .before .before .before .loop-test .taken) refl
+loop-again c = fill-next (c .before .before .before .loop .inv) (c .before .before .loop-test .taken) refl
 
 returns : tie.Need-returns Inv-loop μ-loop
 returns c = fill-end (c .before .loop .inv) (c .loop-test .left)
@@ -73,9 +73,9 @@ handed-spec =
     mul-row
     shared-slice-read-row
     mul-row-2
-    shared-slice-read-row-2
+    array-read-row
     mul-row-3
-    shared-slice-read-row-3
+    shared-slice-read-row-2
     mul-row-4
     array-write-row
     add-a
