@@ -3,7 +3,7 @@
 use mathlib.Core.Path.{_≡_, refl, sym, ap, ap₂, subst, _∙_}
 use mathlib.Core.Bool.{Bool, cond}
 use mathlib.Core.List.{List, [], _∷_}
-use Prim.Native.Nat.{ℕ, _+_, _*_, _/_, _%_, _≤_, _<_, zero-le}
+use Prim.Native.Nat.{ℕ, _+_, _*_, _≤_, _<_, zero-le}
 use native.Mathlib.Decide.{ℕ-discrete}
 use native.Mathlib.Omega.{arith}
 use borrow.Author.Tests.{lt-ltb, le-ltb, ne-eqb}
@@ -24,14 +24,6 @@ use Rattle.labels.specs.Events.{edgeBytes, solvedSets, event}
 use Rattle.labels.specs.Routines.{ReadAs}
 use Rattle.labels.proofs.Rules.Events.{inner-event}
 use Rattle.passes.specs.Tables.{Cells, Pass}
-
--- ---- places
-
-row-of : (v a : ℕ) → a < 8 → (8 * v + a) / 8 ≡ v
-row-of v a h = omega arith
-
-column-of : (v a : ℕ) → a < 8 → (8 * v + a) % 8 ≡ a
-column-of v a h = omega arith
 
 -- ---- what stands in them
 
