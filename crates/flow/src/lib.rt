@@ -26,7 +26,7 @@ pub fn clear(sets: &mut [u16])
 }
 
 // The end of edge i whose sets grow.
-pub fn near_end(edges: &[u8], along: bool, i: usize) -> usize
+fn near_end(edges: &[u8], along: bool, i: usize) -> usize
     requires { ⌜ i < edgeCount (now edges) ⌝ }
     ensures { λ r. ⌜ r ≡ near (now (edges .entry)) along i ⌝ }
 {

@@ -31,8 +31,8 @@ module _ {f : ℕ → ℕ} {n : ℕ} {old new : List ℕ} {v : ℕ} (t : Filling
   fill-at u h = ap (λ (l : List ℕ). getD l u 0) (t .replacing .is) ∙ replaced-at old 0 f 0 v u (omega arith) h (omega (arith, t .whole, t .replacing .within))
 
   -- the entries behind are as they were
-  pub fill-behind : v < n → getD new v 0 ≡ getD old v 0
-  fill-behind h = replacing-behind (t .replacing) 0 (omega arith)
+  pub fill-behind : getD new v 0 ≡ getD old v 0
+  fill-behind = replacing-behind (t .replacing) 0 (omega arith)
 
   pub fill-end : n ≤ v → new ≡ table f n
   fill-end h =

@@ -60,7 +60,7 @@ loop-again c =
     let l = c .before .before .before .before .before .before in
     fill-next (l .loop .inv) (c .before .before .before .before .before .loop-test .taken)
     (ap (bitOr (getD (l .before .before .before .before .args .leaving .now) (l .loop .i) 0))
-    (c .set-if .ensures ∙ ap₂ (λ (b : Bool) (m : ℕ). cond b m 0) (c .before .before .goes-on .ensures) (fill-behind (l .loop .inv) (c .before .before .before .before .before .loop-test .taken))))
+    (c .set-if .ensures ∙ ap₂ (λ (b : Bool) (m : ℕ). cond b m 0) (c .before .before .goes-on .ensures) (fill-behind (l .loop .inv))))
 
 same-length : tie.Need-same-length Inv-loop μ-loop
 same-length c = omega arith
