@@ -227,16 +227,16 @@ module _ (es : List ℕ) (along : Bool) (gives passes : List ℕ) where
     recent-none s (ap (λ (r : Carry). r .vertex) e),
   )
 
+  -- the row of an edge's near end
+  pub near-fits : (s t : List ℕ) (i : ℕ) → Tables es gives passes s → length t ≡ length s → i < edgeCount es → 8 * near es along i + 8 ≤ length t
+  near-fits s t i h e l = omega (arith, near-lt (h .ends) along i l, h .whole)
+
   module _ {order : List ℕ} (ord : Order (edgeCount es) order) where
     pub swept-length : (s : List ℕ) (j : ℕ) → j ≤ length order → length (swept step order along s j) ≡ length s
     swept-length s = swept-keeps ord along step (λ t. length t ≡ length s) (λ t i l e. step-length t i ∙ e) s refl
 
     pub rounds-length : (s : List ℕ) (r : ℕ) → length (rounds step order along s r) ≡ length s
     rounds-length s = rounds-keeps ord along step (λ t. length t ≡ length s) (λ t i l e. step-length t i ∙ e) s refl
-
-    -- the row of an edge's near end
-    pub near-fits : (s t : List ℕ) (i : ℕ) → Tables es gives passes s → length t ≡ length s → i < edgeCount es → 8 * near es along i + 8 ≤ length t
-    near-fits s t i h e l = omega (arith, near-lt (h .ends) along i l, h .whole)
 
     pub swept-below : (s : List ℕ) → Tables es gives passes s → (j : ℕ) → j ≤ length order → (length (swept step order along s j) ≡ length s) × Below s (swept step order along s j)
     swept-below s h =

@@ -47,15 +47,15 @@ pub fn far_end(edges: &[u8], along: bool, i: usize) -> usize
     words::at(edges, 4 * i)
 }
 
-// What the edges that were taken leave beside the sets: the vertex whose sets grew last, these sets, and a note of what was added. A set
-// that was just written takes long to be read again, and the next edge mostly asks for it.
+// What the edges that were taken leave beside the sets: the vertex whose sets grew last, these sets, and a note of what was added. On a
+// chain the next edge asks for these sets, and has them here without reading what was just written.
 pub struct Carry {
     pub vertex: usize,
     pub row: [u16; COLUMNS],
     pub note: [u16; COLUMNS],
 }
 
-// Before the first edge: no vertex of so many sets, and nothing noted.
+// Before the first edge, over a table of so many sets: a number that no vertex has, and nothing noted.
 pub fn untouched(sets: usize) -> Carry
     ensures { λ r. ⌜ r ≡ record { vertex = sets; row = replicate 8 0; note = replicate 8 0 } ⌝ }
 {

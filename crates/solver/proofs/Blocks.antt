@@ -203,7 +203,7 @@ module _ (es : List ℕ) (along : Bool) (gives passes : List ℕ) {order : List 
 
   module _ {s : List ℕ} {marks : List ℕ} (h : Tables es gives passes s) (marked : Marked es order along marks) where
     row-fits : (k : ℕ) → k < length order → 8 * near es along (turn order along k) + 8 ≤ length s
-    row-fits k l = near-fits es along gives passes ord s s (turn order along k) h refl (turn-lt ord along k l)
+    row-fits k l = near-fits es along gives passes s s (turn order along k) h refl (turn-lt ord along k l)
 
     -- one turn more
     pub took : {j to : ℕ} {t : List ℕ} {p q : Progress} → At j to s p → j < length order → Took es order along gives passes marks j s p t q → At (j + 1) to t q

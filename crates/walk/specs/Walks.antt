@@ -51,7 +51,7 @@ pub record Referred (file : List ℕ) (v step : ℕ) (versions before old : List
   pub out-is : new ≡ wrote old (rowBytes file v step versions before)
   pub stamps-are : after ≡ replaced before 0 (stampAt file v step before) (arrays file)
 
--- the row of vertex v has no references, or no remappings
+-- what the answer whether the row of vertex v remaps tells: if yes it has no references, if no it has no remappings
 abbrev pub OneSort : List ℕ → ℕ → Bool → Type 0
 OneSort file v remaps = (b : ℕ) → b < arrays file → cond remaps (isReference (action file v b)) (isRemap (action file v b)) ≡ false
 
@@ -61,7 +61,7 @@ pub record Unlabelled (file : List ℕ) (v : ℕ) : Type 0 where
   pub as-read : (b : ℕ) → event file b v ≡ action file v b
   pub no-label : (b : ℕ) → b < arrays file → isRemap (event file b v) ≡ false
 
--- vertex v has no references, or no labels
+-- what the answer whether vertex v may have labels tells: if yes it has no references, if no it has no labels
 abbrev pub Labels : List ℕ → ℕ → Bool → Type 0
 Labels file v true = (b : ℕ) → b < arrays file → isReference (event file b v) ≡ false
 Labels file v false = Unlabelled file v

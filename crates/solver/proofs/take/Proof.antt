@@ -1,6 +1,6 @@
 -- `solver::take` meets its contract: what the note of the edge says decides which blocks are pending.
 -- Assumes nothing.
-use mathlib.Core.Path.{_≡_, sym, ap, subst, _∙_}
+use mathlib.Core.Path.{_≡_, refl, sym, ap, subst, _∙_}
 use mathlib.Core.Bool.{Bool}
 use Prim.Native.Nat.{ℕ, _+_, _*_, _^_, _≤_, _<_}
 use native.Mathlib.Omega.{arith}
@@ -10,7 +10,7 @@ use Rattle.flow.specs.Paths.{edgeCount}
 use Rattle.flow.specs.Solver.{near, far, turn, handedRow, rowCount, noted, Altered}
 use Rattle.flow.specs.declared.Carry.{Carry}
 use Rattle.flow.proofs.Rounds.{turn-lt, near-lt}
-use Rattle.flow.proofs.Rows.{recent-as}
+use Rattle.flow.proofs.Rows.{recent-as, near-fits}
 use Rattle.solver.proofs.Blocks.{told-by, took-none, took-some}
 use Rattle.solver.proofs.take.Statement.{statement}
 use Rattle.solver.proofs.take.Tie as tie
@@ -49,7 +49,9 @@ module _ (c : tie.After-relax) where
   vertex-fits = omega (arith, c .relax .ensures .1 .0, near-in, s e .pre .1 .1 .0)
 
   row-fits : 8 * near (s e .args .edges .now) (s e .args .along) (e .edge-at .result) + 8 ≤ length (s e .args .sets .now)
-  row-fits = omega (arith, near-in, s e .pre .1 .0 .whole)
+  row-fits =
+      let a = s e .args in
+      near-fits (a .edges .now) (a .along) (a .gives .now) (a .passes .now) (a .sets .now) (a .sets .now) (e .edge-at .result) (s e .pre .1 .0) refl (turn-fits e)
 
   note-is : c .relax .result .note ≡ noted (replicate 8 0) (s e .args .sets .now) (near (s e .args .edges .now) (s e .args .along) (e .edge-at .result))
       (handedRow (s e .args .gives .now) (s e .args .passes .now) (s e .args .sets .now) (far (s e .args .edges .now) (s e .args .along) (e .edge-at .result)))
