@@ -7,6 +7,7 @@ use refusal::Refusal;
 use refusal::Verdict;
 use routine::array;
 use routine::header::Header;
+use sets::Set;
 ghost use mathlib.Core.Path.{_≡_};
 ghost use mathlib.Core.Bool.{not, _&&_};
 ghost use Prim.Native.Nat.{_+_, _*_, _≤_, _<_};
@@ -26,25 +27,25 @@ ghost use Rattle.refusal.specs.declared.Refusal.the-variants.{WritesInArgument,
 ghost use Rattle.sets.specs.Sets.{has, several};
 
 // Whether a cell that gives this to the sets of use is a write that this mask looks for.
-fn is_write(uses: u16, mask: u16) -> bool
+fn is_write(uses: Set, mask: Set) -> bool
     ensures { λ r. ⌜ r ≡ not (eqb (bitAnd uses mask) 0) ⌝ }
 {
     uses & mask != 0
 }
 
 // Whether a cell that gives this to the sets of use is a reference, and two versions reach it.
-fn is_ambiguous(uses: u16, reaching: u16) -> bool
+fn is_ambiguous(uses: Set, reaching: Set) -> bool
     ensures { λ r. ⌜ r ≡ (has uses 0 && several reaching) ⌝ }
 {
     sets::member(uses, 0) & sets::more_than_one(reaching)
 }
 
 // The masks by which 20 looks for writes: of an in argument bit 3, of any other array nothing.
-fn in_masks(file: &[u8], h: Header) -> [u16; flow::COLUMNS]
+fn in_masks(file: &[u8], h: Header) -> [Set; flow::COLUMNS]
     requires { ⌜ ReadAs (now file) h ⌝ }
     ensures { λ r. ⌜ InMasks (now (file .entry)) r ⌝ }
 {
-    let mut masks = [0u16; flow::COLUMNS];
+    let mut masks = [0 as Set; flow::COLUMNS];
     let m = h.arrays;
     let mut a = 0;
     while a < m {
@@ -55,7 +56,7 @@ fn in_masks(file: &[u8], h: Header) -> [u16; flow::COLUMNS]
 }
 
 // Whether the row of vertex v has a write of an in argument.
-fn row_writes(uses: &[u16], masks: [u16; flow::COLUMNS], v: usize) -> bool
+fn row_writes(uses: &[Set], masks: [Set; flow::COLUMNS], v: usize) -> bool
     requires { ⌜ 8 * v + 8 ≤ length (now uses) ⌝ }
     requires { ⌜ length masks ≡ 8 ⌝ }
     ensures { λ r. ⌜ r ≡ anyBelow (λ a. not (eqb (bitAnd (getD (now (uses .entry)) (8 * v + a) 0) (getD masks a 0)) 0)) 8 ⌝ }
@@ -75,8 +76,8 @@ fn check_writes_at(
     file: &[u8],
     h: Header,
     v: usize,
-    uses: &[u16],
-    masks: [u16; flow::COLUMNS],
+    uses: &[Set],
+    masks: [Set; flow::COLUMNS],
 ) -> Verdict
     requires { ⌜ ReadAs (now file) h ⌝ }
     requires { ⌜ UseGives (now file) (now uses) ⌝ }
@@ -105,8 +106,8 @@ fn check_writes_row(
     file: &[u8],
     h: Header,
     v: usize,
-    uses: &[u16],
-    masks: [u16; flow::COLUMNS],
+    uses: &[Set],
+    masks: [Set; flow::COLUMNS],
 ) -> Verdict
     requires { ⌜ ReadAs (now file) h ⌝ }
     requires { ⌜ UseGives (now file) (now uses) ⌝ }
@@ -122,7 +123,7 @@ fn check_writes_row(
 }
 
 // Refusal 20.
-fn check_writes(file: &[u8], h: Header, uses: &[u16]) -> Verdict
+fn check_writes(file: &[u8], h: Header, uses: &[Set]) -> Verdict
     requires { ⌜ ReadAs (now file) h ⌝ }
     requires { ⌜ UseGives (now file) (now uses) ⌝ }
     ensures { λ r. ⌜ r ≡ check20 (now (file .entry)) ⌝ }
@@ -141,7 +142,7 @@ fn check_writes(file: &[u8], h: Header, uses: &[u16]) -> Verdict
 }
 
 // Whether the row of vertex v has a reference that two versions reach.
-fn row_ambiguous(uses: &[u16], reaching: &[u16], v: usize) -> bool
+fn row_ambiguous(uses: &[Set], reaching: &[Set], v: usize) -> bool
     requires { ⌜ 8 * v + 8 ≤ length (now uses) ⌝ }
     requires { ⌜ 8 * v + 8 ≤ length (now reaching) ⌝ }
     ensures { λ r. ⌜ r ≡ anyBelow (λ a. has (getD (now (uses .entry)) (8 * v + a) 0) 0 && several (getD (now (reaching .entry)) (8 * v + a) 0)) 8 ⌝ }
@@ -157,7 +158,7 @@ fn row_ambiguous(uses: &[u16], reaching: &[u16], v: usize) -> bool
 }
 
 // The first ambiguous reference at vertex v.
-fn check_ambiguous_at(file: &[u8], h: Header, v: usize, uses: &[u16], reaching: &[u16]) -> Verdict
+fn check_ambiguous_at(file: &[u8], h: Header, v: usize, uses: &[Set], reaching: &[Set]) -> Verdict
     requires { ⌜ ReadAs (now file) h ⌝ }
     requires { ⌜ UseGives (now file) (now uses) ⌝ }
     requires { ⌜ v < vertices (now file) ⌝ }
@@ -181,7 +182,7 @@ fn check_ambiguous_at(file: &[u8], h: Header, v: usize, uses: &[u16], reaching: 
 }
 
 // Vertex v, array by array only if its row has an ambiguous reference.
-fn check_ambiguous_row(file: &[u8], h: Header, v: usize, uses: &[u16], reaching: &[u16]) -> Verdict
+fn check_ambiguous_row(file: &[u8], h: Header, v: usize, uses: &[Set], reaching: &[Set]) -> Verdict
     requires { ⌜ ReadAs (now file) h ⌝ }
     requires { ⌜ UseGives (now file) (now uses) ⌝ }
     requires { ⌜ v < vertices (now file) ⌝ }
@@ -196,7 +197,7 @@ fn check_ambiguous_row(file: &[u8], h: Header, v: usize, uses: &[u16], reaching:
 }
 
 // Refusal 21.
-fn check_ambiguous(file: &[u8], h: Header, uses: &[u16], reaching: &[u16]) -> Verdict
+fn check_ambiguous(file: &[u8], h: Header, uses: &[Set], reaching: &[Set]) -> Verdict
     requires { ⌜ ReadAs (now file) h ⌝ }
     requires { ⌜ UseGives (now file) (now uses) ⌝ }
     requires { ⌜ Cells (now file) (reachingOf (now file)) (now reaching) ⌝ }
@@ -219,12 +220,12 @@ fn check(
     file: &[u8],
     h: Header,
     order: &mut [u16],
-    versions: &[u16],
-    uses: &[u16],
+    versions: &[Set],
+    uses: &[Set],
     letters: &mut [u8],
-    reaching: &mut [u16],
-    gives: &mut [u16],
-    passes: &mut [u16],
+    reaching: &mut [Set],
+    gives: &mut [Set],
+    passes: &mut [Set],
 ) -> Verdict
     requires { ⌜ ReadAs (now file) h ⌝ }
     requires { ⌜ EdgeOrder (now file) (now order) ⌝ }
@@ -253,12 +254,12 @@ pub fn prepare(
     file: &[u8],
     h: Header,
     order: &mut [u16],
-    versions: &mut [u16],
-    uses: &mut [u16],
+    versions: &mut [Set],
+    uses: &mut [Set],
     letters: &mut [u8],
-    reaching: &mut [u16],
-    gives: &mut [u16],
-    passes: &mut [u16],
+    reaching: &mut [Set],
+    gives: &mut [Set],
+    passes: &mut [Set],
 ) -> Verdict
     requires { ⌜ ReadAs (now file) h ⌝ }
     requires { ⌜ length (now order) ≡ edges (now file) ⌝ }

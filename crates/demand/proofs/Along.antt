@@ -18,7 +18,7 @@ use Rattle.routine.specs.Actions.{isReference}
 use Rattle.routine.specs.declared.action.Action.the-variants.{Remap}
 use Rattle.routine.specs.declared.array.ArrayRecord.{ArrayRecord}
 use Rattle.words.proofs.Tests.{at-cond, and-left, and-right}
-use Rattle.sets.specs.Sets.{has}
+use Rattle.sets.specs.Sets.{has, width}
 use Rattle.sets.proofs.Laws.{has-single, single-is, has-zero}
 use Rattle.state.specs.declared.State.{State}
 use Rattle.state.specs.Fits.{Fits}
@@ -47,15 +47,15 @@ pub record Follows (p : ArrayPlan) (at : ℕ → ℕ) (n : ℕ) (run : ℕ → S
   pub machine-start : machine 0 ≡ machineStart (p .array)
   pub machine-step : (i : ℕ) → machine (suc i) ≡ machineStep (p .event (at i)) (i + 1) (machine i)
 
-started-matches : (r : ArrayRecord) → r .initial < 16 → Matches (started r) (machineStart r)
+started-matches : (r : ArrayRecord) → r .initial < width → Matches (started r) (machineStart r)
 started-matches r below =
     at-cond (λ (s : State). Matches s (machineStart r)) (isInOrInout (r .kind))
     (λ b. record {
-      sixteen = length-set (replicate 16 0) (r .initial) 65535;
+      wide = length-set (replicate width 0) (r .initial) 65535;
       agree = λ k h.
-          subst (λ (j : ℕ). getD (set (replicate 16 0) (r .initial) 65535) j 0 ≡ machineStart r .stamp)
+          subst (λ (j : ℕ). getD (set (replicate width 0) (r .initial) 65535) j 0 ≡ machineStart r .stamp)
           (single-is (r .initial) k h)
-          (getD-set-same (replicate 16 0) (r .initial) 65535 0 below ∙ (cc));
+          (getD-set-same (replicate width 0) (r .initial) 65535 0 below ∙ (cc));
       sits = record {
         lives = λ h. has-single (r .initial) (r .initial) ∙ eq-eqb (r .initial) (r .initial) refl;
         bare = λ h. absurd (omega (arith, eqb-true (r .initial) 255 (not-false _ h)));
@@ -63,7 +63,7 @@ started-matches r below =
       cheap = record { few = lit≤ tt; fewer = λ _ other. absurd (other refl) };
     })
     (λ b. record {
-      sixteen = refl;
+      wide = refl;
       agree = λ k h. cc (has-zero k);
       sits = record { lives = λ h. cc; bare = λ h. cc };
       cheap = record { few = lit≤ tt; fewer = λ h. absurd (false≢true h) };
@@ -73,7 +73,7 @@ pub left-copies : (r : ArrayRecord) (b : Bool) (s : State) → left r b s .copie
 left-copies r b s = at-cond (λ (s' : State). s' .copies ≡ s .copies) (b && not (isArgument (r .kind))) (λ _. refl) (λ _. refl)
 
 -- a W label leaves its version current, with the machine's stamp
-labelled-home : {u : Use} {t keep : ℕ} {s : State} {m : Machine} → t < 16 → u ≡ W → Labelled u t keep s m
+labelled-home : {u : Use} {t keep : ℕ} {s : State} {m : Machine} → t < width → u ≡ W → Labelled u t keep s m
     → (s .current ≡ t) × (stampOf s t ≡ m .stamp)
 labelled-home {t} {s} below e g =
     let c = g .current (ap isN e) in
@@ -81,7 +81,7 @@ labelled-home {t} {s} below e g =
     (c, g .agree (ap isD e) t (subst (λ (k : ℕ). has (s .live) k ≡ true) c (g .sits .lives h)))
 
 module _ {p : ArrayPlan} (sound : Sound p) {at : ℕ → ℕ} {n : ℕ} {run : ℕ → State} {machine : ℕ → Machine} (f : Follows p at n run machine) where
-  initial-below : p .array .initial < 16
+  initial-below : p .array .initial < width
   initial-below = sound .below (sound .entry-remaps)
 
   -- the state's fields fit their types
@@ -115,7 +115,7 @@ module _ {p : ArrayPlan} (sound : Sound p) {at : ℕ → ℕ} {n : ℕ} {run : �
 
   before : (i : ℕ) → suc i < n → After i → Before p (at (suc i)) (run (suc i)) (machine (suc i))
   before i h y =
-      record { label = y .0; from = at i; holds = rw (stays i h) (y .1); edge = f .joined i h; sixteen = fits-at (suc i) (omega arith) .stamps .sixteen }
+      record { label = y .0; from = at i; holds = rw (stays i h) (y .1); edge = f .joined i h; wide = fits-at (suc i) (omega arith) .stamps .wide }
 
   along : (i : ℕ) → i < n → After i
   unfolding labelled referenced
@@ -136,8 +136,8 @@ module _ {p : ArrayPlan} (sound : Sound p) {at : ℕ → ℕ} {n : ℕ} {run : �
   pub used-at : (i : ℕ) → i < n → T (isReference (p .event (at i))) → run i .current ≡ machine i .held
   used-at i h g = used sound (referring i h g) g
 
-  -- which is below 16
-  pub below-at : (i : ℕ) → i < n → T (isReference (p .event (at i))) → run i .current < 16
+  -- which is below the width
+  pub below-at : (i : ℕ) → i < n → T (isReference (p .event (at i))) → run i .current < width
   below-at i h g = below sound (referring i h g) g
 
   -- its record is the machine's

@@ -37,6 +37,7 @@ use Rattle.path.proofs.Paths.{Walk, walk}
 use Rattle.demand.proofs.Sound.{computedPlan, sound}
 use Rattle.words.specs.Tables.{table, rows}
 use Rattle.words.proofs.Tables.{rows-same}
+use Rattle.sets.specs.Sets.{width}
 
 -- ---- the version of the last label before a vertex
 
@@ -146,5 +147,5 @@ module _ (file path : List ℕ) (w : WellFormed file) (accepted : pathCheck file
 
   -- and at a reference a version is current
   pub reference-below :
-      (i a : ℕ) → i < steps path → a < arrays file → T (isReference (event file a (vertexAt path i))) → stateAfter file path a i .current < 16
+      (i a : ℕ) → i < steps path → a < arrays file → T (isReference (event file a (vertexAt path i))) → stateAfter file path a i .current < width
   reference-below i a h l = below-at (plans a l) (follows walks a) i h

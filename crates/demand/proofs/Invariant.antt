@@ -21,7 +21,7 @@ use Rattle.routine.specs.declared.action.Access.the-variants.{Read, Define, Mod
 use Rattle.routine.specs.declared.action.Action.{Action}
 use Rattle.routine.specs.declared.action.Action.the-variants.{Nothing, Reference, Remap, Unknown}
 use Rattle.routine.specs.declared.array.ArrayRecord.{ArrayRecord}
-use Rattle.sets.specs.Sets.{has}
+use Rattle.sets.specs.Sets.{has, width}
 use Rattle.state.specs.declared.State.{State}
 use Rattle.demand.specs.Machine.{Machine, machineStep}
 use Rattle.report.specs.Records.{recordsAt}
@@ -52,8 +52,8 @@ pub record Sound (p : ArrayPlan) : Type 0 where
   pub alone :
       {v k : ℕ} → p .event v ≡ Remap k → isN (p .letter v) ≡ false → (p .letter v ≡ R → ⊥)
       → (j : ℕ) → has (p .keep v) j ≡ true → j ≡ k
-  -- versions are below 16
-  pub below : {v k : ℕ} → p .event v ≡ Remap k → k < 16
+  -- versions are below the width
+  pub below : {v k : ℕ} → p .event v ≡ Remap k → k < width
   -- the entry remaps to the initial version; so does the exit of out and inout, and its letter is W; no edge leaves the exit
   pub entry-remaps : p .event 0 ≡ Remap (p .array .initial)
   pub exit-remaps : 2 ≤ p .array .kind → p .event (p .exit) ≡ Remap (p .array .initial)
@@ -86,7 +86,7 @@ pub record Before (p : ArrayPlan) (w : ℕ) (s : State) (m : Machine) : Type 0 w
   pub from : ℕ
   pub holds : AfterVertex p label from s m
   pub edge : Edge (p .edges) from w
-  pub sixteen : length (s .stamps) ≡ 16
+  pub wide : length (s .stamps) ≡ width
 
 -- ---- letters
 
@@ -120,14 +120,14 @@ module _ {p : ArrayPlan} (sound : Sound p) where
 
   -- ---- the next vertex
   module _ {w : ℕ} {s : State} {m : Machine} (b : Before p w s m) where
-    open Before b using (label, edge, sixteen, holds as i)
+    open Before b using (label, edge, wide, holds as i)
 
     -- a read, a modify or a label finds every live version with the machine's stamp
     valued : T (needsValue (p .event w)) → Agree s (m .stamp)
     valued n = ⊎-elim (λ a. a) (λ a. absurd (sound .defined (i .held) (a .is-D) (a .onward w edge) n)) (i .value)
 
     pub matches : T (needsValue (p .event w)) → Matches s m
-    matches n = record { sixteen = sixteen; agree = valued n; sits = i .sits; cheap = i .cheap }
+    matches n = record { wide = wide; agree = valued n; sits = i .sits; cheap = i .cheap }
 
     module _ (f : T (isReference (p .event w))) where
       kept : isN (p .letter label) ≡ false
@@ -137,7 +137,7 @@ module _ {p : ArrayPlan} (sound : Sound p) where
       pub used : s .current ≡ m .held
       used = i .kept kept
 
-      pub below : s .current < 16
+      pub below : s .current < width
       below = omega (arith, used, sound .below (i .held))
 
       current : hasCurrent s ≡ true

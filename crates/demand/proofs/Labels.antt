@@ -12,7 +12,7 @@ use Rattle.labels.specs.Uses.{isN}
 use Rattle.routine.specs.declared.action.Action.the-variants.{Remap}
 use Rattle.routine.specs.declared.array.ArrayRecord.{ArrayRecord}
 use Rattle.words.proofs.Tests.{at-cond, and-right, or-cases}
-use Rattle.sets.specs.Sets.{has}
+use Rattle.sets.specs.Sets.{has, width}
 use Rattle.state.specs.declared.State.{State}
 use Rattle.state.specs.Cleaning.{callers}
 use Rattle.state.specs.Moves.{moves, copiesStamp, moved, isD}
@@ -53,7 +53,7 @@ moved-cheap u t step s m c =
 
 -- what a label asks: every live version has the machine's stamp
 pub record Matches (s : State) (m : Machine) : Type 0 where
-  pub sixteen : length (s .stamps) ≡ 16
+  pub wide : length (s .stamps) ≡ width
   pub agree : Agree s (m .stamp)
   pub sits : Sits s (m .stamp)
   pub cheap : Cheap s m
@@ -66,7 +66,7 @@ pub record Labelled (u : Use) (t keep : ℕ) (s : State) (m : Machine) : Type 0 
   pub sits : Sits s (m .stamp)
   pub cheap : Cheap s m
 
-pub labelled-does : (r : ArrayRecord) (u : Use) (t keep step : ℕ) (s : State) (m : Machine) → t < 16 → Matches s m
+pub labelled-does : (r : ArrayRecord) (u : Use) (t keep step : ℕ) (s : State) (m : Machine) → t < width → Matches s m
     → Labelled u t keep (labelled r u t keep s) (machineStep (Remap t) step m)
 unfolding labelled
 labelled-does r u t keep step s m below y =
@@ -74,7 +74,7 @@ labelled-does r u t keep step s m below y =
     let c = moved-cheap u t step s m (y .cheap) in
     record {
       current = moved-to u t s;
-      agree = λ d. cleaned-agree (callers r) keep s' (moved-agree u t s (omega (arith, y .sixteen)) d (y .agree) (y .sits));
+      agree = λ d. cleaned-agree (callers r) keep s' (moved-agree u t s (omega (arith, y .wide)) d (y .agree) (y .sits));
       alone = λ n f k h.
           or-cases (has keep k) (hasCurrent s' && eqb (s' .current) k) (f k)
           (λ g. sym (eqb-true (s' .current) k (and-right (hasCurrent s') (eqb (s' .current) k) g)) ∙ moved-to u t s n)

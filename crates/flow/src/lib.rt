@@ -1,6 +1,7 @@
 // Paths over the edges of a routine, and rounds over these edges that fill in sets: bit k is in the set of a vertex if a path from it,
 // through vertices that pass k, arrives at a vertex that gives k.
 // A table has eight columns, one for each array that a routine may have: the set of vertex v in column a stands at 8 v + a.
+use sets::Set;
 ghost use mathlib.Core.Path.{_≡_};
 ghost use mathlib.Core.Bool.{true, false, not};
 ghost use Prim.Native.Nat.{_+_, _*_, _≤_, _<_};
@@ -17,7 +18,7 @@ ghost use Rattle.words.specs.Tables.{table, withRow};
 pub const COLUMNS: usize = 8;
 
 // Empties every set.
-pub fn clear(sets: &mut [u16])
+pub fn clear(sets: &mut [Set])
     ensures { λ r. ⌜ now (sets .exit) ≡ replicate (length (now (sets .entry))) 0 ⌝ }
 {
     for v in 0..sets.len() {
@@ -51,8 +52,8 @@ pub fn far_end(edges: &[u8], along: bool, i: usize) -> usize
 // chain the next edge asks for these sets, and has them here without reading what was just written.
 pub struct Carry {
     pub vertex: usize,
-    pub row: [u16; COLUMNS],
-    pub note: [u16; COLUMNS],
+    pub row: [Set; COLUMNS],
+    pub note: [Set; COLUMNS],
 }
 
 // Before the first edge, over a table of so many sets: a number that no vertex has, and nothing noted.
@@ -79,11 +80,11 @@ pub fn unnoted(last: Carry) -> Carry
 }
 
 // The sets of vertex v.
-fn row_at(sets: &[u16], v: usize) -> [u16; COLUMNS]
+fn row_at(sets: &[Set], v: usize) -> [Set; COLUMNS]
     requires { ⌜ 8 * v + 8 ≤ length (now sets) ⌝ }
     ensures { λ r. ⌜ r ≡ rowOf (now (sets .entry)) v ⌝ }
 {
-    let mut row = [0u16; COLUMNS];
+    let mut row = [0 as Set; COLUMNS];
     let mut a: usize = 0;
     while a < COLUMNS {
         let at = COLUMNS * v + a;
@@ -94,7 +95,7 @@ fn row_at(sets: &[u16], v: usize) -> [u16; COLUMNS]
 }
 
 // The same, where those of the last vertex are at hand.
-fn held_row(sets: &[u16], v: usize, last: Carry) -> [u16; COLUMNS]
+fn held_row(sets: &[Set], v: usize, last: Carry) -> [Set; COLUMNS]
     requires { ⌜ 8 * v + 8 ≤ length (now sets) ⌝ }
     requires { ⌜ Recent (now sets) last ⌝ }
     ensures { λ r. ⌜ r ≡ rowOf (now (sets .entry)) v ⌝ }
@@ -106,13 +107,13 @@ fn held_row(sets: &[u16], v: usize, last: Carry) -> [u16; COLUMNS]
 }
 
 // What vertex u hands on in each column, where it holds this row: what it gives, and what it holds and passes.
-fn handed(gives: &[u16], passes: &[u16], held: [u16; COLUMNS], u: usize) -> [u16; COLUMNS]
+fn handed(gives: &[Set], passes: &[Set], held: [Set; COLUMNS], u: usize) -> [Set; COLUMNS]
     requires { ⌜ 8 * u + 8 ≤ length (now gives) ⌝ }
     requires { ⌜ 8 * u + 8 ≤ length (now passes) ⌝ }
     ensures { λ r. ⌜ r
         ≡ table (λ a. bitOr (getD (now (gives .entry)) (8 * u + a) 0) (bitAnd (getD held a 0) (getD (now (passes .entry)) (8 * u + a) 0))) 8 ⌝ }
 {
-    let mut row = [0u16; COLUMNS];
+    let mut row = [0 as Set; COLUMNS];
     let mut a: usize = 0;
     while a < COLUMNS {
         let at = COLUMNS * u + a;
@@ -123,10 +124,10 @@ fn handed(gives: &[u16], passes: &[u16], held: [u16; COLUMNS], u: usize) -> [u16
 }
 
 // Two rows, joined.
-fn joined(held: [u16; COLUMNS], brought: [u16; COLUMNS]) -> [u16; COLUMNS]
+fn joined(held: [Set; COLUMNS], brought: [Set; COLUMNS]) -> [Set; COLUMNS]
     ensures { λ r. ⌜ r ≡ table (λ a. bitOr (getD held a 0) (getD brought a 0)) 8 ⌝ }
 {
-    let mut row = [0u16; COLUMNS];
+    let mut row = [0 as Set; COLUMNS];
     let mut a: usize = 0;
     while a < COLUMNS {
         row[a] = held[a] | brought[a];
@@ -136,10 +137,10 @@ fn joined(held: [u16; COLUMNS], brought: [u16; COLUMNS]) -> [u16; COLUMNS]
 }
 
 // A note, joined with what a row brought that another did not hold.
-fn noted(note: [u16; COLUMNS], brought: [u16; COLUMNS], held: [u16; COLUMNS]) -> [u16; COLUMNS]
+fn noted(note: [Set; COLUMNS], brought: [Set; COLUMNS], held: [Set; COLUMNS]) -> [Set; COLUMNS]
     ensures { λ r. ⌜ r ≡ table (λ a. bitOr (getD note a 0) (minus (getD brought a 0) (getD held a 0))) 8 ⌝ }
 {
-    let mut new = [0u16; COLUMNS];
+    let mut new = [0 as Set; COLUMNS];
     let mut a: usize = 0;
     while a < COLUMNS {
         new[a] = note[a] | sets::difference(brought[a], held[a]);
@@ -149,7 +150,7 @@ fn noted(note: [u16; COLUMNS], brought: [u16; COLUMNS], held: [u16; COLUMNS]) ->
 }
 
 // Puts a row in the place of vertex v's.
-fn put(sets: &mut [u16], v: usize, row: [u16; COLUMNS])
+fn put(sets: &mut [Set], v: usize, row: [Set; COLUMNS])
     requires { ⌜ 8 * v + 8 ≤ length (now sets) ⌝ }
     ensures { λ _. ⌜ now (sets .exit) ≡ withRow (now (sets .entry)) v (λ a. getD row a 0) 8 ⌝ }
 {
@@ -165,9 +166,9 @@ fn put(sets: &mut [u16], v: usize, row: [u16; COLUMNS])
 pub fn relax(
     edges: &[u8],
     along: bool,
-    gives: &[u16],
-    passes: &[u16],
-    sets: &mut [u16],
+    gives: &[Set],
+    passes: &[Set],
+    sets: &mut [Set],
     i: usize,
     last: Carry,
 ) -> Carry
@@ -196,10 +197,10 @@ pub fn relax(
 }
 
 // Whether a note has anything in it.
-pub fn any(note: [u16; COLUMNS]) -> bool
+pub fn any(note: [Set; COLUMNS]) -> bool
     ensures { λ r. ⌜ r ≡ not (eqb (inAll note 8) 0) ⌝ }
 {
-    let mut all: u16 = 0;
+    let mut all: Set = 0;
     let mut a: usize = 0;
     while a < COLUMNS {
         all = all | note[a];
@@ -209,7 +210,7 @@ pub fn any(note: [u16; COLUMNS]) -> bool
 }
 
 // Takes every edge once along its direction, by falling place in the order. Says whether a set was altered.
-fn fall(edges: &[u8], order: &[u16], gives: &[u16], passes: &[u16], sets: &mut [u16]) -> bool
+fn fall(edges: &[u8], order: &[u16], gives: &[Set], passes: &[Set], sets: &mut [Set]) -> bool
     requires { ⌜ Order (edgeCount (now edges)) (now order) ⌝ }
     requires { ⌜ Tables (now edges) (now gives) (now passes) (now sets) ⌝ }
     ensures { λ r. ⌜ Advanced
@@ -229,7 +230,7 @@ fn fall(edges: &[u8], order: &[u16], gives: &[u16], passes: &[u16], sets: &mut [
 }
 
 // Takes every edge once against its direction, by rising place in the order. Says whether a set was altered.
-fn rise(edges: &[u8], order: &[u16], gives: &[u16], passes: &[u16], sets: &mut [u16]) -> bool
+fn rise(edges: &[u8], order: &[u16], gives: &[Set], passes: &[Set], sets: &mut [Set]) -> bool
     requires { ⌜ Order (edgeCount (now edges)) (now order) ⌝ }
     requires { ⌜ Tables (now edges) (now gives) (now passes) (now sets) ⌝ }
     ensures { λ r. ⌜ Advanced
@@ -252,9 +253,9 @@ pub fn round(
     edges: &[u8],
     order: &[u16],
     along: bool,
-    gives: &[u16],
-    passes: &[u16],
-    sets: &mut [u16],
+    gives: &[Set],
+    passes: &[Set],
+    sets: &mut [Set],
 ) -> bool
     requires { ⌜ Order (edgeCount (now edges)) (now order) ⌝ }
     requires { ⌜ Tables (now edges) (now gives) (now passes) (now sets) ⌝ }

@@ -2,7 +2,7 @@
 -- Assumes nothing.
 use mathlib.Core.Bool.{Bool, true, false, _&&_, _||_, cond}
 use mathlib.Core.List.{List}
-use Prim.Native.Nat.{ℕ, _-_, _^_}
+use Prim.Native.Nat.{ℕ, _^_}
 use lib.Dec.{eqb}
 use lib.ListN.{drop}
 use Rattle.routine.specs.declared.action.Access.the-variants.{Read, Define, Modify}
@@ -13,14 +13,6 @@ use Rattle.routine.specs.Arrays.{arrayOf, kind, initial, isArgument}
 use Rattle.routine.specs.Layout.{vertices, entry, exit, edgesAt}
 use Rattle.flow.specs.Solver.{solution}
 use Rattle.words.specs.Tables.{table}
-
--- the width of a version set, for all label rules
-abbrev pub width : ℕ
-width = 16
-
--- every version
-abbrev pub everyVersion : ℕ
-everyVersion = 2 ^ width - 1
 
 -- the bytes of the edges
 abbrev pub edgeBytes : List ℕ → List ℕ

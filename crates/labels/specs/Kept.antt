@@ -11,8 +11,9 @@ use Rattle.flow.specs.Paths.{Path, Finds}
 use Rattle.flow.specs.Solver.{solution}
 use Rattle.labels.specs.declared.Use.{Use}
 use Rattle.labels.specs.declared.Use.the-variants.{N, D, R, W}
-use Rattle.labels.specs.Events.{everyVersion, edgeBytes, solvedSets, event, isLabel, version}
+use Rattle.labels.specs.Events.{edgeBytes, solvedSets, event, isLabel, version}
 use Rattle.labels.specs.Uses.{useOf, isKept, Leaves}
+use Rattle.sets.specs.Sets.{everyVersion}
 
 -- the letters whose kept set goes on to the next label
 abbrev pub isNOrR : Use → Bool

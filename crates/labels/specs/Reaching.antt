@@ -10,8 +10,8 @@ use lib.ListN.{getD}
 use Rattle.flow.specs.Paths.{Joined}
 use Rattle.flow.specs.Solver.{solution}
 use Rattle.routine.specs.Layout.{entry}
-use Rattle.sets.specs.Sets.{has}
-use Rattle.labels.specs.Events.{everyVersion, edgeBytes, solvedSets, version}
+use Rattle.sets.specs.Sets.{has, everyVersion}
+use Rattle.labels.specs.Events.{edgeBytes, solvedSets, version}
 use Rattle.routine.specs.Arrays.{kind, initial, isInOrInout}
 use Rattle.labels.specs.Uses.{isKept}
 

@@ -5,17 +5,16 @@ use routine::action::Access;
 use routine::action::Action;
 use routine::array::ArrayRecord;
 use routine::header::Header;
+use sets::Set;
 ghost use mathlib.Core.Path.{_≡_};
 ghost use mathlib.Core.Bool.{cond, not, _&&_};
 ghost use Prim.Native.Nat.{_<_};
-ghost use Rattle.labels.specs.Events.{event, versionOf, versionSet, everyVersion};
+ghost use Rattle.labels.specs.Events.{event, versionOf, versionSet};
 ghost use Rattle.labels.specs.Routines.{OfArray};
 ghost use Rattle.labels.specs.Uses.{isN, useGives, passesBy};
 ghost use Rattle.routine.specs.Actions.{isRemap};
 ghost use Rattle.routine.specs.Layout.{vertices};
-
-// Every version.
-const EVERY: u16 = 0xffff;
+ghost use Rattle.sets.specs.Sets.{everyVersion, width};
 
 // What vertex v does with array a, whose record is r.
 pub fn at(file: &[u8], h: Header, r: ArrayRecord, a: usize, v: usize) -> Action
@@ -68,7 +67,7 @@ pub fn version_of(x: Action) -> u8
 }
 
 // The set, or the empty set.
-pub fn set_if(given: bool, set: u16) -> u16
+pub fn set_if(given: bool, set: Set) -> Set
     ensures { λ r. ⌜ r ≡ cond given set 0 ⌝ }
 {
     if given {
@@ -78,22 +77,22 @@ pub fn set_if(given: bool, set: u16) -> u16
 }
 
 // A label's version as a set, or the empty set.
-pub fn version_set(x: Action) -> u16
-    requires { ⌜ versionOf x < 16 ⌝ }
+pub fn version_set(x: Action) -> Set
+    requires { ⌜ versionOf x < width ⌝ }
     ensures { λ r. ⌜ r ≡ versionSet x ⌝ }
 {
     set_if(is_label(x), sets::single(version_of(x)))
 }
 
 // Every version, or none.
-pub fn every_if(pass: bool) -> u16
+pub fn every_if(pass: bool) -> Set
     ensures { λ r. ⌜ r ≡ cond pass everyVersion 0 ⌝ }
 {
-    set_if(pass, EVERY)
+    set_if(pass, sets::EVERY)
 }
 
 // What an event gives to the sets of use.
-pub fn gives_of(x: Action) -> u16
+pub fn gives_of(x: Action) -> Set
     ensures { λ r. ⌜ r ≡ useGives x ⌝ }
 {
     match x {
@@ -109,7 +108,7 @@ pub fn gives_of(x: Action) -> u16
 }
 
 // What an event that gives this passes of the sets of use: a label nothing, a define all but bit 1.
-pub fn passes_by(gives: u16) -> u16
+pub fn passes_by(gives: Set) -> Set
     ensures { λ r. ⌜ r ≡ passesBy gives ⌝ }
 {
     if gives == 0b0010 {

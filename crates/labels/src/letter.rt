@@ -1,6 +1,7 @@
 // The letter of a label: from its set of use, or at the exit; and tests of its byte (document 01, "Labels").
 use crate::Use;
 use routine::array::ArrayRecord;
+use sets::Set;
 ghost use mathlib.Core.Path.{_≡_};
 ghost use mathlib.Core.Bool.{not};
 ghost use Rattle.labels.specs.Kept.{isNOrR};
@@ -8,7 +9,7 @@ ghost use Rattle.labels.specs.Letters.{useOfByte};
 ghost use Rattle.labels.specs.Uses.{letterOf, exitUse, isN};
 
 // The letter that a set of use says.
-pub fn of_set(set: u16) -> Use
+pub fn of_set(set: Set) -> Use
     ensures { λ r. ⌜ r ≡ letterOf set ⌝ }
 {
     let reference = sets::member(set, 0);

@@ -13,9 +13,9 @@ use lib.Pow.{pow-pos}
 use Rattle.routine.specs.Layout.{arrays, vertices, entry, exit}
 use Rattle.routine.specs.Reader.{WellFormed}
 use Rattle.routine.specs.declared.action.Action.{Action}
-use Rattle.sets.specs.Sets.{has}
+use Rattle.sets.specs.Sets.{has, everyVersion}
 use Rattle.words.specs.Tables.{table, withRow}
-use Rattle.labels.specs.Events.{everyVersion, event, isLabel, versionOf, version}
+use Rattle.labels.specs.Events.{event, isLabel, versionOf, version}
 use Rattle.routine.specs.Arrays.{kind, initial, isInOrInout}
 use Rattle.labels.specs.Kept.{isNOrR, passesKept, leavingSet, keptSets, keptOf}
 use Rattle.labels.specs.Letters.{letterByte, useOfByte}

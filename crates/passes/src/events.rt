@@ -4,6 +4,7 @@ use labels::event;
 use routine::action;
 use routine::array;
 use routine::header::Header;
+use sets::Set;
 ghost use mathlib.Core.Path.{_≡_};
 ghost use Prim.Native.Nat.{_*_, _<_};
 ghost use lib.ListN.{length};
@@ -16,7 +17,7 @@ ghost use Rattle.routine.specs.Layout.{arrays, vertices};
 ghost use Rattle.words.specs.Tables.{withRow};
 
 // The versions of vertex v's remappings, as sets.
-fn versions_row(file: &[u8], h: Header, v: usize, versions: &mut [u16])
+fn versions_row(file: &[u8], h: Header, v: usize, versions: &mut [Set])
     requires { ⌜ ReadAs (now file) h ⌝ }
     requires { ⌜ v < vertices (now file) ⌝ }
     requires { ⌜ length (now versions) ≡ 8 * vertices (now file) ⌝ }
@@ -33,7 +34,7 @@ fn versions_row(file: &[u8], h: Header, v: usize, versions: &mut [u16])
 }
 
 // What vertex v's actions give to the sets of use.
-fn uses_row(file: &[u8], h: Header, v: usize, uses: &mut [u16])
+fn uses_row(file: &[u8], h: Header, v: usize, uses: &mut [Set])
     requires { ⌜ ReadAs (now file) h ⌝ }
     requires { ⌜ v < vertices (now file) ⌝ }
     requires { ⌜ length (now uses) ≡ 8 * vertices (now file) ⌝ }
@@ -50,7 +51,7 @@ fn uses_row(file: &[u8], h: Header, v: usize, uses: &mut [u16])
 }
 
 // Both rows of vertex v, by its events.
-fn event_rows(file: &[u8], h: Header, v: usize, versions: &mut [u16], uses: &mut [u16])
+fn event_rows(file: &[u8], h: Header, v: usize, versions: &mut [Set], uses: &mut [Set])
     requires { ⌜ ReadAs (now file) h ⌝ }
     requires { ⌜ v < vertices (now file) ⌝ }
     requires { ⌜ length (now versions) ≡ 8 * vertices (now file) ⌝ }
@@ -72,7 +73,7 @@ fn event_rows(file: &[u8], h: Header, v: usize, versions: &mut [u16], uses: &mut
 }
 
 // All rows, by the actions. A loop of its own for each table and row is faster than one that asks at each cell which vertex it is of.
-fn action_rows(file: &[u8], h: Header, versions: &mut [u16], uses: &mut [u16])
+fn action_rows(file: &[u8], h: Header, versions: &mut [Set], uses: &mut [Set])
     requires { ⌜ ReadAs (now file) h ⌝ }
     requires { ⌜ length (now versions) ≡ 8 * vertices (now file) ⌝ }
     requires { ⌜ length (now uses) ≡ 8 * vertices (now file) ⌝ }
@@ -89,7 +90,7 @@ fn action_rows(file: &[u8], h: Header, versions: &mut [u16], uses: &mut [u16])
 }
 
 // Fills in both tables.
-pub fn tabulate(file: &[u8], h: Header, versions: &mut [u16], uses: &mut [u16])
+pub fn tabulate(file: &[u8], h: Header, versions: &mut [Set], uses: &mut [Set])
     requires { ⌜ ReadAs (now file) h ⌝ }
     requires { ⌜ length (now versions) ≡ 8 * vertices (now file) ⌝ }
     requires { ⌜ length (now uses) ≡ 8 * vertices (now file) ⌝ }

@@ -1,19 +1,20 @@
 // Kept sets (document 01, "Labels").
 use labels::event;
 use labels::letter;
+use sets::Set;
 ghost use mathlib.Core.Path.{_≡_};
 ghost use mathlib.Core.Bool.{cond, not, _||_};
 ghost use lib.Bits.{bitOr};
 ghost use lib.Dec.{eqb};
 ghost use lib.ListN.{length, getD};
-ghost use Rattle.labels.specs.Events.{everyVersion};
 ghost use Rattle.labels.specs.Kept.{isNOrR};
 ghost use Rattle.labels.specs.Letters.{useOfByte};
 ghost use Rattle.labels.specs.Uses.{isN};
 ghost use Rattle.words.specs.Tables.{table};
+ghost use Rattle.sets.specs.Sets.{everyVersion};
 
 // The tables of the pass: a kept label gives its version; no label, or one that is N or R, passes every version.
-pub fn fill(versions: &[u16], letters: &[u8], gives: &mut [u16], passes: &mut [u16])
+pub fn fill(versions: &[Set], letters: &[u8], gives: &mut [Set], passes: &mut [Set])
     requires { ⌜ length (now letters) ≡ length (now versions) ⌝ }
     requires { ⌜ length (now gives) ≡ length (now versions) ⌝ }
     requires { ⌜ length (now passes) ≡ length (now versions) ⌝ }
@@ -35,7 +36,7 @@ pub fn fill(versions: &[u16], letters: &[u8], gives: &mut [u16], passes: &mut [u
 }
 
 // Joins the leaving sets.
-pub fn join(letters: &[u8], leaving: &[u16], sets: &mut [u16])
+pub fn join(letters: &[u8], leaving: &[Set], sets: &mut [Set])
     requires { ⌜ length (now letters) ≡ length (now sets) ⌝ }
     requires { ⌜ length (now leaving) ≡ length (now sets) ⌝ }
     ensures { λ _. ⌜ now (sets .exit)

@@ -1,5 +1,6 @@
 // One pass of the solver over the edges of a routine, for all arrays.
 use routine::header::Header;
+use sets::Set;
 ghost use mathlib.Core.Path.{_≡_};
 ghost use Prim.Native.Nat.{_*_};
 ghost use lib.ListN.{length};
@@ -41,9 +42,9 @@ pub fn solve(
     h: Header,
     order: &[u16],
     along: bool,
-    gives: &[u16],
-    passes: &[u16],
-    sets: &mut [u16],
+    gives: &[Set],
+    passes: &[Set],
+    sets: &mut [Set],
 ) -> usize
     requires { ⌜ ReadAs (now file) h ⌝ }
     requires { ⌜ EdgeOrder (now file) (now order) ⌝ }

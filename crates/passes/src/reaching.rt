@@ -3,12 +3,12 @@ use labels::event;
 use labels::letter;
 use routine::array;
 use routine::header::Header;
+use sets::Set;
 ghost use mathlib.Core.Path.{_≡_};
 ghost use mathlib.Core.Bool.{cond, not, _||_};
 ghost use Prim.Native.Nat.{_≤_, _<_, _^_};
 ghost use lib.Dec.{eqb, ltb};
 ghost use lib.ListN.{length, getD};
-ghost use Rattle.labels.specs.Events.{everyVersion};
 ghost use Rattle.routine.specs.Arrays.{kind, initial, isInOrInout};
 ghost use Rattle.labels.specs.Letters.{useOfByte};
 ghost use Rattle.labels.specs.Reaching.{reachingOf};
@@ -17,9 +17,10 @@ ghost use Rattle.passes.specs.Tables.{reachedCell};
 ghost use Rattle.labels.specs.Uses.{isN};
 ghost use Rattle.routine.specs.Layout.{arrays, entry};
 ghost use Rattle.words.specs.Tables.{table, withRow};
+ghost use Rattle.sets.specs.Sets.{everyVersion};
 
 // The tables of the pass that finds the vertices which a path from the entry reaches.
-pub fn fill_reached(gives: &mut [u16], passes: &mut [u16])
+pub fn fill_reached(gives: &mut [Set], passes: &mut [Set])
     requires { ⌜ length (now passes) ≡ length (now gives) ⌝ }
     ensures { λ _. ⌜ now (gives .exit) ≡ table (λ i. cond (ltb i 8) 1 0) (length (now (gives .entry))) ⌝ }
     ensures { λ _. ⌜ now (passes .exit) ≡ table (λ i. 1) (length (now (gives .entry))) ⌝ }
@@ -34,7 +35,7 @@ pub fn fill_reached(gives: &mut [u16], passes: &mut [u16])
 }
 
 // Whether a cell is the entry's, or its set says that a path from the entry reaches it.
-pub fn is_reached(i: usize, set: u16) -> bool
+pub fn is_reached(i: usize, set: Set) -> bool
     ensures { λ r. ⌜ r ≡ reachedCell i set ⌝ }
 {
     (i < flow::COLUMNS) | (set % 2 == 1)
@@ -42,11 +43,11 @@ pub fn is_reached(i: usize, set: u16) -> bool
 
 // The tables of the pass: a kept label that is reached gives its version, and what is no kept label passes every version.
 pub fn fill(
-    versions: &[u16],
-    reached: &[u16],
+    versions: &[Set],
+    reached: &[Set],
     letters: &[u8],
-    gives: &mut [u16],
-    passes: &mut [u16],
+    gives: &mut [Set],
+    passes: &mut [Set],
 )
     requires { ⌜ length (now reached) ≡ length (now versions) ⌝ }
     requires { ⌜ length (now letters) ≡ length (now versions) ⌝ }
@@ -70,7 +71,7 @@ pub fn fill(
 }
 
 // The entry's row of what is given: the initial version of an array that comes with it, or whose entry label is kept.
-pub fn enter_gives(file: &[u8], h: Header, letters: &[u8], gives: &mut [u16])
+pub fn enter_gives(file: &[u8], h: Header, letters: &[u8], gives: &mut [Set])
     requires { ⌜ ReadAs (now file) h ⌝ }
     requires { ⌜ 8 ≤ length (now letters) ⌝ }
     requires { ⌜ 8 ≤ length (now gives) ⌝ }
@@ -90,7 +91,7 @@ pub fn enter_gives(file: &[u8], h: Header, letters: &[u8], gives: &mut [u16])
 }
 
 // The entry's own set: what the path of no edge brings.
-fn at_entry(file: &[u8], h: Header, a: usize) -> u16
+fn at_entry(file: &[u8], h: Header, a: usize) -> Set
     requires { ⌜ ReadAs (now file) h ⌝ }
     requires { ⌜ a < arrays (now file) ⌝ }
     ensures { λ r. ⌜ r ≡ reachingOf (now (file .entry)) a entry ⌝ }
@@ -100,7 +101,7 @@ fn at_entry(file: &[u8], h: Header, a: usize) -> u16
 }
 
 // The entry's row of the reaching sets.
-pub fn enter(file: &[u8], h: Header, sets: &mut [u16])
+pub fn enter(file: &[u8], h: Header, sets: &mut [Set])
     requires { ⌜ ReadAs (now file) h ⌝ }
     requires { ⌜ 8 ≤ length (now sets) ⌝ }
     ensures { λ _. ⌜ now (sets .exit) ≡ withRow (now (sets .entry)) entry (λ a. reachingOf (now (file .entry)) a entry) (arrays (now (file .entry))) ⌝ }

@@ -4,6 +4,7 @@ use crate::pass;
 use crate::reaching;
 use crate::uses;
 use routine::header::Header;
+use sets::Set;
 ghost use mathlib.Core.Path.{_≡_};
 ghost use mathlib.Core.Bool.{true};
 ghost use Prim.Native.Nat.{_*_};
@@ -21,9 +22,9 @@ fn reached(
     file: &[u8],
     h: Header,
     order: &[u16],
-    sets: &mut [u16],
-    gives: &mut [u16],
-    passes: &mut [u16],
+    sets: &mut [Set],
+    gives: &mut [Set],
+    passes: &mut [Set],
 )
     requires { ⌜ ReadAs (now file) h ⌝ }
     requires { ⌜ EdgeOrder (now file) (now order) ⌝ }
@@ -41,10 +42,10 @@ pub fn letters(
     file: &[u8],
     h: Header,
     order: &[u16],
-    uses: &[u16],
+    uses: &[Set],
     letters: &mut [u8],
-    sets: &mut [u16],
-    passes: &mut [u16],
+    sets: &mut [Set],
+    passes: &mut [Set],
 ) -> usize
     requires { ⌜ ReadAs (now file) h ⌝ }
     requires { ⌜ EdgeOrder (now file) (now order) ⌝ }
@@ -68,11 +69,11 @@ pub fn reaching(
     file: &[u8],
     h: Header,
     order: &[u16],
-    versions: &[u16],
+    versions: &[Set],
     letters: &[u8],
-    sets: &mut [u16],
-    gives: &mut [u16],
-    passes: &mut [u16],
+    sets: &mut [Set],
+    gives: &mut [Set],
+    passes: &mut [Set],
 )
     requires { ⌜ ReadAs (now file) h ⌝ }
     requires { ⌜ EdgeOrder (now file) (now order) ⌝ }
@@ -95,11 +96,11 @@ pub fn kept(
     file: &[u8],
     h: Header,
     order: &[u16],
-    versions: &[u16],
+    versions: &[Set],
     letters: &[u8],
-    sets: &mut [u16],
-    gives: &mut [u16],
-    passes: &mut [u16],
+    sets: &mut [Set],
+    gives: &mut [Set],
+    passes: &mut [Set],
 )
     requires { ⌜ ReadAs (now file) h ⌝ }
     requires { ⌜ EdgeOrder (now file) (now order) ⌝ }

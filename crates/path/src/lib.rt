@@ -5,7 +5,8 @@ use routine::edge;
 use routine::edge::Edge;
 use routine::header::Header;
 ghost use mathlib.Core.Path.{_≡_};
-ghost use Prim.Native.Nat.{_+_, _<_};
+ghost use Prim.Native.Nat.{_+_, _<_, _^_};
+ghost use Rattle.sets.specs.Sets.{has};
 ghost use lib.ListN.{length, replicate};
 ghost use Rattle.labels.specs.Routines.{ReadAs};
 ghost use Rattle.routine.specs.Layout.{edges};
@@ -34,6 +35,22 @@ pub fn vertex(path: &[u8], i: usize) -> usize
 // Words of the table of edges.
 const WORDS: usize = 4096;
 
+// The word with bit k alone.
+fn bit(k: u8) -> u16
+    requires { ⌜ k < 16 ⌝ }
+    ensures { λ r. ⌜ r ≡ 2 ^ k ⌝ }
+{
+    1 << k
+}
+
+// Whether a word has bit k.
+fn has_bit(word: u16, k: u8) -> bool
+    requires { ⌜ k < 16 ⌝ }
+    ensures { λ r. ⌜ r ≡ has word k ⌝ }
+{
+    (word >> k) & 1 == 1
+}
+
 // Puts an edge into the table.
 fn put_edge(table: &mut [u16], e: Edge)
     requires { ⌜ length (now table) ≡ 4096 ⌝ }
@@ -41,7 +58,7 @@ fn put_edge(table: &mut [u16], e: Edge)
     ensures { λ _. ⌜ now (table .exit) ≡ withEdge (now (table .entry)) e ⌝ }
 {
     let at = 16 * e.from + e.to / 16;
-    table[at] = table[at] | sets::single((e.to % 16) as u8);
+    table[at] = table[at] | bit((e.to % 16) as u8);
 }
 
 // Puts every edge into an empty table.
@@ -70,7 +87,7 @@ fn has_edge(table: &[u16], v: usize, w: usize) -> bool
         return false;
     }
     let at = 16 * v + w / 16;
-    sets::member(table[at], (w % 16) as u8)
+    has_bit(table[at], (w % 16) as u8)
 }
 
 // Refusal 30.

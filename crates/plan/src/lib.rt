@@ -5,6 +5,7 @@ use refusal::Reply;
 use routine::header::Header;
 use routine::reader;
 use routine::reader::Answer;
+use sets::Set;
 ghost use mathlib.Core.Path.{_≡_};
 ghost use Prim.Native.Nat.{_*_, _≤_};
 ghost use lib.ListN.{length};
@@ -18,13 +19,13 @@ fn plan_with(
     h: Header,
     out: &mut [u8],
     order: &mut [u16],
-    versions: &mut [u16],
-    uses: &mut [u16],
+    versions: &mut [Set],
+    uses: &mut [Set],
     letters: &mut [u8],
-    reaching: &mut [u16],
-    kept: &mut [u16],
-    gives: &mut [u16],
-    passes: &mut [u16],
+    reaching: &mut [Set],
+    kept: &mut [Set],
+    gives: &mut [Set],
+    passes: &mut [Set],
 ) -> Reply
     requires { ⌜ ReadAs (now file) h ⌝ }
     requires { ⌜ length (now order) ≡ edges (now file) ⌝ }
@@ -64,13 +65,13 @@ fn plan_within(
     h: Header,
     out: &mut [u8],
     order: &mut [u16],
-    versions: &mut [u16],
-    uses: &mut [u16],
+    versions: &mut [Set],
+    uses: &mut [Set],
     letters: &mut [u8],
-    reaching: &mut [u16],
-    kept: &mut [u16],
-    gives: &mut [u16],
-    passes: &mut [u16],
+    reaching: &mut [Set],
+    kept: &mut [Set],
+    gives: &mut [Set],
+    passes: &mut [Set],
 ) -> Reply
     requires { ⌜ ReadAs (now file) h ⌝ }
     requires { ⌜ edges (now file) ≤ length (now order) ⌝ }
@@ -106,13 +107,13 @@ fn plan_large(file: &[u8], h: Header, out: &mut [u8]) -> Reply
     ensures { λ r. ⌜ PlannedRead (now (file .entry)) (now (out .entry)) r (now (out .exit)) ⌝ }
 {
     let mut order = [0u16; 1024];
-    let mut versions = [0u16; 2048];
-    let mut uses = [0u16; 2048];
+    let mut versions = [0 as Set; 2048];
+    let mut uses = [0 as Set; 2048];
     let mut letters = [0u8; 2048];
-    let mut reaching = [0u16; 2048];
-    let mut kept = [0u16; 2048];
-    let mut gives = [0u16; 2048];
-    let mut passes = [0u16; 2048];
+    let mut reaching = [0 as Set; 2048];
+    let mut kept = [0 as Set; 2048];
+    let mut gives = [0 as Set; 2048];
+    let mut passes = [0 as Set; 2048];
     plan_within(
         file,
         h,
@@ -135,13 +136,13 @@ fn plan_small(file: &[u8], h: Header, out: &mut [u8]) -> Reply
     ensures { λ r. ⌜ PlannedRead (now (file .entry)) (now (out .entry)) r (now (out .exit)) ⌝ }
 {
     let mut order = [0u16; 128];
-    let mut versions = [0u16; 256];
-    let mut uses = [0u16; 256];
+    let mut versions = [0 as Set; 256];
+    let mut uses = [0 as Set; 256];
     let mut letters = [0u8; 256];
-    let mut reaching = [0u16; 256];
-    let mut kept = [0u16; 256];
-    let mut gives = [0u16; 256];
-    let mut passes = [0u16; 256];
+    let mut reaching = [0 as Set; 256];
+    let mut kept = [0 as Set; 256];
+    let mut gives = [0 as Set; 256];
+    let mut passes = [0 as Set; 256];
     plan_within(
         file,
         h,

@@ -1,6 +1,7 @@
 // The plan's contents: for each vertex the index of its first label and how many (document 01, "Plan and report").
 use crate::label::Label;
 use routine::header::Header;
+use sets::Set;
 ghost use mathlib.Core.Path.{_≡_};
 ghost use mathlib.Core.Bool.{cond};
 ghost use mathlib.Core.List.{_++_};
@@ -21,7 +22,7 @@ pub const ENTRY: usize = 4;
 pub const HEAD: usize = 8;
 
 // 1 where a cell that counts has a version, else 0.
-fn label_at(versions: &[u16], at: usize, counts: bool) -> usize
+fn label_at(versions: &[Set], at: usize, counts: bool) -> usize
     requires { ⌜ at < length (now versions) ⌝ }
     ensures { λ r. ⌜ r ≡ cond (eqb (getD (now (versions .entry)) at 0) 0) 0 (cond counts 1 0) ⌝ }
 {
@@ -36,7 +37,7 @@ fn label_at(versions: &[u16], at: usize, counts: bool) -> usize
 
 // How many labels vertex v has. It looks at all eight cells, so that the compiler makes one vector of them; those of columns beyond
 // the last array do not count.
-fn labels_at(file: &[u8], h: Header, v: usize, versions: &[u16]) -> usize
+fn labels_at(file: &[u8], h: Header, v: usize, versions: &[Set]) -> usize
     requires { ⌜ ReadAs (now file) h ⌝ }
     requires { ⌜ Versions (now file) (now versions) ⌝ }
     requires { ⌜ v < vertices (now file) ⌝ }
@@ -54,7 +55,7 @@ fn labels_at(file: &[u8], h: Header, v: usize, versions: &[u16]) -> usize
 }
 
 // How many labels the routine has. Fills in the index of each vertex's first label, and behind the last vertex their number.
-pub fn label_count(file: &[u8], h: Header, versions: &[u16], firsts: &mut [u16]) -> usize
+pub fn label_count(file: &[u8], h: Header, versions: &[Set], firsts: &mut [u16]) -> usize
     requires { ⌜ ReadAs (now file) h ⌝ }
     requires { ⌜ Versions (now file) (now versions) ⌝ }
     requires { ⌜ length (now firsts) ≡ 8 * vertices (now file) ⌝ }

@@ -1,4 +1,5 @@
 // One label of the plan: eight bytes (document 01, "Plan and report").
+use sets::Set;
 ghost use mathlib.Core.Path.{_≡_};
 ghost use mathlib.Core.List.{_++_};
 ghost use Prim.Native.Nat.{_≤_};
@@ -10,8 +11,8 @@ pub struct Label {
     pub letter: u8,
     // 255 for none
     pub leaving: u8,
-    pub reaching: u16,
-    pub kept: u16,
+    pub reaching: Set,
+    pub kept: Set,
 }
 
 impl Label {

@@ -4,6 +4,7 @@ use crate::label;
 use crate::label::Label;
 use labels::letter;
 use routine::header::Header;
+use sets::Set;
 ghost use mathlib.Core.Path.{_≡_};
 ghost use mathlib.Core.Bool.{true};
 ghost use Prim.Native.Nat.{ℕ, _+_, _*_, _≤_, _<_};
@@ -32,7 +33,7 @@ fn write_head(out: &mut [u8], vertices: usize, labels: usize)
 }
 
 // The leaving version of a label whose version is this set, 255 for none.
-fn leaving(version: u16, letter: u8) -> u8
+fn leaving(version: Set, letter: u8) -> u8
     requires { ⌜ 0 < version ⌝ }
     ensures { λ r. ⌜ Leaving version letter r ⌝ }
 {
@@ -49,10 +50,10 @@ fn write_label(
     h: Header,
     v: usize,
     a: usize,
-    versions: &[u16],
+    versions: &[Set],
     letters: &[u8],
-    reaching: &[u16],
-    kept: &[u16],
+    reaching: &[Set],
+    kept: &[Set],
     out: &mut [u8],
 ) -> usize
     requires { ⌜ ReadAs (now file) h ⌝ }
@@ -81,11 +82,11 @@ fn write_label(
 }
 
 // Whether no cell of vertex v has a version. One test for all eight.
-fn is_unlabelled(versions: &[u16], v: usize) -> bool
+fn is_unlabelled(versions: &[Set], v: usize) -> bool
     requires { ⌜ 8 * v + 8 ≤ length (now versions) ⌝ }
     ensures { λ r. ⌜ (r ≡ true → (a : ℕ) → a < 8 → getD (now (versions .entry)) (8 * v + a) 0 ≡ 0) ⌝ }
 {
-    let mut all: u16 = 0;
+    let mut all: Set = 0;
     let mut a: usize = 0;
     while a < flow::COLUMNS {
         all = all | versions[flow::COLUMNS * v + a];
@@ -99,10 +100,10 @@ fn write_row(
     file: &[u8],
     h: Header,
     v: usize,
-    versions: &[u16],
+    versions: &[Set],
     letters: &[u8],
-    reaching: &[u16],
-    kept: &[u16],
+    reaching: &[Set],
+    kept: &[Set],
     out: &mut [u8],
 ) -> usize
     requires { ⌜ ReadAs (now file) h ⌝ }
@@ -139,10 +140,10 @@ fn write_row(
 fn write_labels(
     file: &[u8],
     h: Header,
-    versions: &[u16],
+    versions: &[Set],
     letters: &[u8],
-    reaching: &[u16],
-    kept: &[u16],
+    reaching: &[Set],
+    kept: &[Set],
     out: &mut [u8],
 )
     requires { ⌜ ReadAs (now file) h ⌝ }
@@ -172,10 +173,10 @@ fn write_labels(
 pub fn write(
     file: &[u8],
     h: Header,
-    versions: &[u16],
+    versions: &[Set],
     letters: &[u8],
-    reaching: &[u16],
-    kept: &[u16],
+    reaching: &[Set],
+    kept: &[Set],
     firsts: &[u16],
     out: &mut [u8],
 )

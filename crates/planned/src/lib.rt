@@ -4,6 +4,7 @@ use refusal::Refusal;
 use refusal::Reply;
 use refusal::Verdict;
 use routine::header::Header;
+use sets::Set;
 ghost use mathlib.Core.Path.{_≡_};
 ghost use Prim.Native.Nat.{_*_};
 ghost use lib.ListN.{length};
@@ -19,7 +20,7 @@ pub fn reply(
     h: Header,
     size: usize,
     checked: Verdict,
-    versions: &[u16],
+    versions: &[Set],
     firsts: &mut [u16],
 ) -> Reply
     requires { ⌜ ReadAs (now file) h ⌝ }

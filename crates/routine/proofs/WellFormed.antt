@@ -20,11 +20,12 @@ use Rattle.routine.specs.Edges.{edgeOf, before, rises, edgeCheck}
 use Rattle.routine.specs.Layout.{arrays, vertices, edges}
 use Rattle.routine.specs.Reader.{WellFormed}
 use Rattle.refusal.proofs.Checks.{parts, each-passed}
+use Rattle.sets.specs.Sets.{width}
 
 pub record ArrayLimits (r : ArrayRecord) : Type 0 where
   pub kind-known : r .kind ≤ 3
   pub some-version : 1 ≤ r .versions
-  pub few-versions : r .versions ≤ 16
+  pub few-versions : r .versions ≤ width
   pub initial-below : r .initial < r .versions
   pub last-zero : r .zero ≡ 0
 

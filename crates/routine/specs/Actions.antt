@@ -2,7 +2,7 @@
 -- Assumes nothing.
 use mathlib.Core.Bool.{Bool, true, false, not, _&&_, _||_, cond}
 use mathlib.Core.List.{List}
-use Prim.Native.Nat.{ℕ, _-_}
+use Prim.Native.Nat.{ℕ, _+_, _-_}
 use lib.Dec.{eqb, ltb}
 use lib.ListN.{getD}
 use Rattle.routine.specs.declared.action.Access.the-variants.{Read, Define, Modify}
@@ -13,6 +13,7 @@ use Rattle.refusal.specs.declared.Verdict.{Verdict}
 use Rattle.routine.specs.Arrays.{arrayOf}
 use Rattle.refusal.specs.Checks.{_andThen_, holds, firstFailed}
 use Rattle.routine.specs.Layout.{arrays, vertices, entry, exit, actionAt}
+use Rattle.sets.specs.Sets.{width}
 
 -- 00 nothing, 10 read, 20 define, 30 modify, 40+k remap to version k, k below 16; every other byte is unknown
 unfoldable pub actionOf : ℕ → Action
@@ -22,7 +23,7 @@ actionOf b =
     (cond (eqb b 0x20) (Reference Define)
     (cond (eqb b 0x30) (Reference Modify)
     (cond (ltb b 0x40) Unknown
-    (cond (ltb b 0x50) (Remap (b - 0x40))
+    (cond (ltb b (0x40 + width)) (Remap (b - 0x40))
     Unknown)))))
 
 -- the byte of vertex v and array a

@@ -10,6 +10,7 @@ use Rattle.refusal.specs.declared.Refusal.the-variants.{WrongArrayByte}
 use Rattle.refusal.specs.declared.Verdict.{Verdict}
 use Rattle.refusal.specs.Checks.{_andThen_, holds, firstFailed}
 use Rattle.routine.specs.Layout.{arrays, recordAt, within}
+use Rattle.sets.specs.Sets.{width}
 
 -- kind, number of versions, initial version, zero
 abbrev pub arrayRecordOf : List ℕ → ArrayRecord
@@ -51,7 +52,7 @@ isOutOrInout kind = eqb kind 2 || eqb kind 3
 abbrev pub recordCheck : ArrayRecord → ℕ → Verdict
 recordCheck r at =
     holds (leb (r .kind) 3) (WrongArrayByte at)
-    andThen holds (within 1 16 (r .versions)) (WrongArrayByte (at + 1))
+    andThen holds (within 1 width (r .versions)) (WrongArrayByte (at + 1))
     andThen holds (ltb (r .initial) (r .versions)) (WrongArrayByte (at + 2))
     andThen holds (eqb (r .zero) 0) (WrongArrayByte (at + 3))
 

@@ -32,7 +32,7 @@ impl ArrayRecord {
 
     pub const MIN_VERSIONS: u8 = 1;
 
-    pub const MAX_VERSIONS: u8 = 16;
+    pub const MAX_VERSIONS: u8 = sets::WIDTH as u8;
 
     pub fn from_bytes(b: [u8; ArrayRecord::SIZE]) -> ArrayRecord
         ensures { λ r. ⌜ r ≡ arrayRecordOf b ⌝ }

@@ -6,6 +6,7 @@ use refusal::Verdict;
 use routine::header::Header;
 use routine::reader;
 use routine::reader::Answer;
+use sets::Set;
 ghost use mathlib.Core.Path.{_≡_};
 ghost use Prim.Native.Nat.{_*_};
 ghost use lib.ListN.{length};
@@ -52,13 +53,13 @@ fn run_with(
     path: &[u8],
     out: &mut [u8],
     order: &mut [u16],
-    versions: &mut [u16],
-    uses: &mut [u16],
+    versions: &mut [Set],
+    uses: &mut [Set],
     letters: &mut [u8],
-    kept: &mut [u16],
+    kept: &mut [Set],
     counts: &mut [u8],
-    gives: &mut [u16],
-    passes: &mut [u16],
+    gives: &mut [Set],
+    passes: &mut [Set],
 ) -> Reply
     requires { ⌜ ReadAs (now file) h ⌝ }
     requires { ⌜ length (now order) ≡ edges (now file) ⌝ }
@@ -89,13 +90,13 @@ fn run_within(
     path: &[u8],
     out: &mut [u8],
     order: &mut [u16],
-    versions: &mut [u16],
-    uses: &mut [u16],
+    versions: &mut [Set],
+    uses: &mut [Set],
     letters: &mut [u8],
-    kept: &mut [u16],
+    kept: &mut [Set],
     counts: &mut [u8],
-    gives: &mut [u16],
-    passes: &mut [u16],
+    gives: &mut [Set],
+    passes: &mut [Set],
 ) -> Reply
     requires { ⌜ ReadAs (now file) h ⌝ }
     requires { ⌜ length (now order) ≡ 1024 ⌝ }
@@ -132,13 +133,13 @@ fn run_read(file: &[u8], h: Header, path: &[u8], out: &mut [u8]) -> Reply
     ensures { λ r. ⌜ RanRead (now (file .entry)) (now (path .entry)) (now (out .entry)) r (now (out .exit)) ⌝ }
 {
     let mut order = [0u16; 1024];
-    let mut versions = [0u16; 2048];
-    let mut uses = [0u16; 2048];
+    let mut versions = [0 as Set; 2048];
+    let mut uses = [0 as Set; 2048];
     let mut letters = [0u8; 2048];
-    let mut kept = [0u16; 2048];
+    let mut kept = [0 as Set; 2048];
     let mut counts = [0u8; 256];
-    let mut gives = [0u16; 2048];
-    let mut passes = [0u16; 2048];
+    let mut gives = [0 as Set; 2048];
+    let mut passes = [0 as Set; 2048];
     run_within(
         file,
         h,

@@ -1,4 +1,4 @@
--- Version sets as masks, bit k for version k. No definition here names a width.
+-- Version sets as masks, bit k for version k. Only `width` and `everyVersion` name a width.
 -- Assumes nothing.
 use mathlib.Core.Path.{_≡_}
 use mathlib.Core.Bool.{Bool, true}
@@ -6,6 +6,14 @@ use Prim.Native.Nat.{ℕ, _-_, _/_, _%_, _^_}
 use lib.Dec.{eqb, ltb}
 use lib.Bits.{bitAnd}
 use lib.Count.{ones}
+
+-- how many versions an array may have, and so the bits of a set
+abbrev pub width : ℕ
+width = 16
+
+-- the set of every version
+abbrev pub everyVersion : ℕ
+everyVersion = 2 ^ width - 1
 
 -- bit k of a mask, 0 or 1
 unfoldable pub bit : ℕ → ℕ → ℕ

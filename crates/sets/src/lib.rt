@@ -1,45 +1,54 @@
 // Version sets: a set of versions is a mask, bit k for version k (document 01, "Labels").
 //
-// The laws of masks are stated once for any width, in `proofs/Laws.antt`; the functions here are those laws at 16 bits.
+// The laws of masks are stated once for any width, in `proofs/Laws.antt`; the functions here are those laws at the width of a set.
 ghost use mathlib.Core.Path.{_≡_};
 ghost use mathlib.Core.Bool.{true};
 ghost use Prim.Native.Nat.{_<_, _^_};
-ghost use Rattle.sets.specs.Sets.{has, minus, several};
+ghost use Rattle.sets.specs.Sets.{width, has, minus, several};
+
+// A version set.
+pub type Set = u16;
+
+// How many versions an array may have, and so the bits of a set.
+pub const WIDTH: usize = 16;
+
+// The set of every version.
+pub const EVERY: Set = 0xffff;
 
 // Whether version k is in the set.
-pub fn member(set: u16, k: u8) -> bool
-    requires { ⌜ k < 16 ⌝ }
+pub fn member(set: Set, k: u8) -> bool
+    requires { ⌜ k < width ⌝ }
     ensures { λ r. ⌜ r ≡ has set k ⌝ }
 {
     (set >> k) & 1 == 1
 }
 
 // The set of version k alone.
-pub fn single(k: u8) -> u16
-    requires { ⌜ k < 16 ⌝ }
+pub fn single(k: u8) -> Set
+    requires { ⌜ k < width ⌝ }
     ensures { λ r. ⌜ r ≡ 2 ^ k ⌝ }
 {
     1 << k
 }
 
 // What is in the first set and not in the second.
-pub fn difference(a: u16, b: u16) -> u16
+pub fn difference(a: Set, b: Set) -> Set
     ensures { λ r. ⌜ r ≡ minus a b ⌝ }
 {
     a & !b
 }
 
 // Whether two different versions are in the set.
-pub fn more_than_one(set: u16) -> bool
+pub fn more_than_one(set: Set) -> bool
     ensures { λ r. ⌜ r ≡ several set ⌝ }
 {
     u16::count_ones(set) > 1
 }
 
 // A version of the set.
-pub fn one_of(set: u16) -> u8
+pub fn one_of(set: Set) -> u8
     requires { ⌜ 0 < set ⌝ }
-    ensures { λ r. ⌜ r < 16 ⌝ }
+    ensures { λ r. ⌜ r < width ⌝ }
     ensures { λ r. ⌜ has set r ≡ true ⌝ }
 {
     u16::trailing_zeros(set) as u8

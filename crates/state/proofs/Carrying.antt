@@ -10,7 +10,7 @@ use borrow.Author.Tests.{eq-eqb}
 use lib.ListN.{length}
 use lib.Seq.{set-set}
 use Rattle.labels.specs.declared.Use.{Use}
-use Rattle.sets.specs.Sets.{has, minus}
+use Rattle.sets.specs.Sets.{has, minus, width}
 use Rattle.sets.proofs.Laws.{has-or, has-minus}
 use Rattle.words.proofs.Tests.{at-cond, by-test}
 use Rattle.state.specs.declared.Carried.{Carried}
@@ -42,7 +42,7 @@ module _ (u : Use) (t : ℕ) (s : State) where
   unfolding shifted
   shifted-is takes copied one count e f g h = simp (e, h, f, g)
 
-  pub shifted-current : Current s → t < 16 → Current (shifted u t s)
+  pub shifted-current : Current s → t < width → Current (shifted u t s)
   unfolding shifted
   shifted-current current below = at-cond Current (moves u t s) (λ _. inl below) (λ _. current)
 
@@ -77,11 +77,11 @@ settled-cleaned own keep x s =
     (λ h.
     settled-at x (cleaned own keep s) h
     ∙ ap (λ (l : List ℕ). record { current = s .current; live = minus (s .live) (dying keep s); stamps = l; copies = s .copies })
-    (sym (cleared-set (minus (dying keep s) own) (s .stamps) (s .current) x 16 (current-stays own keep s h)))
+    (sym (cleared-set (minus (dying keep s) own) (s .stamps) (s .current) x width (current-stays own keep s h)))
     ∙ ap (cleaned own keep) (sym (settled-at x s h)))
     (λ h. settled-none x (cleaned own keep s) h ∙ ap (cleaned own keep) (sym (settled-none x s h)))
 
-module _ (u : Use) (t stamp : ℕ) (s : State) (below : t < 16) (current : Current (settled stamp s)) (sixteen : length (settled stamp s .stamps) ≡ 16) where
+module _ (u : Use) (t stamp : ℕ) (s : State) (below : t < width) (current : Current (settled stamp s)) (wide : length (settled stamp s .stamps) ≡ width) where
   abbrev w : State
   w = settled stamp s
 
@@ -89,7 +89,7 @@ module _ (u : Use) (t stamp : ℕ) (s : State) (below : t < 16) (current : Curre
   unfolding copiesStamp
   target-same =
       by-test (copiesStamp u t w)
-      (λ h. rw h (sym (seen-is stamp s sixteen (copied-below u t w current h))))
+      (λ h. rw h (sym (seen-is stamp s wide (copied-below u t w current h))))
       (λ h. rw h)
 
   -- the move, and then the target's stamp
@@ -107,9 +107,9 @@ module _ (u : Use) (t stamp : ℕ) (s : State) (below : t < 16) (current : Curre
       ∙ ap (λ (b : Bool). cond b (stamped (targetStamp u t (stampOf w (w .current)) w) (takenUp u t w)) w) (sym m))
 
 -- a label, from what the code has
-pub carried-on : (own keep : ℕ) (u : Use) (t : ℕ) (c : Carried) {u' : Use} {s m n : State} {stamp : ℕ} → t < 16 → Ready (whole c) → u' ≡ u → s ≡ whole c
+pub carried-on : (own keep : ℕ) (u : Use) (t : ℕ) (c : Carried) {u' : Use} {s m n : State} {stamp : ℕ} → t < width → Ready (whole c) → u' ≡ u → s ≡ whole c
     → stamp ≡ stampBeside u' t (c .stamp) s → m ≡ shifted u' t s → n ≡ cleaned own keep m → settled stamp n ≡ cleaned own keep (moved u t (whole c))
 carried-on own keep u t c below ready e f g h k =
     ap₂ settled (g ∙ ap₂ (λ (u : Use) (s : State). stampBeside u t (c .stamp) s) e f) (k ∙ ap (cleaned own keep) (h ∙ ap₂ (λ (u : Use) (s : State). shifted u t s) e f))
     ∙ settled-cleaned own keep (stampBeside u t (c .stamp) (whole c)) (shifted u t (whole c))
-    ∙ ap (cleaned own keep) (moved-whole u t (c .stamp) (c .state) below (ready .current) (ready .sixteen))
+    ∙ ap (cleaned own keep) (moved-whole u t (c .stamp) (c .state) below (ready .current) (ready .wide))

@@ -24,6 +24,7 @@ use Rattle.state.specs.States.{hasCurrent, stampOf, Current}
 use Rattle.state.specs.Vertex.{labelled, visited, relabelled}
 use Rattle.words.proofs.Tests.{at-cond, by-test}
 use Rattle.state.proofs.States.{below-current, current-as}
+use Rattle.sets.specs.Sets.{width}
 
 module _ (stamp : ℕ) (s : State) where
   -- the other fields stay
@@ -45,7 +46,7 @@ settled-own s =
 
 -- ---- at a reference
 
-module _ (stamp : ℕ) (s : State) (sixteen : length (settled stamp s .stamps) ≡ 16) (below : settled stamp s .current < 16) where
+module _ (stamp : ℕ) (s : State) (wide : length (settled stamp s .stamps) ≡ width) (below : settled stamp s .current < width) where
   has-one : hasCurrent s ≡ true
   has-one = below-current s (omega (arith, settled-current stamp s))
 
@@ -71,13 +72,13 @@ module _ (stamp : ℕ) (s : State) (sixteen : length (settled stamp s .stamps) �
 
 module _ (r : ArrayRecord) (u : Use) (keep step stamp : ℕ) (s : State) where
   -- references first, then labels
-  pub visited-is : (x : Action) → length (settled stamp s .stamps) ≡ 16 → (T (isReference x) → settled stamp s .current < 16)
+  pub visited-is : (x : Action) → length (settled stamp s .stamps) ≡ width → (T (isReference x) → settled stamp s .current < width)
       → relabelled r x u keep (settled (stampBy x step stamp) s) ≡ visited r x u keep step (settled stamp s)
   unfolding labelled referenced
-  visited-is Nothing sixteen below = refl
-  visited-is (Reference x) sixteen below = referenced-is stamp s sixteen (below tt) x step
-  visited-is (Remap t) sixteen below = refl
-  visited-is Unknown sixteen below = refl
+  visited-is Nothing wide below = refl
+  visited-is (Reference x) wide below = referenced-is stamp s wide (below tt) x step
+  visited-is (Remap t) wide below = refl
+  visited-is Unknown wide below = refl
 
 module _ (r : ArrayRecord) (u : Use) (keep : ℕ) (s : State) where
   -- without a label nothing changes

@@ -17,7 +17,7 @@ use Rattle.routine.specs.declared.action.Access.the-variants.{Read, Define, Mod
 use Rattle.routine.specs.declared.action.Action.{Action}
 use Rattle.routine.specs.declared.action.Action.the-variants.{Nothing, Reference, Remap, Unknown}
 use Rattle.routine.specs.declared.array.ArrayRecord.{ArrayRecord}
-use Rattle.sets.specs.Sets.{has, minus}
+use Rattle.sets.specs.Sets.{has, minus, width}
 use Rattle.state.specs.declared.State.{State}
 use Rattle.state.specs.Fits.{Stamps, Fits}
 use Rattle.state.specs.Stamps.{stampAfter}
@@ -34,10 +34,10 @@ use Rattle.words.proofs.Tests.{at-cond}
 -- ---- lists of stamps
 
 set-stamps : (l : List ℕ) (i x : ℕ) → Stamps l → x ≤ 65535 → Stamps (set l i x)
-set-stamps l i x h g = record { sixteen = length-set l i x ∙ h .sixteen; small = λ k. at-set (λ _ y. y ≤ 65535) l i x k g (h .small k) }
+set-stamps l i x h g = record { wide = length-set l i x ∙ h .wide; small = λ k. at-set (λ _ y. y ≤ 65535) l i x k g (h .small k) }
 
-zeros : Stamps (replicate 16 0)
-zeros = record { sixteen = refl; small = λ k. rw zeros-at (lit≤ tt) }
+zeros : Stamps (replicate width 0)
+zeros = record { wide = refl; small = λ k. rw zeros-at (lit≤ tt) }
 
 cleared-stamps : (dead : ℕ) (l : List ℕ) (n : ℕ) → Stamps l → Stamps (cleared dead l n)
 unfolding cleared
@@ -51,10 +51,10 @@ cleared-stamps dead l (suc n) h =
 emptied-fits : (copies n : ℕ) → copies ≤ n → Fits (emptied copies) n
 emptied-fits copies n h = record { current = inr refl; live = lit< tt; stamps = zeros; copies = h }
 
-pub started-fits : (r : ArrayRecord) → r .initial < 16 → Fits (started r) 0
+pub started-fits : (r : ArrayRecord) → r .initial < width → Fits (started r) 0
 started-fits r h =
     at-cond (λ (s : State). Fits s 0) (isInOrInout (r .kind))
-    (λ _. record { current = inl h; live = pow-lt h; stamps = set-stamps (replicate 16 0) (r .initial) 65535 zeros (lit≤ tt); copies = lit≤ tt })
+    (λ _. record { current = inl h; live = pow-lt h; stamps = set-stamps (replicate width 0) (r .initial) 65535 zeros (lit≤ tt); copies = lit≤ tt })
     (λ _. emptied-fits 0 0 (lit≤ tt))
 
 longer : {s : State} {n : ℕ} → Fits s n → Fits s (suc n)
@@ -69,11 +69,11 @@ cleaned-fits own keep {s} f =
     record {
       current = f .current;
       live = omega arith;
-      stamps = cleared-stamps (minus (dying keep s) own) (s .stamps) 16 (f .stamps);
+      stamps = cleared-stamps (minus (dying keep s) own) (s .stamps) width (f .stamps);
       copies = f .copies;
     }
 
-module _ (u : Use) (t : ℕ) (below : t < 16) {s : State} {n : ℕ} (f : Fits s n) where
+module _ (u : Use) (t : ℕ) (below : t < width) {s : State} {n : ℕ} (f : Fits s n) where
   target-small : targetStamp u t (stampOf s (s .current)) s ≤ 65535
   unfolding copiesStamp
   target-small =
@@ -87,7 +87,7 @@ module _ (u : Use) (t : ℕ) (below : t < 16) {s : State} {n : ℕ} (f : Fits s 
       at-cond (λ (s' : State). Fits s' (suc n)) (moves u t s)
       (λ _. record {
         current = inl below;
-        live = or-lt 16 (s .live) (2 ^ t) (f .live) (pow-lt below);
+        live = or-lt width (s .live) (2 ^ t) (f .live) (pow-lt below);
         stamps = set-stamps (s .stamps) t (targetStamp u t (stampOf s (s .current)) s) (f .stamps) target-small;
         copies = at-cond (λ (x : ℕ). s .copies + x ≤ suc n) (copiesStamp u t s) (λ _. omega arith) (λ _. omega arith);
       })
@@ -99,7 +99,7 @@ after-small Define step stamp h g = h
 after-small Modify step stamp h g = h
 
 module _ (r : ArrayRecord) (u : Use) (keep : ℕ) {s : State} {n : ℕ} (short : n < 65535) (f : Fits s n) where
-  visited-fits : (x : Action) → ((k : ℕ) → x ≡ Remap k → k < 16) → Fits (visited r x u keep (n + 1) s) (suc n)
+  visited-fits : (x : Action) → ((k : ℕ) → x ≡ Remap k → k < width) → Fits (visited r x u keep (n + 1) s) (suc n)
   unfolding referenced labelled
   visited-fits Nothing below = longer f
   visited-fits (Reference x) below =
@@ -115,6 +115,6 @@ module _ (r : ArrayRecord) (u : Use) (keep : ℕ) {s : State} {n : ℕ} (short :
   visited-fits Unknown below = longer f
 
   -- one vertex
-  pub step-fits : (b : Bool) (x : Action) → ((k : ℕ) → x ≡ Remap k → k < 16) → Fits (left r b (visited r x u keep (n + 1) s)) (suc n)
+  pub step-fits : (b : Bool) (x : Action) → ((k : ℕ) → x ≡ Remap k → k < width) → Fits (left r b (visited r x u keep (n + 1) s)) (suc n)
   unfolding referenced labelled
   step-fits b x below = left-fits r b (visited-fits x below)

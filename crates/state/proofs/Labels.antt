@@ -13,7 +13,7 @@ use Rattle.labels.specs.declared.Use.{Use}
 use Rattle.labels.specs.Uses.{isN}
 use Rattle.words.proofs.Tests.{at-cond, by-test, and-left}
 use Rattle.state.proofs.States.{copies-current}
-use Rattle.sets.specs.Sets.{has, minus}
+use Rattle.sets.specs.Sets.{has, minus, width}
 use Rattle.sets.proofs.Laws.{has-or, has-minus, has-single, has-with, has-cond}
 use Rattle.state.specs.declared.State.{State}
 use Rattle.state.specs.Cleaning.{currentSet, dying, cleared, cleaned}
@@ -68,7 +68,7 @@ module _ (own keep : ℕ) (s : State) where
   cleaned-stamp : (k : ℕ) → has (cleaned own keep s .live) k ≡ true → stampOf (cleaned own keep s) k ≡ stampOf s k
   unfolding cleaned
   cleaned-stamp k h =
-      cleared-keeps (minus (dying keep s) own) (s .stamps) 16 k
+      cleared-keeps (minus (dying keep s) own) (s .stamps) width k
       (simp (has-minus, has-or, current-has) (spared (has (s .live) k) (spares keep s k) (has own k) (sym (cleaned-has k) ∙ h)))
 
   pub cleaned-agree : {x : ℕ} → Agree s x → Agree (cleaned own keep s) x
@@ -99,7 +99,7 @@ module _ (u : Use) (t : ℕ) (s : State) where
       (λ e. getD-set-other (s .stamps) t k y 0 (λ g. eqb-false t k e (sym g)) ∙ a k (cc (has-with (s .live) t k, or-false (has (s .live) k)))))
       (λ m. a)
 
-  pub moved-sits : {x : ℕ} → t < 16 → Sits s x → Sits (moved u t s) x
+  pub moved-sits : {x : ℕ} → t < width → Sits s x → Sits (moved u t s) x
   unfolding moved
   moved-sits {x} f c =
       at-cond (λ (s' : State). Sits s' x) (moves u t s)

@@ -38,6 +38,7 @@ use Rattle.state.specs.Moves.{moved}
 use Rattle.state.specs.Vertex.{Ready}
 use Rattle.state.proofs.Carried as T
 use Rattle.state.proofs.Carried.Laws as T′
+use Rattle.sets.specs.Sets.{width}
 
 abbrev pub R : RattleType
 R = T.the-row
@@ -64,8 +65,8 @@ pub record Label : Type 0 where
   pub callers : ℕ
   pub letter-fits : letter < 2 ^ 8
   pub version-fits : version < 2 ^ 8
-  pub keep-fits : keep < 2 ^ 16
-  pub callers-fits : callers < 2 ^ 16
+  pub keep-fits : keep < 2 ^ width
+  pub callers-fits : callers < 2 ^ width
 
 abbrev pub labelOf : (y : Numbers) → Are numberTypes (Ises numberTypes) y (valss numberTypes spelled y) → Label
 labelOf y are = record {
@@ -98,7 +99,7 @@ abbrev pub Done : Label → Carried → Carried → Type 0
 Done a s n = whole n ≡ cleaned (a .callers) (a .keep) (moved (useOfByte (a .letter)) (a .version) (whole s))
 
 pub record LabelReady (a : Label) (s : Carried) : Type 0 where
-  pub below : a .version < 16
+  pub below : a .version < width
   pub ready : Ready (whole s)
 
 module _ {M : Type 1} (𝓤 : URA M) (H : Heap 𝓤) (A : Atoms 𝓤) (W : Given 𝓤 H A) where
@@ -120,7 +121,7 @@ module _ {M : Type 1} (𝓤 : URA M) (H : Heap 𝓤) (A : Atoms 𝓤) (W : Given
 
 module _ {M : Type 1} (𝓤 : URA M) (a : Label) (s : Carried) (P : SProp 𝓤) where
   abbrev F₁ : SProp 𝓤
-  F₁ = fact 𝓤 (a .version < 16)
+  F₁ = fact 𝓤 (a .version < width)
 
   abbrev F₂ : SProp 𝓤
   F₂ = fact 𝓤 (Ready (whole s))
@@ -132,7 +133,7 @@ module _ {M : Type 1} (𝓤 : URA M) (a : Label) (s : Carried) (P : SProp 𝓤) 
   pub learns : {Q : SProp 𝓤} → (LabelReady a s → ent 𝓤 P Q) → ent 𝓤 asked Q
   learns k =
       via 𝓤 (sep 𝓤 (sep 𝓤 P F₁) F₂) (assoc′ 𝓤 P F₁ F₂)
-      (needs 𝓤 (Ready (whole s)) (sep 𝓤 P F₁) (λ ready. needs 𝓤 (a .version < 16) P (λ below. k (record { below = below; ready = ready }))))
+      (needs 𝓤 (Ready (whole s)) (sep 𝓤 P F₁) (λ ready. needs 𝓤 (a .version < width) P (λ below. k (record { below = below; ready = ready }))))
 
   pub answers : (H : Heap 𝓤) (A : Atoms 𝓤) → Given 𝓤 H A → LabelReady a s → ent 𝓤 P asked
   answers H A W r =

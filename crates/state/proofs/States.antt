@@ -15,31 +15,31 @@ use lib.Seq.{set-comm, set-getD}
 use Rattle.labels.specs.declared.Use.{Use}
 use Rattle.words.proofs.Tests.{by-test, and-right, one-more}
 use Rattle.sets.proofs.Laws.{has-minus, has-single, has-zero, minus-none, none-minus}
-use Rattle.sets.specs.Sets.{has, minus}
+use Rattle.sets.specs.Sets.{has, minus, width}
 use Rattle.state.specs.declared.State.{State}
 use Rattle.state.specs.States.{Current, nothing, hasCurrent}
 use Rattle.state.specs.Cleaning.{currentSet, dying, cleared, cleaned}
 use Rattle.state.specs.Moves.{moves, isD, copiesStamp}
 
 -- a current copy is a version
-pub current-below : (s : State) → Current s → hasCurrent s ≡ true → s .current < 16
+pub current-below : (s : State) → Current s → hasCurrent s ≡ true → s .current < width
 current-below s (inl h) e = h
 current-below s (inr n) e = absurd (true≢false (sym e ∙ ap (λ (k : ℕ). not (eqb k nothing)) n))
 
 -- a version that is current is a current copy
-pub below-current : (s : State) → s .current < 16 → hasCurrent s ≡ true
+pub below-current : (s : State) → s .current < width → hasCurrent s ≡ true
 below-current s h = ap not (ne-eqb (s .current) nothing (λ e. omega arith))
 
 -- a version or none stays current
 pub current-as : (s t : State) → s .current ≡ t .current → Current s → Current t
-current-as s t e h = subst (λ (k : ℕ). (k < 16) ⊎ (k ≡ nothing)) e h
+current-as s t e h = subst (λ (k : ℕ). (k < width) ⊎ (k ≡ nothing)) e h
 
 -- a stamp is copied from a current copy
 pub copies-current : (u : Use) (t : ℕ) (s : State) → copiesStamp u t s ≡ true → hasCurrent s ≡ true
 unfolding copiesStamp
 copies-current u t s h = and-right (not (isD u)) _ (and-right (not (has (s .live) t)) _ (and-right (moves u t s) _ h))
 
-pub copied-below : (u : Use) (t : ℕ) (s : State) → Current s → copiesStamp u t s ≡ true → s .current < 16
+pub copied-below : (u : Use) (t : ℕ) (s : State) → Current s → copiesStamp u t s ≡ true → s .current < width
 copied-below u t s current h = current-below s current (copies-current u t s h)
 
 -- one stamp more of those with x at one version
@@ -119,15 +119,15 @@ module _ (own keep : ℕ) (s : State) (current dead : ℕ) (e : current ≡ curr
   dies : dead ≡ dying keep s
   dies = f ∙ ap (λ (m : ℕ). minus (s .live) (bitOr keep m)) e
 
-  pub cleaned-is : (live lost : ℕ) (stamps : List ℕ) → live ≡ minus (s .live) dead → lost ≡ minus dead own → stamps ≡ cleared lost (s .stamps) 16
+  pub cleaned-is : (live lost : ℕ) (stamps : List ℕ) → live ≡ minus (s .live) dead → lost ≡ minus dead own → stamps ≡ cleared lost (s .stamps) width
       → record { current = s .current; live = live; stamps = stamps; copies = s .copies } ≡ cleaned own keep s
   unfolding cleaned
   cleaned-is live lost stamps g h k =
       ap₂ (λ (l : ℕ) (x : List ℕ). record { current = s .current; live = l; stamps = x; copies = s .copies }) (g ∙ ap (minus (s .live)) dies)
-      (k ∙ ap (λ (d : ℕ). cleared d (s .stamps) 16) (h ∙ ap (λ (d : ℕ). minus d own) dies))
+      (k ∙ ap (λ (d : ℕ). cleared d (s .stamps) width) (h ∙ ap (λ (d : ℕ). minus d own) dies))
 
   -- where nothing dies the state stays
   pub none-dies : dead ≡ 0 → s ≡ cleaned own keep s
   none-dies z =
       cleaned-is (s .live) 0 (s .stamps)
-      (sym (ap (minus (s .live)) z ∙ minus-none (s .live))) (sym (ap (λ (d : ℕ). minus d own) z ∙ none-minus own)) (sym (cleared-none (s .stamps) 16))
+      (sym (ap (minus (s .live)) z ∙ minus-none (s .live))) (sym (ap (λ (d : ℕ). minus d own) z ∙ none-minus own)) (sym (cleared-none (s .stamps) width))

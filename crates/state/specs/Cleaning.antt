@@ -7,7 +7,7 @@ use lib.Bits.{bitOr}
 use lib.ListN.{set}
 use Rattle.routine.specs.Arrays.{isArgument}
 use Rattle.routine.specs.declared.array.ArrayRecord.{ArrayRecord}
-use Rattle.sets.specs.Sets.{has, minus}
+use Rattle.sets.specs.Sets.{has, minus, width}
 use Rattle.state.specs.declared.State.{State}
 use Rattle.state.specs.States.{hasCurrent}
 
@@ -36,6 +36,6 @@ cleaned own keep s =
     record {
       current = s .current;
       live = minus (s .live) (dying keep s);
-      stamps = cleared (minus (dying keep s) own) (s .stamps) 16;
+      stamps = cleared (minus (dying keep s) own) (s .stamps) width;
       copies = s .copies;
     }

@@ -6,15 +6,16 @@ use Prim.Native.Nat.{ℕ, _≤_, _<_, _^_}
 use lib.ListN.{length, getD}
 use Rattle.state.specs.declared.State.{State}
 use Rattle.state.specs.States.{Current}
+use Rattle.sets.specs.Sets.{width}
 
--- sixteen stamps of 16 bits
+-- a stamp of 16 bits for each version
 pub record Stamps (l : List ℕ) : Type 0 where
-  pub sixteen : length l ≡ 16
+  pub wide : length l ≡ width
   pub small : (k : ℕ) → getD l k 0 ≤ 65535
 
--- a state after n steps: a version or none is current, the live set has 16 bits, and there are at most as many copies as steps
+-- a state after n steps: a version or none is current, the live set has no version beyond the width, and there are at most as many copies as steps
 pub record Fits (s : State) (n : ℕ) : Type 0 where
   pub current : Current s
-  pub live : s .live < 2 ^ 16
+  pub live : s .live < 2 ^ width
   pub stamps : Stamps (s .stamps)
   pub copies : s .copies ≤ n

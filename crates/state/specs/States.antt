@@ -7,6 +7,7 @@ use Prim.Native.Nat.{ℕ, _<_}
 use lib.Dec.{eqb}
 use lib.ListN.{getD, set, replicate}
 use Rattle.state.specs.declared.State.{State}
+use Rattle.sets.specs.Sets.{width}
 
 -- no current copy
 abbrev pub nothing : ℕ
@@ -26,8 +27,8 @@ stamped stamp s = record { current = s .current; live = s .live; stamps = set (s
 
 -- no copies: none current, none live
 abbrev pub emptied : ℕ → State
-emptied copies = record { current = nothing; live = 0; stamps = replicate 16 0; copies = copies }
+emptied copies = record { current = nothing; live = 0; stamps = replicate width 0; copies = copies }
 
 -- a version or none is current
 abbrev pub Current : State → Type 0
-Current s = (s .current < 16) ⊎ (s .current ≡ nothing)
+Current s = (s .current < width) ⊎ (s .current ≡ nothing)

@@ -12,6 +12,7 @@ use Rattle.state.specs.Cleaning.{callers, cleaned}
 use Rattle.state.specs.Moves.{moved}
 use Rattle.state.specs.References.{referenced}
 use Rattle.state.specs.States.{Current}
+use Rattle.sets.specs.Sets.{width}
 
 -- a label: the move, then the cleaning
 unfoldable pub labelled : ArrayRecord → Use → ℕ → ℕ → State → State
@@ -34,13 +35,13 @@ relabelled r (Reference x) u keep s = s
 relabelled r (Remap t) u keep s = labelled r u t keep s
 relabelled r Unknown u keep s = s
 
--- an array's state before a label: a version or none is current, sixteen stamps, and a copy more can be counted
+-- an array's state before a label: a version or none is current, wide stamps, and a copy more can be counted
 pub record Ready (s : State) : Type 0 where
   pub current : Current s
-  pub sixteen : length (s .stamps) ≡ 16
+  pub wide : length (s .stamps) ≡ width
   pub few-copies : s .copies < 65535
 
--- and before an event, whose version is below 16
+-- and before an event, whose version is below the width
 pub record Visits (x : Action) (s : State) : Type 0 where
   pub ready : Ready s
-  pub at-remap : (t : ℕ) → x ≡ Remap t → t < 16
+  pub at-remap : (t : ℕ) → x ≡ Remap t → t < width

@@ -4,6 +4,8 @@ use labels::event;
 use routine::action::Access;
 use routine::action::Action;
 use routine::array::ArrayRecord;
+use sets::Set;
+use sets::WIDTH;
 ghost use mathlib.Core.Path.{_≡_};
 ghost use mathlib.Core.Bool.{true, cond};
 ghost use Prim.Native.Nat.{_+_, _<_};
@@ -17,12 +19,13 @@ ghost use Rattle.state.specs.Moves.{moves, isD, copiesStamp, targetStamp
 ghost use Rattle.state.specs.Start.{started};
 ghost use Rattle.state.specs.States.{hasCurrent, emptied, Current};
 ghost use Rattle.state.specs.Vertex.{relabelled, Ready, Visits};
+ghost use Rattle.sets.specs.Sets.{width};
 
 // The current version, or 255 for none; the set of live versions; a stamp for each version; the copies counted.
 pub struct State {
     pub current: u8,
-    pub live: u16,
-    pub stamps: [u16; 16],
+    pub live: Set,
+    pub stamps: [u16; WIDTH],
     pub copies: u16,
 }
 
@@ -42,14 +45,14 @@ pub fn empty(copies: u16) -> State
     State {
         current: NONE,
         live: 0,
-        stamps: [0; 16],
+        stamps: [0; WIDTH],
         copies,
     }
 }
 
 // Before the first step.
 pub fn start(r: ArrayRecord) -> State
-    requires { ⌜ r .initial < 16 ⌝ }
+    requires { ⌜ r .initial < width ⌝ }
     ensures { λ s. ⌜ s ≡ started r ⌝ }
 {
     let own = r.is_in_or_inout();
@@ -66,8 +69,8 @@ pub fn start(r: ArrayRecord) -> State
 }
 
 // An argument's initial version as a set: it belongs to the caller.
-pub fn callers_of(r: ArrayRecord) -> u16
-    requires { ⌜ r .initial < 16 ⌝ }
+pub fn callers_of(r: ArrayRecord) -> Set
+    requires { ⌜ r .initial < width ⌝ }
     ensures { λ s. ⌜ s ≡ callers r ⌝ }
 {
     let owned = r.is_argument();
@@ -117,7 +120,7 @@ impl State {
 
     // Whether it copies a stamp.
     fn copies_stamp(self, u: Use, t: u8) -> bool
-        requires { ⌜ t < 16 ⌝ }
+        requires { ⌜ t < width ⌝ }
         ensures { λ r. ⌜ r ≡ copiesStamp u t self ⌝ }
     {
         self.takes_up(u, t) & (!sets::member(self.live, t) & (!is_d(u) & self.has_current()))
@@ -125,7 +128,7 @@ impl State {
 
     // The target's stamp, where the current copy has this one.
     fn target_stamp(self, u: Use, t: u8, stamp: u16) -> u16
-        requires { ⌜ t < 16 ⌝ }
+        requires { ⌜ t < width ⌝ }
         ensures { λ r. ⌜ r ≡ targetStamp u t stamp self ⌝ }
     {
         let copied = self.copies_stamp(u, t);
@@ -142,7 +145,7 @@ impl State {
 
     // The stamp of the current copy after the move, where it had this one before.
     fn next_stamp(self, u: Use, t: u8, stamp: u16) -> u16
-        requires { ⌜ t < 16 ⌝ }
+        requires { ⌜ t < width ⌝ }
         ensures { λ r. ⌜ r ≡ stampBeside u t stamp self ⌝ }
     {
         let takes = self.takes_up(u, t);
@@ -154,7 +157,7 @@ impl State {
 
     // The move at a label of letter u and version t, but for the target's stamp.
     fn shifted(self, u: Use, t: u8) -> State
-        requires { ⌜ t < 16 ⌝ }
+        requires { ⌜ t < width ⌝ }
         requires { ⌜ self .copies < 65535 ⌝ }
         ensures { λ r. ⌜ r ≡ shifted u t self ⌝ }
     {
@@ -175,7 +178,7 @@ impl State {
     }
 
     // The current copy as a set.
-    fn current_set(self) -> u16
+    fn current_set(self) -> Set
         requires { ⌜ Current self ⌝ }
         ensures { λ r. ⌜ r ≡ currentSet self ⌝ }
     {
@@ -187,7 +190,7 @@ impl State {
     }
 
     // The cleaning at a label with this kept set.
-    fn cleaned(self, callers: u16, keep: u16) -> State
+    fn cleaned(self, callers: Set, keep: Set) -> State
         requires { ⌜ Current self ⌝ }
         ensures { λ s. ⌜ s ≡ cleaned callers keep self ⌝ }
     {
@@ -218,15 +221,15 @@ fn choose(b: bool, x: u16, y: u16) -> u16
     y
 }
 
-// The stamps with x as that of one version. All sixteen are written: one alone, read back at once as part of the whole, would hold up the
+// The stamps with x as that of one version. All wide are written: one alone, read back at once as part of the whole, would hold up the
 // copy of the state.
-fn with(stamps: [u16; 16], at: usize, x: u16) -> [u16; 16]
-    requires { ⌜ at < 16 ⌝ }
+fn with(stamps: [u16; WIDTH], at: usize, x: u16) -> [u16; WIDTH]
+    requires { ⌜ at < width ⌝ }
     ensures { λ r. ⌜ r ≡ set stamps at x ⌝ }
 {
     let mut new = stamps;
     let mut k: usize = 0;
-    while k < 16 {
+    while k < WIDTH {
         new[k] = choose(k == at, x, new[k]);
         k += 1;
     }
@@ -234,8 +237,8 @@ fn with(stamps: [u16; 16], at: usize, x: u16) -> [u16; 16]
 }
 
 // The stamps of the versions in `dead` become 0, one after the other; no other is touched.
-fn clear(stamps: [u16; 16], dead: u16) -> [u16; 16]
-    ensures { λ r. ⌜ r ≡ cleared dead stamps 16 ⌝ }
+fn clear(stamps: [u16; WIDTH], dead: Set) -> [u16; WIDTH]
+    ensures { λ r. ⌜ r ≡ cleared dead stamps width ⌝ }
 {
     let mut left = stamps;
     let mut rest = dead;
@@ -282,8 +285,8 @@ pub fn settled(s: State, stamp: u16) -> State
 }
 
 // A label: the move, then the cleaning. The letter is a byte of the table.
-pub fn labelled_by(c: Carried, letter: u8, t: u8, keep: u16, callers: u16) -> Carried
-    requires { ⌜ t < 16 ⌝ }
+pub fn labelled_by(c: Carried, letter: u8, t: u8, keep: Set, callers: Set) -> Carried
+    requires { ⌜ t < width ⌝ }
     requires { ⌜ Ready (whole c) ⌝ }
     ensures { λ r. ⌜ whole r ≡ cleaned callers keep (moved (useOfByte letter) t (whole c)) ⌝ }
 {
@@ -295,8 +298,8 @@ pub fn labelled_by(c: Carried, letter: u8, t: u8, keep: u16, callers: u16) -> Ca
 }
 
 // The same label on a state that is lent.
-pub fn step(c: &mut Carried, letter: u8, t: u8, keep: u16, callers: u16)
-    requires { ⌜ t < 16 ⌝ }
+pub fn step(c: &mut Carried, letter: u8, t: u8, keep: Set, callers: Set)
+    requires { ⌜ t < width ⌝ }
     requires { ⌜ Ready (whole (now c)) ⌝ }
     ensures { λ _. ⌜ whole (now (c .exit)) ≡ cleaned callers keep (moved (useOfByte letter) t (whole (now (c .entry)))) ⌝ }
 {
@@ -304,8 +307,8 @@ pub fn step(c: &mut Carried, letter: u8, t: u8, keep: u16, callers: u16)
 }
 
 // The lent step, for a state by value.
-pub fn stepped(c: Carried, letter: u8, t: u8, keep: u16, callers: u16) -> Carried
-    requires { ⌜ t < 16 ⌝ }
+pub fn stepped(c: Carried, letter: u8, t: u8, keep: Set, callers: Set) -> Carried
+    requires { ⌜ t < width ⌝ }
     requires { ⌜ Ready (whole c) ⌝ }
     ensures { λ r. ⌜ whole r ≡ cleaned callers keep (moved (useOfByte letter) t (whole c)) ⌝ }
 {
@@ -331,8 +334,8 @@ pub fn stamp_after(x: Action, step: u16, stamp: u16) -> u16
 }
 
 // One array at one vertex, by its event, letter and kept set, if it is a label.
-pub fn relabelled(c: Carried, r: ArrayRecord, x: Action, letter: u8, keep: u16) -> Carried
-    requires { ⌜ r .initial < 16 ⌝ }
+pub fn relabelled(c: Carried, r: ArrayRecord, x: Action, letter: u8, keep: Set) -> Carried
+    requires { ⌜ r .initial < width ⌝ }
     requires { ⌜ Visits x (whole c) ⌝ }
     ensures { λ n. ⌜ whole n ≡ relabelled r x (useOfByte letter) keep (whole c) ⌝ }
 {

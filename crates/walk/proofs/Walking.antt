@@ -44,6 +44,7 @@ use Rattle.words.specs.Tables.{rows, wrote}
 use Rattle.words.proofs.Buffers.{Filled, begin, next-row, onward, end}
 use Rattle.words.proofs.Tables.{rows-same}
 use Rattle.words.proofs.Written.{partFrom}
+use Rattle.sets.specs.Sets.{width}
 
 -- the bytes of the first i vertices stand at the front, up to `at`
 pub record Walking (file path old : List ℕ) (at i : ℕ) (states : List State) (versions stamps out : List ℕ) : Type 0 where
@@ -99,17 +100,17 @@ module _ (file path : List ℕ) (well : WellFormed file) (accepted : pathCheck f
     is : settled (getD stamps b 0) s ≡ stateAfter file path b i
     is = held .stand b in-b .is
 
-    sixteen : length (settled (getD stamps b 0) s .stamps) ≡ 16
-    sixteen = ap (λ (s : State). length (s .stamps)) is ∙ fits .stamps .sixteen
+    wide : length (settled (getD stamps b 0) s .stamps) ≡ width
+    wide = ap (λ (s : State). length (s .stamps)) is ∙ fits .stamps .wide
 
-    below : T (isReference x) → settled (getD stamps b 0) s .current < 16
-    below r = subst (λ (s : State). s .current < 16) (sym is) (reference-below file path well accepted i b in-i in-b r)
+    below : T (isReference x) → settled (getD stamps b 0) s .current < width
+    below r = subst (λ (s : State). s .current < width) (sym is) (reference-below file path well accepted i b in-i in-b r)
 
     record-is : recordsBytes (recordsAt x (i + 1) b (getD versions b 0) (getD stamps b 0)) ≡ recordBytesAt file path i b
     record-is =
         ap recordsBytes (records-same x (i + 1) b (λ r. (
           held .stand b in-b .version-is ∙ sym (settled-current (getD stamps b 0) s) ∙ ap (λ (s : State). s .current) is,
-          sym (seen-is (getD stamps b 0) s sixteen (below r)) ∙ ap (λ (s : State). stampOf s (s .current)) is,
+          sym (seen-is (getD stamps b 0) s wide (below r)) ∙ ap (λ (s : State). stampOf s (s .current)) is,
         )))
 
   pub row-is : rowBytes file v (i + 1) versions stamps ≡ stepBytes file path i
@@ -136,10 +137,10 @@ module _ (file path : List ℕ) (well : WellFormed file) (accepted : pathCheck f
       visits-after = record {
         ready = record {
           current = current-as (stateAfter file path b i) after-b (sym current-same) (fits b in-b .current);
-          sixteen = settled-length (getD after b 0) (stateOf states b) ∙ sym (settled-length (getD stamps b 0) (stateOf states b)) ∙ sixteen b in-b;
+          wide = settled-length (getD after b 0) (stateOf states b) ∙ sym (settled-length (getD stamps b 0) (stateOf states b)) ∙ wide b in-b;
           few-copies = omega (arith, copies-same, fits b in-b .copies);
         };
-        at-remap = λ t g. subst (λ (x : Action). versionOf x < 16) g (version-fits file b (proper file well b in-b) v);
+        at-remap = λ t g. subst (λ (x : Action). versionOf x < width) g (version-fits file b (proper file well b in-b) v);
       }
 
       relabelled-next : relabelledAt file b v after-b ≡ stateAfter file path b (i + 1)
@@ -151,7 +152,7 @@ module _ (file path : List ℕ) (well : WellFormed file) (accepted : pathCheck f
           let x = event file b v in
           ap (left a (eqb v (exit file)))
           (ap (λ (y : ℕ). relabelled a x u keep (settled y (stateOf states b))) (after-at file v (i + 1) stamps (r .stamps-are) (omega (arith, held .stamps-sized, well .laid .limits .few-arrays)) b in-b)
-          ∙ visited-is a u keep (i + 1) (getD stamps b 0) (stateOf states b) x (sixteen b in-b) (below b in-b)
+          ∙ visited-is a u keep (i + 1) (getD stamps b 0) (stateOf states b) x (wide b in-b) (below b in-b)
           ∙ ap (visited a x u keep (i + 1)) (is b in-b))
           ∙ ap (stateAfter file path b) (sym (add-one i))
 

@@ -6,6 +6,7 @@ use routine::action;
 use routine::array;
 use routine::array::ArrayRecord;
 use routine::header::Header;
+use sets::Set;
 use state::Carried;
 use state::State;
 ghost use mathlib.Core.Path.{_≡_};
@@ -187,7 +188,7 @@ fn relabel(
     file: &[u8],
     h: Header,
     letters: &[u8],
-    kept: &[u16],
+    kept: &[Set],
     a: usize,
     v: usize,
     c: Carried,
@@ -230,7 +231,7 @@ fn follow(
     h: Header,
     path: &[u8],
     letters: &[u8],
-    kept: &[u16],
+    kept: &[Set],
     out: &mut [u8],
 ) -> [State; ArrayRecord::MAX]
     requires { ⌜ ReadAs (now file) h ⌝ }
@@ -271,7 +272,7 @@ fn follow(
 }
 
 // Writes the report.
-pub fn write(file: &[u8], h: Header, path: &[u8], letters: &[u8], kept: &[u16], out: &mut [u8])
+pub fn write(file: &[u8], h: Header, path: &[u8], letters: &[u8], kept: &[Set], out: &mut [u8])
     requires { ⌜ ReadAs (now file) h ⌝ }
     requires { ⌜ pathCheck (now file) (now path) ≡ Passed ⌝ }
     requires { ⌜ LettersAndKept (now file) (now letters) (now kept) ⌝ }

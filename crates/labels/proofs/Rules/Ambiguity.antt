@@ -13,12 +13,12 @@ use Rattle.flow.specs.Paths.{last, next, Joined}
 use Rattle.words.proofs.Tests.{and-iff}
 use Rattle.routine.specs.Actions.{isReference}
 use Rattle.routine.specs.Layout.{entry}
-use Rattle.sets.specs.Sets.{has, several}
+use Rattle.sets.specs.Sets.{has, several, width}
 use Rattle.sets.proofs.Laws.{several-two, two-several}
 use Rattle.labels.specs.declared.Use.{Use}
 use Rattle.labels.specs.declared.Use.the-variants.{N, D, R, W}
 use Rattle.labels.specs.Ambiguity.{Brings, Ambiguous, isAmbiguous}
-use Rattle.labels.specs.Events.{width, edgeBytes, event, isLabel, version}
+use Rattle.labels.specs.Events.{edgeBytes, event, isLabel, version}
 use Rattle.labels.specs.Reaching.{ArrivesBy, orLast, lastVersion, orInitial, isReached, reachingOf}
 use Rattle.labels.specs.Uses.{Segment, useOf, isN, isKept}
 use Rattle.labels.proofs.Rules.Proper.{Proper}

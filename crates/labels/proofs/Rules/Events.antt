@@ -3,7 +3,7 @@
 use mathlib.Core.Path.{_≡_, refl, ap₂}
 use mathlib.Core.Bool.{Bool, false, _&&_, _||_, cond}
 use mathlib.Core.List.{List}
-use Prim.Native.Nat.{ℕ, _<_}
+use Prim.Native.Nat.{ℕ, _+_, _<_}
 use native.Mathlib.Omega.{arith}
 use borrow.Author.Tests.{ltb-true}
 use lib.Dec.{eqb, ltb, lit<}
@@ -12,10 +12,11 @@ use Rattle.routine.specs.declared.action.Access.the-variants.{Read, Define, Mod
 use Rattle.routine.specs.declared.action.Action.{Action}
 use Rattle.routine.specs.declared.action.Action.the-variants.{Nothing, Reference, Remap, Unknown}
 use Rattle.routine.specs.Actions.{actionOf, action, actionByte}
-use Rattle.labels.specs.Events.{width, event, versionOf, version}
+use Rattle.labels.specs.Events.{event, versionOf, version}
 use Rattle.routine.specs.Arrays.{kind, initial, isArgument}
 use Rattle.routine.specs.Layout.{entry, exit}
 use Rattle.labels.proofs.Rules.Proper.{Proper}
+use Rattle.sets.specs.Sets.{width}
 
 -- its version is below the width
 abbrev InWidth : Action → Type 0
@@ -29,7 +30,7 @@ byte-fits b =
     at-cond InWidth (eqb b 0x20) (λ _. lit< tt) (λ _.
     at-cond InWidth (eqb b 0x30) (λ _. lit< tt) (λ _.
     at-cond InWidth (ltb b 0x40) (λ _. lit< tt) (λ _.
-    at-cond InWidth (ltb b 0x50) (λ h. omega (arith, ltb-true b 0x50 h)) (λ _. lit< tt))))))
+    at-cond InWidth (ltb b (0x40 + width)) (λ h. omega (arith, ltb-true b (0x40 + width) h)) (λ _. lit< tt))))))
 
 pub action-fits : (file : List ℕ) (v a : ℕ) → versionOf (action file v a) < width
 unfolding action

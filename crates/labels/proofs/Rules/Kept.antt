@@ -10,11 +10,11 @@ use lib.Dec.{T}
 use lib.ListN.{getD}
 use lib.Pow.{pow-pos}
 use Rattle.flow.proofs.Members.{member-or, member-cond, member-single}
-use Rattle.sets.specs.Sets.{has}
+use Rattle.sets.specs.Sets.{has, width}
 use Rattle.words.proofs.Tests.{at-cond}
 use Rattle.labels.specs.declared.Use.{Use}
 use Rattle.labels.specs.declared.Use.the-variants.{N, D, R, W}
-use Rattle.labels.specs.Events.{width, version, isLabel}
+use Rattle.labels.specs.Events.{version, isLabel}
 use Rattle.labels.specs.Kept.{isNOrR, passesKept, KeepsFor, InKept, leavingSet, keptSets, keptOf}
 use Rattle.labels.proofs.Rules.Proper.{Proper}
 use Rattle.labels.specs.Uses.{useOf, isN, isKept, Leaves}
@@ -38,7 +38,7 @@ module _ (file : List ℕ) (a : ℕ) (proper : Proper file a) (v : ℕ) where
   unfolding keptOf
   kept-exact k = member-or (leavingSet file a v) _ k (leaving-exact k) (keeps-exact k)
 
-  -- a kept set is a 16-bit mask
+  -- a kept set has no version beyond the width
   pub kept-fits : keptOf file a v < 2 ^ width
   unfolding keptOf leavingSet keptSets
   kept-fits =

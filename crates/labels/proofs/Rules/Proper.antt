@@ -15,7 +15,8 @@ use Rattle.routine.specs.Edges.{edgeOf}
 use Rattle.routine.specs.Layout.{arrays, vertices, entry, exit, edges, edgesAt}
 use Rattle.routine.specs.Reader.{Laid, WellFormed}
 use Rattle.routine.proofs.WellFormed.{EdgeLimits, array-limits, edge-limits}
-use Rattle.labels.specs.Events.{width, edgeBytes}
+use Rattle.labels.specs.Events.{edgeBytes}
+use Rattle.sets.specs.Sets.{width}
 
 -- edges end below the vertex count, none enters the entry, none leaves the exit; the initial version is below the width of a set
 pub record Proper (file : List ℕ) (a : ℕ) : Type 0 where

@@ -15,9 +15,9 @@ use Rattle.flow.specs.Solver.{Leads}
 use Rattle.words.proofs.Tests.{at-cond, cond-not, either, or-iff, and-iff, eqb-iff}
 use Rattle.flow.proofs.Paths.{list-iff}
 use Rattle.routine.specs.Layout.{entry}
-use Rattle.sets.specs.Sets.{has}
+use Rattle.sets.specs.Sets.{has, width, everyVersion}
 use Rattle.sets.proofs.Laws.{has-zero, same-members}
-use Rattle.labels.specs.Events.{width, everyVersion, edgeBytes, event, version}
+use Rattle.labels.specs.Events.{edgeBytes, event, version}
 use Rattle.routine.specs.Arrays.{kind, initial, isInOrInout}
 use Rattle.labels.proofs.Rules.Proper.{Proper}
 use Rattle.labels.specs.Reaching.{ArrivesBy, lastVersion, orInitial, Reaches, isReached, reachGives, reachPasses, reachSets, reachingOf}
@@ -110,7 +110,7 @@ module _ (file : List ℕ) (a : ℕ) (proper : Proper file a) (v k : ℕ) where
       go false f = (λ h. reaches (sets-exact .0 h), λ r. sets-exact .1 (found (f .1) (r .before) (r .path) (r .brings)))
 
 module _ (file : List ℕ) (a : ℕ) (proper : Proper file a) (v : ℕ) where
-  -- a reaching set is a 16-bit mask
+  -- a reaching set has no version beyond the width
   pub reaching-fits : reachingOf file a v < 2 ^ width
   unfolding reachingOf reachSets reachGives version event
   reaching-fits =

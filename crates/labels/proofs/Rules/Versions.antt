@@ -11,9 +11,9 @@ use lib.Pow.{pow-pos, pow-lt}
 use Rattle.flow.specs.Solver.{Leads}
 use Rattle.flow.proofs.Exact.{solution-fits}
 use Rattle.routine.specs.Layout.{vertices}
-use Rattle.sets.specs.Sets.{has}
+use Rattle.sets.specs.Sets.{has, width, everyVersion}
 use Rattle.sets.proofs.Laws.{has-full-if}
-use Rattle.labels.specs.Events.{width, everyVersion, edgeBytes, solvedSets, version}
+use Rattle.labels.specs.Events.{edgeBytes, solvedSets, version}
 use Rattle.flow.specs.Paths.{Finds}
 use Rattle.labels.proofs.Rules.Proper.{Proper}
 use Rattle.labels.proofs.Rules.Events.{version-fits}

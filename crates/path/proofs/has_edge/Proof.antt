@@ -19,23 +19,23 @@ mul-at c = search needs
 add-at : tie.Need-add-at
 add-at c = search needs
 
-mul-member : tie.Need-mul-member
-mul-member c = search needs
+mul-has-bit : tie.Need-mul-has-bit
+mul-has-bit c = search needs
 
-shared-slice-read-member : tie.Need-shared-slice-read-member
-shared-slice-read-member c = search needs
+shared-slice-read-has-bit : tie.Need-shared-slice-read-has-bit
+shared-slice-read-has-bit c = search needs
 
-cast-member : tie.Need-cast-member
-cast-member c = search needs
+cast-has-bit : tie.Need-cast-has-bit
+cast-has-bit c = search needs
 
-member-requires : tie.Need-member-requires
-member-requires c κs = search needs
+has-bit-requires : tie.Need-has-bit-requires
+has-bit-requires c κs = search needs
 
 returns-3 : tie.Need-returns-3
 returns-3 c =
     let e = c .before .before in
     let a = e .before .before .before .args in
-    rw (lt-ltb (a .v) 256 (e .before .if1 .left), lt-ltb (a .w) 256 (e .if2 .left)) (c .member .ensures)
+    rw (lt-ltb (a .v) 256 (e .before .if1 .left), lt-ltb (a .w) 256 (e .if2 .left)) (c .has-bit .ensures)
 
 pub has-edge-spec : {M : Type 1} → statement M
 has-edge-spec =
@@ -45,8 +45,8 @@ has-edge-spec =
     returns-2
     mul-at
     add-at
-    mul-member
-    shared-slice-read-member
-    cast-member
-    member-requires
+    mul-has-bit
+    shared-slice-read-has-bit
+    cast-has-bit
+    has-bit-requires
     returns-3)

@@ -21,11 +21,11 @@ mul-table c = search needs
 slice-read-table : tie.Need-slice-read-table
 slice-read-table c = search needs
 
-cast-single : tie.Need-cast-single
-cast-single c = search needs
+cast-bit : tie.Need-cast-bit
+cast-bit c = search needs
 
-single-requires : tie.Need-single-requires
-single-requires c κs = search needs
+bit-requires : tie.Need-bit-requires
+bit-requires c κs = search needs
 
 mul-table-2 : tie.Need-mul-table-2
 mul-table-2 c = search needs
@@ -41,7 +41,7 @@ unfolding withEdge
 returns c =
     let a = c .before .before .before .before .before .before .args in
     let at = wordAt (a .e .from) (a .e .to) in
-    ap (λ (x : ℕ). set (a .table .now) at (bitOr (getD (a .table .now) at 0) x)) (c .single .ensures)
+    ap (λ (x : ℕ). set (a .table .now) at (bitOr (getD (a .table .now) at 0) x)) (c .bit .ensures)
 
 pub put-edge-spec : {M : Type 1} → statement M
 put-edge-spec =
@@ -51,8 +51,8 @@ put-edge-spec =
     add-at
     mul-table
     slice-read-table
-    cast-single
-    single-requires
+    cast-bit
+    bit-requires
     mul-table-2
     slice-write-table
     same-length

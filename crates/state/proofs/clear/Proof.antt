@@ -5,14 +5,14 @@ use mathlib.Core.List.{List}
 use Prim.Native.Nat.{ℕ, _^_}
 use native.Mathlib.Omega.{arith}
 use borrow.Author.Needs.{needs}
-use Rattle.sets.specs.Sets.{minus}
+use Rattle.sets.specs.Sets.{minus, width}
 use Rattle.state.specs.Cleaning.{cleared}
 use Rattle.state.proofs.States.{cleared-none, cleared-first, falls}
 use Rattle.state.proofs.clear.Statement.{statement}
 use Rattle.state.proofs.clear.Tie as tie
 
 abbrev Inv-loop : tie.InvT-loop
-Inv-loop dead left₀ rest₀ left rest = cleared rest left 16 ≡ cleared dead left₀ 16
+Inv-loop dead left₀ rest₀ left rest = cleared rest left width ≡ cleared dead left₀ width
 
 abbrev μ-loop : tie.MeasureT-loop
 μ-loop dead left₀ rest₀ left rest = rest
@@ -47,16 +47,16 @@ loop-again c =
     let l = c .before .before .before .before .before .loop in
     let low = c .before .before .before .one-of in
     let left = c .difference .ensures ∙ ap (minus (l .rest)) (c .before .single .ensures) in
-    ap (λ (n : ℕ). cleared n (c .before .before .with .result) 16) left
-    ∙ ap (λ (stamps : List ℕ). cleared (minus (l .rest) (2 ^ low .result)) stamps 16) (c .before .before .with .ensures)
-    ∙ cleared-first (l .rest) (low .result) (l .left) (low .ensures .1) 16 (low .ensures .0)
+    ap (λ (n : ℕ). cleared n (c .before .before .with .result) width) left
+    ∙ ap (λ (stamps : List ℕ). cleared (minus (l .rest) (2 ^ low .result)) stamps width) (c .before .before .with .ensures)
+    ∙ cleared-first (l .rest) (low .result) (l .left) (low .ensures .1) width (low .ensures .0)
     ∙ l .inv
 
 returns : tie.Need-returns Inv-loop μ-loop
 returns c =
     let l = c .before .loop in
     let none : l .rest ≡ 0 = omega arith in
-    sym (cleared-none (l .left) 16) ∙ ap (λ (n : ℕ). cleared n (l .left) 16) (sym none) ∙ l .inv
+    sym (cleared-none (l .left) width) ∙ ap (λ (n : ℕ). cleared n (l .left) width) (sym none) ∙ l .inv
 
 pub clear-spec : {M : Type 1} → statement M
 clear-spec =

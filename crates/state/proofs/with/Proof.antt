@@ -11,12 +11,13 @@ use lib.ListN.{set}
 use Rattle.state.proofs.States.{with-more}
 use Rattle.state.proofs.with.Statement.{statement}
 use Rattle.state.proofs.with.Tie as tie
+use Rattle.sets.specs.Sets.{width}
 
 abbrev Inv-loop : tie.InvT-loop
-Inv-loop at x new₀ k₀ new k = (k ≤ 16) × (new ≡ cond (ltb at k) (set new₀ at x) new₀)
+Inv-loop at x new₀ k₀ new k = (k ≤ width) × (new ≡ cond (ltb at k) (set new₀ at x) new₀)
 
 abbrev μ-loop : tie.MeasureT-loop
-μ-loop at x new₀ k₀ new k = 16 - k
+μ-loop at x new₀ k₀ new k = width - k
 
 loop-holds : tie.Need-loop-holds Inv-loop μ-loop
 loop-holds c = (omega arith, rw (le-ltb (c .args .at) 0 (omega arith)))

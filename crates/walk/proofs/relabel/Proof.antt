@@ -17,6 +17,7 @@ use Rattle.state.specs.Vertex.{Visits}
 use Rattle.walk.proofs.Walking.{relabelled-is}
 use Rattle.walk.proofs.relabel.Statement.{statement}
 use Rattle.walk.proofs.relabel.Tie as tie
+use Rattle.sets.specs.Sets.{width}
 
 -- the array's place in the tables
 module _ (s : tie.Start) where
@@ -58,7 +59,7 @@ relabelled-requires : tie.Need-relabelled-requires
 relabelled-requires c κs =
     let q = c .before .before in
     let s = q .before .before .before .before .before in (
-      subst (λ (r : ArrayRecord). r .initial < 16) (sym (q .before .record-of .ensures)) (proper _ (s .pre .0 .well) _ (s .pre .1 .0 .0) .initial-fits),
+      subst (λ (r : ArrayRecord). r .initial < width) (sym (q .before .record-of .ensures)) (proper _ (s .pre .0 .well) _ (s .pre .1 .0 .0) .initial-fits),
       subst (λ (x : Action). Visits x (whole (s .args .c))) (sym (q .at .ensures)) (s .pre .1 .1 .1),
     )
 

@@ -18,6 +18,7 @@ use Rattle.walk.specs.Walks.{Held}
 use Rattle.walk.proofs.Held.{hold-more}
 use Rattle.walk.proofs.start_all.Statement.{statement}
 use Rattle.walk.proofs.start_all.Tie as tie
+use Rattle.sets.specs.Sets.{width}
 
 abbrev Inv-loop : tie.InvT-loop
 Inv-loop file versions₀ stamps₀ states₀ m a₀ versions stamps states a = (a ≤ m) × Held (λ b. started (arrayOf file b)) a states versions stamps
@@ -46,7 +47,7 @@ record-of-requires c κs = (s c .pre .0 .well .laid, omega (arith, s c .pre .0 .
 
 start-requires : tie.Need-start-requires Inv-loop μ-loop
 start-requires c κs =
-    subst (λ (r : ArrayRecord). r .initial < 16) (sym (c .record-of .ensures)) (proper _ (s (c .before) .pre .0 .well) (c .before .before .loop .a) (omega (arith, s (c .before) .pre .0 .heads .arrays-are)) .initial-fits)
+    subst (λ (r : ArrayRecord). r .initial < width) (sym (c .record-of .ensures)) (proper _ (s (c .before) .pre .0 .well) (c .before .before .loop .a) (omega (arith, s (c .before) .pre .0 .heads .arrays-are)) .initial-fits)
 
 element-write-versions : tie.Need-element-write-versions Inv-loop μ-loop
 element-write-versions c = omega (arith, small (c .before .before))

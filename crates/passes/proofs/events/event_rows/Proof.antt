@@ -14,6 +14,7 @@ use Rattle.words.proofs.Replaced.{Replacing, replacing-begin, replacing-next, r
 use Rattle.passes.proofs.Cells.{in-eight}
 use Rattle.passes.proofs.events.event_rows.Statement.{statement}
 use Rattle.passes.proofs.events.event_rows.Tie as tie
+use Rattle.sets.specs.Sets.{width}
 
 abbrev Inv-loop : tie.InvT-loop
 Inv-loop file h v versions₀ uses₀ m a₀ versions uses a =
@@ -56,7 +57,7 @@ unfolding version
 version-set-requires c κs =
     let t = c .before .before in
     let file = s t .args .file .now in
-    subst (λ (x : Action). versionOf x < 16) (sym (c .at .ensures)) (version-fits file (t .before .loop .a) (proper file (s t .pre .0 .well) (t .before .loop .a) (in-a t)) (s t .args .v))
+    subst (λ (x : Action). versionOf x < width) (sym (c .at .ensures)) (version-fits file (t .before .loop .a) (proper file (s t .pre .0 .well) (t .before .loop .a) (in-a t)) (s t .args .v))
 
 mul-versions : tie.Need-mul-versions Inv-loop μ-loop
 mul-versions c = let t = c .before .before .before in omega (arith, small t, s t .pre .1 .0, s t .pre .0 .well .laid .limits .few-vertices)

@@ -15,6 +15,7 @@ use Rattle.words.proofs.Replaced.{Replacing, replacing-begin, replacing-next, r
 use Rattle.labels.proofs.Rules.Proper.{proper}
 use Rattle.passes.proofs.reaching.enter_gives.Statement.{statement}
 use Rattle.passes.proofs.reaching.enter_gives.Tie as tie
+use Rattle.sets.specs.Sets.{width}
 
 abbrev Inv-loop : tie.InvT-loop
 Inv-loop file letters gives₀ m a₀ gives a =
@@ -41,7 +42,7 @@ is-in-or-inout-requires c κs = search needs
 single-requires : tie.Need-single-requires Inv-loop μ-loop
 single-requires c κs =
     let s = c .before .before .before .before .before .before .before .before .before in
-    subst (λ (r : ArrayRecord). r .initial < 16) (sym (c .before .before .before .record-of .ensures)) (proper _ (s .pre .0 .well) (c .before .before .before .before .before .loop .a) (omega (arith, s .pre .0 .heads .arrays-are)) .initial-fits)
+    subst (λ (r : ArrayRecord). r .initial < width) (sym (c .before .before .before .record-of .ensures)) (proper _ (s .pre .0 .well) (c .before .before .before .before .before .loop .a) (omega (arith, s .pre .0 .heads .arrays-are)) .initial-fits)
 
 set-if-requires : tie.Need-set-if-requires Inv-loop μ-loop
 set-if-requires c κs = search needs

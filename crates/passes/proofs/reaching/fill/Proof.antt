@@ -5,7 +5,6 @@ use mathlib.Core.Bool.{Bool, cond, not}
 use Prim.Native.Nat.{ℕ, _-_}
 use lib.Dec.{eqb}
 use lib.ListN.{getD}
-use Rattle.labels.specs.Events.{everyVersion}
 use Rattle.labels.specs.Letters.{useOfByte}
 use Rattle.passes.specs.Tables.{reachedCell}
 use Rattle.labels.specs.Uses.{isN}
@@ -14,6 +13,7 @@ use native.Mathlib.Omega.{arith}
 use borrow.Author.Needs.{needs}
 use Rattle.passes.proofs.reaching.fill.Statement.{statement}
 use Rattle.passes.proofs.reaching.fill.Tie as tie
+use Rattle.sets.specs.Sets.{everyVersion}
 
 abbrev Inv-loop : tie.InvT-loop
 Inv-loop versions reached letters gives₀ passes₀ n i₀ gives passes i =
