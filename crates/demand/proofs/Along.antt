@@ -1,7 +1,7 @@
 -- One array along a whole path, for any sound plan: the run's records are the machine's, out and inout end home, and copies are no more
 -- than the machine counts.
 -- Assumes nothing.
-use mathlib.Core.Path.{_≡_, refl, ap, subst, _∙_}
+use mathlib.Core.Path.{_≡_, refl, sym, ap, subst, _∙_}
 use mathlib.Core.Bool.{Bool, true, not, _&&_, false≢true}
 use Prim.Native.Nat.{ℕ, zero, suc, _+_, _≤_, _<_}
 use native.Mathlib.Omega.{arith}
@@ -10,7 +10,7 @@ use lib.Dec.{T, eqb, lit≤}
 use lib.ListN.{getD, set, replicate, length-set}
 use lib.Seq.{getD-set-same}
 use Rattle.flow.specs.Paths.{Edge}
-use Rattle.routine.specs.Arrays.{isArgument, isInOrInout}
+use Rattle.routine.specs.Arrays.{isArgument, isInOrInout, isOutOrInout}
 use Rattle.labels.specs.Uses.{isN}
 use Rattle.labels.specs.declared.Use.{Use}
 use Rattle.labels.specs.declared.Use.the-variants.{W}
@@ -71,6 +71,13 @@ started-matches r below =
 
 pub left-copies : (r : ArrayRecord) (b : Bool) (s : State) → left r b s .copies ≡ s .copies
 left-copies r b s = at-cond (λ (s' : State). s' .copies ≡ s .copies) (b && not (isArgument (r .kind))) (λ _. refl) (λ _. refl)
+
+-- out and inout stay as they are
+left-stays : (r : ArrayRecord) (b : Bool) (s : State) → isOutOrInout (r .kind) ≡ true → left r b s ≡ s
+left-stays r b s k =
+    at-cond (λ (s' : State). s' ≡ s) (b && not (isArgument (r .kind)))
+    (λ e. absurd (false≢true (ap isOutOrInout (sym (eqb-true (r .kind) 0 (not-false _ (not-true _ (and-right b _ e))))) ∙ k)))
+    (λ _. refl)
 
 -- a W label leaves its version current, with the machine's stamp
 labelled-home : {u : Use} {t keep : ℕ} {s : State} {m : Machine} → t < width → u ≡ W → Labelled u t keep s m
@@ -158,7 +165,7 @@ module _ {p : ArrayPlan} (sound : Sound p) {at : ℕ → ℕ} {n : ℕ} {run : �
   matches-at (suc i) t h e = matches sound (next i h) (rw e tt)
 
   -- at the exit out and inout are home: current in the initial version, with the machine's stamp
-  pub home-at : (i : ℕ) → i < n → at i ≡ p .exit → 2 ≤ p .array .kind
+  pub home-at : (i : ℕ) → i < n → at i ≡ p .exit → isOutOrInout (p .array .kind) ≡ true
       → (run (suc i) .current ≡ p .array .initial) × (stampOf (run (suc i)) (p .array .initial) ≡ machine (suc i) .stamp)
   unfolding labelled referenced
   home-at i h e k =
@@ -166,9 +173,5 @@ module _ {p : ArrayPlan} (sound : Sound p) {at : ℕ → ℕ} {n : ℕ} {run : �
       let remaps = ap (p .event) e ∙ sound .exit-remaps k in
       let y = matches-at i t h remaps in
       let g = labelled-does (p .array) (p .letter (at i)) t (p .keep (at i)) (i + 1) (run i) (machine i) initial-below y in
-      rw (f .run-step i, f .machine-step i, remaps)
-      (at-cond (λ (s : State). (s .current ≡ t) × (stampOf s t ≡ machine i .stamp)) (eqb (at i) (p .exit) && not (isArgument (p .array .kind)))
-      (λ b.
-      let local : not (isArgument (p .array .kind)) ≡ true = and-right (eqb (at i) (p .exit)) _ b in
-      absurd (omega (arith, eqb-true (p .array .kind) 0 (not-false _ (not-true _ local)))))
-      (λ b. labelled-home initial-below (ap (p .letter) e ∙ sound .exit-letter k) g))
+      rw (f .run-step i ∙ left-stays (p .array) (eqb (at i) (p .exit)) (after i) k, f .machine-step i, remaps)
+      (labelled-home initial-below (ap (p .letter) e ∙ sound .exit-letter k) g)

@@ -1,19 +1,19 @@
 -- Demand 3 for every accepted file and path: all arrays at once, along the whole path.
 -- Assumes nothing.
 use mathlib.Core.Path.{_≡_, refl, sym, ap, _∙_}
-use mathlib.Core.Bool.{Bool, cond}
+use mathlib.Core.Bool.{Bool, true, cond}
 use mathlib.Core.List.{List, [], _∷_, _++_}
-use mathlib.Core.Logic.{⊎-elim}
 use mathlib.Core.Option.{Option, none, some}
 use Prim.Native.Nat.{ℕ, zero, suc, _+_, _-_, _≤_, _<_}
 use native.Mathlib.Nat.{add-zero}
 use native.Mathlib.Omega.{arith}
-use lib.Dec.{T, eqb}
+use lib.Dec.{T}
+use lib.Ieee.Bits.{is-true}
 use Rattle.labels.specs.Events.{event, isLabel, version, versionOf}
 use Rattle.routine.specs.Arrays.{kind, initial, isInOrInout, isOutOrInout}
 use Rattle.labels.specs.Reaching.{orLast, lastVersion}
 use Rattle.labels.specs.declared.Use.{Use}
-use Rattle.words.proofs.Tests.{or-iff, eqb-iff, at-cond}
+use Rattle.words.proofs.Tests.{at-cond}
 use Rattle.labels.proofs.Rules.Proper.{proper}
 use Rattle.routine.specs.Actions.{isReference, isRemap}
 use Rattle.routine.specs.Layout.{arrays, exit}
@@ -112,14 +112,10 @@ module _ {file path : List ℕ} (walk : Walk file path) (a : ℕ) where
     names zero h g = absurd (rw entered at g)
     names (suc i) h g = last-held i ∙ ap some (sym (used-at sound follows (suc i) h g))
 
-    home : vertexAt path (steps path - 1) ≡ exit file → 2 ≤ kind file a → IsHome file path a
+    home : vertexAt path (steps path - 1) ≡ exit file → isOutOrInout (kind file a) ≡ true → IsHome file path a
     home e k =
         let n : suc (steps path - 1) ≡ steps path = omega (arith, walk .some) in
         rw (← n) (home-at sound follows (steps path - 1) (omega arith) e k)
-
--- out and inout are the last two kinds
-not-local-nor-in : (k : ℕ) → T (isOutOrInout k) → 2 ≤ k
-not-local-nor-in k h = ⊎-elim (λ e. omega arith) (λ e. omega arith) (or-iff (eqb k 2) (eqb k 3) (eqb-iff k 2) (eqb-iff k 3) .0 h)
 
 -- ---- the whole
 
@@ -136,7 +132,7 @@ module _ (file path : List ℕ) (w : WellFormed file) (accepted : pathCheck file
       record {
         reads-alike = rows-same _ _ (steps path) (λ i h. rows-same _ _ (arrays file) (λ a l. alike-at (plans a l) (follows walks a) i a h));
         source-names = λ i a h l. names walks a (plans a l) i h;
-        ends-home = λ a l e k. home walks a (plans a l) e (not-local-nor-in (kind file a) k);
+        ends-home = λ a l e k. home walks a (plans a l) e (is-true _ k);
         copies-counted = λ a l. counted walks a (steps path);
         copies-fewer = λ a l. few-at (plans a l) (follows walks a) (steps path) (omega arith);
       }

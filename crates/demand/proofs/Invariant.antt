@@ -5,7 +5,7 @@ use mathlib.Core.Path.{_≡_, refl, sym, subst, _∙_}
 use mathlib.Core.Bool.{true, false, not, _&&_}
 use mathlib.Core.List.{List}
 use mathlib.Core.Logic.{_⊎_, inl, inr, ⊎-elim}
-use Prim.Native.Nat.{ℕ, _≤_, _<_}
+use Prim.Native.Nat.{ℕ, _<_}
 use native.Mathlib.Omega.{arith}
 use lib.Dec.{T}
 use lib.ListN.{length, getD, set}
@@ -17,6 +17,7 @@ use Rattle.labels.specs.Uses.{Segment, UndefinedSegment, isN}
 use Rattle.labels.specs.declared.Use.{Use}
 use Rattle.labels.specs.declared.Use.the-variants.{N, D, R, W}
 use Rattle.routine.specs.Actions.{isReference, isRemap}
+use Rattle.routine.specs.Arrays.{isOutOrInout}
 use Rattle.routine.specs.declared.action.Access.the-variants.{Read, Define, Modify}
 use Rattle.routine.specs.declared.action.Action.{Action}
 use Rattle.routine.specs.declared.action.Action.the-variants.{Nothing, Reference, Remap, Unknown}
@@ -56,8 +57,8 @@ pub record Sound (p : ArrayPlan) : Type 0 where
   pub below : {v k : ℕ} → p .event v ≡ Remap k → k < width
   -- the entry remaps to the initial version; so does the exit of out and inout, and its letter is W; no edge leaves the exit
   pub entry-remaps : p .event 0 ≡ Remap (p .array .initial)
-  pub exit-remaps : 2 ≤ p .array .kind → p .event (p .exit) ≡ Remap (p .array .initial)
-  pub exit-letter : 2 ≤ p .array .kind → p .letter (p .exit) ≡ W
+  pub exit-remaps : isOutOrInout (p .array .kind) ≡ true → p .event (p .exit) ≡ Remap (p .array .initial)
+  pub exit-letter : isOutOrInout (p .array .kind) ≡ true → p .letter (p .exit) ≡ W
   pub exit-ends : {w : ℕ} → Edge (p .edges) (p .exit) w → ⊥
 
 -- the last label is D, and no define was met since

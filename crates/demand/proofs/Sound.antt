@@ -1,9 +1,9 @@
 -- The computed plan of each array of a well-formed file is sound.
 -- Assumes nothing.
 use mathlib.Core.Path.{_≡_, refl, sym, ap, _∙_}
-use mathlib.Core.Bool.{Bool, false, cond, or-true}
+use mathlib.Core.Bool.{Bool, true, false, cond, or-true, false≢true}
 use mathlib.Core.List.{List}
-use Prim.Native.Nat.{ℕ, _≤_}
+use Prim.Native.Nat.{ℕ}
 use native.Mathlib.Omega.{arith}
 use borrow.Author.Tests.{eq-eqb, ne-eqb}
 use Rattle.labels.specs.Events.{edgeBytes, event, versionOf, version}
@@ -16,7 +16,7 @@ use Rattle.labels.specs.declared.Use.the-variants.{N, D, R, W}
 use Rattle.labels.proofs.Rules.Events.{version-fits, entry-remaps}
 use Rattle.labels.proofs.Rules.Kept.{kept-alone}
 use Rattle.labels.proofs.Rules.Uses.{exit-letter, n-segment, d-segment, r-segment}
-use Rattle.routine.specs.Arrays.{arrayOf, kind, initial}
+use Rattle.routine.specs.Arrays.{arrayOf, kind, initial, isOutOrInout}
 use Rattle.routine.specs.declared.action.Action.the-variants.{Remap}
 use Rattle.sets.specs.Sets.{has}
 use Rattle.sets.proofs.Laws.{single-is}
@@ -39,9 +39,9 @@ module _ {file : List ℕ} {a : ℕ} (proper : Proper file a) where
   unfolding version
   version-is v k e = ap versionOf e
 
-  exit-remaps : 2 ≤ kind file a → event file a (exit file) ≡ Remap (initial file a)
+  exit-remaps : isOutOrInout (kind file a) ≡ true → event file a (exit file) ≡ Remap (initial file a)
   unfolding event
-  exit-remaps k = rw (eq-eqb (exit file) (exit file) refl, ne-eqb (kind file a) 0 (λ e. omega arith), or-true)
+  exit-remaps k = rw (eq-eqb (exit file) (exit file) refl, ne-eqb (kind file a) 0 (λ e. false≢true (ap isOutOrInout (sym e) ∙ k)), or-true)
 
   pub sound : Sound (computedPlan file a)
   sound =
@@ -55,6 +55,6 @@ module _ {file : List ℕ} {a : ℕ} (proper : Proper file a) where
         below = λ {v} {k} e. omega (arith, version-fits file a proper v, version-is v k e);
         entry-remaps = entry-remaps file a;
         exit-remaps = exit-remaps;
-        exit-letter = λ k. exit-letter file a proper (exit file) refl ∙ ap (λ (b : Bool). cond b R W) (ne-eqb (kind file a) 1 (λ e. omega arith));
+        exit-letter = λ k. exit-letter file a proper (exit file) refl ∙ ap (λ (b : Bool). cond b R W) (ne-eqb (kind file a) 1 (λ e. false≢true (ap isOutOrInout (sym e) ∙ k)));
         exit-ends = λ {w}. proper .none-leaves w;
       }
