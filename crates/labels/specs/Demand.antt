@@ -6,6 +6,7 @@ use mathlib.Core.List.{List}
 use mathlib.Core.Logic.{_↔_}
 use Prim.Native.Nat.{ℕ, _<_}
 use lib.Dec.{T}
+use Rattle.refusal.specs.Faults.{FirstFault}
 use Rattle.refusal.specs.declared.Refusal.{Refusal}
 use Rattle.refusal.specs.declared.Refusal.the-variants.{AmbiguousReference}
 use Rattle.refusal.specs.declared.Verdict.the-variants.{Passed, Failed}
@@ -13,7 +14,7 @@ use Rattle.routine.specs.Layout.{arrays, vertices, exit}
 use Rattle.sets.specs.Sets.{has}
 use Rattle.labels.specs.declared.Use.{Use}
 use Rattle.labels.specs.Ambiguity.{Ambiguous}
-use Rattle.labels.specs.Checks.{FirstFault, check21}
+use Rattle.labels.specs.Checks.{check21}
 use Rattle.labels.specs.Events.{isLabel}
 use Rattle.labels.specs.Kept.{InKept, keptOf}
 use Rattle.labels.specs.Reaching.{Reaches, reachingOf}
@@ -34,4 +35,4 @@ pub record Demand2 (file : List ℕ) : Type 0 where
   -- else its places are those of the first that is, by vertex, then by array
   pub ambiguous :
       (r : Refusal) → (check21 file ≡ Failed r)
-      ↔ ((v : ℕ) × (a : ℕ) × FirstFault (λ v a. Ambiguous file a v) file v a × (r ≡ AmbiguousReference v a))
+      ↔ ((v : ℕ) × (a : ℕ) × FirstFault (λ v a. Ambiguous file a v) (vertices file) (arrays file) v a × (r ≡ AmbiguousReference v a))

@@ -2,6 +2,7 @@
 -- Assumes nothing.
 use mathlib.Core.Path.{_≡_, refl, sym, ap, _∙_}
 use mathlib.Core.Bool.{Bool, true, false, not, _||_}
+use mathlib.Core.Logic.{_↔_}
 use Prim.Native.Nat.{ℕ, zero, suc, _+_, _-_, _≤_, _<_}
 use native.Mathlib.Nat.{add-zero, zero-add}
 use native.Mathlib.Omega.{arith}
@@ -93,11 +94,11 @@ scan-start item n =
 
 -- ---- what a scan says: it passes exactly if every item passes, and fails with r exactly if the first item that fails does so with r
 
-pub record FirstAt (item : ℕ → Verdict) (from n : ℕ) (r : Refusal) : Type 0 where
-  pub at : ℕ
-  pub within : at < n
-  pub fails-there : item (from + at) ≡ Failed r
-  pub passed-before : (i : ℕ) → i < at → item (from + i) ≡ Passed
+record FirstAt (item : ℕ → Verdict) (from n : ℕ) (r : Refusal) : Type 0 where
+  at : ℕ
+  within : at < n
+  fails-there : item (from + at) ≡ Failed r
+  passed-before : (i : ℕ) → i < at → item (from + i) ≡ Passed
 
 module _ (item : ℕ → Verdict) where
   -- an item counted from the next one on
@@ -139,7 +140,7 @@ module _ (item : ℕ → Verdict) where
       rw (rw add-zero at (all 0 (omega arith)))
       (passed-scan (from + 1) n (λ i h. sym (next-item from i) ∙ all (suc i) (omega arith)))
 
-  pub scan-failed : (from n : ℕ) {r : Refusal} → firstFailed item from n ≡ Failed r → FirstAt item from n r
+  scan-failed : (from n : ℕ) {r : Refusal} → firstFailed item from n ≡ Failed r → FirstAt item from n r
   unfolding firstFailed
   scan-failed from zero e = absurd (let z : _≡_ {A = ℕ} 0 1 = cc in omega arith)
   scan-failed from (suc n) {r} e = go (item from) refl e (scan-failed (from + 1) n)
@@ -171,12 +172,16 @@ module _ (item : ℕ → Verdict) where
       rw (rw add-zero at (all 0 (omega arith)))
       (failed-from (from + 1) n k (omega arith) (sym (next-item from k) ∙ e) (λ i h. sym (next-item from i) ∙ all (suc i) (omega arith)))
 
-  pub failed-scan : (from n : ℕ) {r : Refusal} → FirstAt item from n r → firstFailed item from n ≡ Failed r
-  failed-scan from n f = failed-from from n (f .at) (f .within) (f .fails-there) (f .passed-before)
-
   -- from the first item on
   pub each-passed : (n : ℕ) → firstFailed item 0 n ≡ Passed → (i : ℕ) → i < n → item i ≡ Passed
   each-passed n e i h = rw zero-add at (scan-passed 0 n e i h)
 
   pub all-passed : (n : ℕ) → ((i : ℕ) → i < n → item i ≡ Passed) → firstFailed item 0 n ≡ Passed
   all-passed n all = passed-scan 0 n (λ i h. rw zero-add (all i h))
+
+  pub scan-failed-iff : (n : ℕ) (r : Refusal)
+      → (firstFailed item 0 n ≡ Failed r) ↔ ((i : ℕ) × (i < n) × (item i ≡ Failed r) × ((j : ℕ) → j < i → item j ≡ Passed))
+  scan-failed-iff n r = (
+    λ e. let f = scan-failed 0 n e in (f .at, f .within, rw zero-add at (f .fails-there), λ j h. rw zero-add at (f .passed-before j h)),
+    λ p. failed-from 0 n (p .0) (p .1) (rw zero-add (p .2)) (λ j h. rw zero-add (p .3 j h)),
+  )
