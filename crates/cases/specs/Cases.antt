@@ -36,14 +36,14 @@ pub data Line : Type 0 where
 
 -- the line of array a at vertex v, if it has a label there
 abbrev pub lineAt : List ℕ → ℕ → ℕ → List Line
-lineAt file v a =
+lineAt file a v =
     cond (isLabel file a v)
     (line v a (useOf file a v) (cond (isN (useOf file a v)) none (some (version file a v))) (reachingOf file a v) (keptOf file a v) ∷ [])
     []
 
 -- by vertex, then array
 abbrev pub linesOf : List ℕ → List Line
-linesOf file = rows (λ v. rows (lineAt file v) (arrays file)) (vertices file)
+linesOf file = rows (λ v. rows (λ a. lineAt file a v) (arrays file)) (vertices file)
 
 -- ---- what a read sees
 

@@ -29,7 +29,7 @@ solvedSets file along gives passes =
 unfoldable pub event : List ℕ → ℕ → ℕ → Action
 unfolding arrayOf action
 event file a v =
-    cond (eqb v entry || (eqb v (exit file) && isArgument (kind file a))) (Remap (initial file a)) (action file v a)
+    cond (eqb v entry || (eqb v (exit file) && isArgument (kind file a))) (Remap (initial file a)) (action file a v)
 
 -- a label is a remapping; a remap action is a label even if that version already reaches it
 abbrev pub isLabel : List ℕ → ℕ → ℕ → Bool

@@ -26,7 +26,7 @@ pub fn at(file: &[u8], h: Header, r: ArrayRecord, a: usize, v: usize) -> Action
     if label {
         return Action::Remap(r.initial);
     }
-    action::at(file, h, v, a)
+    action::at(file, h, a, v)
 }
 
 // A label is a remapping.

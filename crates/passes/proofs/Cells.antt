@@ -81,20 +81,20 @@ module _ {file : List ℕ} (well : WellFormed file) where
     }
 
   -- the actions of all vertices, and then the events of the entry and the exit
-  pub cells-events : (f : Action → ℕ) {s t u : List ℕ} → Cells file (λ a v. f (action file v a)) s → t ≡ withRow s entry (λ a. f (event file a entry)) (arrays file)
+  pub cells-events : (f : Action → ℕ) {s t u : List ℕ} → Cells file (λ a v. f (action file a v)) s → t ≡ withRow s entry (λ a. f (event file a entry)) (arrays file)
       → {w : ℕ} → w ≡ exit file → u ≡ withRow t w (λ a. f (event file a w)) (arrays file) → Cells file (λ a v. f (event file a v)) u
   cells-events f {s} {t} h e last g =
       let two = well .laid .limits .two-vertices in
       subst (Cells file (λ a v. f (event file a v))) (sym (g ∙ ap (λ (w : ℕ). withRow t w (λ a. f (event file a w)) (arrays file)) last))
       (cells-row (λ a. f (event file a (exit file))) (exit file) (omega arith)
-      (subst (Cells file (λ a v. cond (eqb v (exit file)) (f (action file v a)) (f (event file a v)))) (sym e)
+      (subst (Cells file (λ a v. cond (eqb v (exit file)) (f (action file a v)) (f (event file a v)))) (sym e)
       (cells-row (λ a. f (event file a entry)) entry (omega arith) h
-      (λ a in-a. ap (λ (b : Bool). cond b (f (action file entry a)) (f (event file a entry))) (sym (ne-eqb entry (exit file) (λ q. omega arith))))
+      (λ a in-a. ap (λ (b : Bool). cond b (f (action file a entry)) (f (event file a entry))) (sym (ne-eqb entry (exit file) (λ q. omega arith))))
       (λ a v in-a other.
-      at-cond (λ (x : ℕ). f (action file v a) ≡ x) (eqb v (exit file)) (λ _. refl)
+      at-cond (λ (x : ℕ). f (action file a v) ≡ x) (eqb v (exit file)) (λ _. refl)
       (λ q. ap f (sym (inner-event file a v (ne-eqb v entry other) q))))))
       (λ a in-a. refl)
-      (λ a v in-a other. ap (λ (b : Bool). cond b (f (action file v a)) (f (event file a v))) (ne-eqb v (exit file) other)))
+      (λ a v in-a other. ap (λ (b : Bool). cond b (f (action file a v)) (f (event file a v))) (ne-eqb v (exit file) other)))
 
   -- the sets that a pass leaves
   pub cells-solved : (G P : ℕ → ℕ → ℕ) {gives passes sets : List ℕ} {along : Bool} → Cells file G gives → Cells file P passes → Pass file along gives passes sets

@@ -22,13 +22,13 @@ fn versions_row(file: &[u8], h: Header, v: usize, versions: &mut [Set])
     requires { ⌜ v < vertices (now file) ⌝ }
     requires { ⌜ length (now versions) ≡ 8 * vertices (now file) ⌝ }
     ensures { λ _. ⌜ now (versions .exit)
-        ≡ withRow (now (versions .entry)) v (λ a. versionSet (action (now (file .entry)) v a)) (arrays (now (file .entry))) ⌝ }
+        ≡ withRow (now (versions .entry)) v (λ a. versionSet (action (now (file .entry)) a v)) (arrays (now (file .entry))) ⌝ }
 {
     let m = h.arrays;
     let mut a = 0;
     while a < m {
         let at = flow::COLUMNS * v + a;
-        versions[at] = event::version_set(action::at(file, h, v, a));
+        versions[at] = event::version_set(action::at(file, h, a, v));
         a += 1;
     }
 }
@@ -39,13 +39,13 @@ fn uses_row(file: &[u8], h: Header, v: usize, uses: &mut [Set])
     requires { ⌜ v < vertices (now file) ⌝ }
     requires { ⌜ length (now uses) ≡ 8 * vertices (now file) ⌝ }
     ensures { λ _. ⌜ now (uses .exit)
-        ≡ withRow (now (uses .entry)) v (λ a. useGives (action (now (file .entry)) v a)) (arrays (now (file .entry))) ⌝ }
+        ≡ withRow (now (uses .entry)) v (λ a. useGives (action (now (file .entry)) a v)) (arrays (now (file .entry))) ⌝ }
 {
     let m = h.arrays;
     let mut a = 0;
     while a < m {
         let at = flow::COLUMNS * v + a;
-        uses[at] = event::gives_of(action::at(file, h, v, a));
+        uses[at] = event::gives_of(action::at(file, h, a, v));
         a += 1;
     }
 }
@@ -77,8 +77,8 @@ fn action_rows(file: &[u8], h: Header, versions: &mut [Set], uses: &mut [Set])
     requires { ⌜ ReadAs (now file) h ⌝ }
     requires { ⌜ length (now versions) ≡ 8 * vertices (now file) ⌝ }
     requires { ⌜ length (now uses) ≡ 8 * vertices (now file) ⌝ }
-    ensures { λ _. ⌜ Cells (now (file .entry)) (λ a v. versionSet (action (now (file .entry)) v a)) (now (versions .exit)) ⌝ }
-    ensures { λ _. ⌜ Cells (now (file .entry)) (λ a v. useGives (action (now (file .entry)) v a)) (now (uses .exit)) ⌝ }
+    ensures { λ _. ⌜ Cells (now (file .entry)) (λ a v. versionSet (action (now (file .entry)) a v)) (now (versions .exit)) ⌝ }
+    ensures { λ _. ⌜ Cells (now (file .entry)) (λ a v. useGives (action (now (file .entry)) a v)) (now (uses .exit)) ⌝ }
 {
     let n = h.vertices;
     let mut v = 0;

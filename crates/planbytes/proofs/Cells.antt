@@ -26,12 +26,12 @@ use Rattle.labels.proofs.Letters.{letter-use}
 
 -- ---- an entry's bytes
 
-module _ (file : List ℕ) (v a : ℕ) where
-  pub labelled-bytes : isLabel file a v ≡ true → labelEntry file v a ≡ labelBytes file v a
+module _ (file : List ℕ) (a v : ℕ) where
+  pub labelled-bytes : isLabel file a v ≡ true → labelEntry file a v ≡ labelBytes file a v
   unfolding labelEntry
   labelled-bytes e = rw e
 
-  pub unlabelled-bytes : isLabel file a v ≡ false → labelEntry file v a ≡ []
+  pub unlabelled-bytes : isLabel file a v ≡ false → labelEntry file a v ≡ []
   unfolding labelEntry
   unlabelled-bytes e = rw e
 
@@ -98,7 +98,7 @@ module _ {h : Header} {file : List ℕ} (is : ReadAs file h) {a v : ℕ} (in-a :
     -- the label made of the entries is the one that the plan has
     pub made : {leaving : ℕ} (old : List ℕ) {new : List ℕ} → isLabel file a v ≡ true → Leaving (getD versions (8 * v + a) 0) (getD letters (8 * v + a) 0) leaving
         → new ≡ eightBytes a (getD letters (8 * v + a) 0) leaving (getD reaching (8 * v + a) 0) (getD kept (8 * v + a) 0) ++ drop 8 old
-        → new ≡ wrote old (labelBytes file v a)
+        → new ≡ wrote old (labelBytes file a v)
     unfolding labelBytes
     made old l f g =
         let letter = t .letters-and-kept .letters-are .cells a v in-a in-v in

@@ -80,7 +80,7 @@ module _ (file : List ℕ) where
   -- a vertex without labels writes nothing
   pub row-none : (v : ℕ) → ((a : ℕ) → a < arrays file → isLabel file a v ≡ false) → labelRow file v ≡ []
   unfolding labelRow labelEntry
-  row-none v none = rows-empty (labelEntry file v) (arrays file) (λ a l. ap (λ (b : Bool). cond b (labelBytes file v a) []) (none a l))
+  row-none v none = rows-empty (λ a. labelEntry file a v) (arrays file) (λ a l. ap (λ (b : Bool). cond b (labelBytes file a v) []) (none a l))
 
   -- vertex v's entry of the contents, from two indices
   pub entry-holds : {firsts : List ℕ} → Laid file → Firsts file firsts → {v : ℕ} → v < vertices file → IndexEntry file firsts v
@@ -102,17 +102,17 @@ module _ (file : List ℕ) where
   unfolding contentsEntry
   entry-at v = sym (rows-length (contentsEntry file) 4 (λ v. refl) v)
 
-  entry-length : (v a : ℕ) → length (labelEntry file v a) ≡ 8 * cond (isLabel file a v) 1 0
+  entry-length : (a v : ℕ) → length (labelEntry file a v) ≡ 8 * cond (isLabel file a v) 1 0
   unfolding labelEntry labelBytes
-  entry-length v a = go (isLabel file a v)
+  entry-length a v = go (isLabel file a v)
     where
-      go : (b : Bool) → length (cond b (labelBytes file v a) []) ≡ 8 * cond b 1 0
+      go : (b : Bool) → length (cond b (labelBytes file a v) []) ≡ 8 * cond b 1 0
       go true = refl
       go false = refl
 
   label-row-length : (v : ℕ) → length (labelRow file v) ≡ 8 * labelsAt file v
   unfolding labelRow labelsAt
-  label-row-length v = rows-total (labelEntry file v) (λ a. cond (isLabel file a v) 1 0) 8 (entry-length v) (arrays file)
+  label-row-length v = rows-total (λ a. labelEntry file a v) (λ a. cond (isLabel file a v) 1 0) 8 (λ a. entry-length a v) (arrays file)
 
   pub labels-length : length (labels file) ≡ 8 * labelCount file
   unfolding labels labelCount labelsBefore

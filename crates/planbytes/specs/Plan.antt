@@ -60,18 +60,18 @@ eightBytes array letter leaving reaching kept = array ∷ letter ∷ leaving ∷
 -- the label of array a at vertex v
 unfoldable pub labelBytes : List ℕ → ℕ → ℕ → List ℕ
 unfolding useOf leavingByte reachingOf keptOf
-labelBytes file v a =
+labelBytes file a v =
     eightBytes a (letterByte (useOf file a v)) (leavingByte file a v) (reachingOf file a v) (keptOf file a v)
 
 -- a label's bytes, none where array a has no label at v
 unfoldable pub labelEntry : List ℕ → ℕ → ℕ → List ℕ
 unfolding event labelBytes
-labelEntry file v a = cond (isLabel file a v) (labelBytes file v a) []
+labelEntry file a v = cond (isLabel file a v) (labelBytes file a v) []
 
 -- the labels of vertex v
 unfoldable pub labelRow : List ℕ → ℕ → List ℕ
 unfolding rows labelEntry
-labelRow file v = rows (labelEntry file v) (arrays file)
+labelRow file v = rows (λ a. labelEntry file a v) (arrays file)
 
 -- the labels of all vertices
 unfoldable pub labels : List ℕ → List ℕ

@@ -48,8 +48,8 @@ fn leaving(version: Set, letter: u8) -> u8
 fn write_label(
     file: &[u8],
     h: Header,
-    v: usize,
     a: usize,
+    v: usize,
     versions: &[Set],
     letters: &[u8],
     reaching: &[Set],
@@ -60,9 +60,9 @@ fn write_label(
     requires { ⌜ v < vertices (now file) ⌝ }
     requires { ⌜ a < arrays (now file) ⌝ }
     requires { ⌜ Tabled (now file) (now versions) (now letters) (now reaching) (now kept) ⌝ }
-    requires { ⌜ length (labelEntry (now file) v a) ≤ length (now out) ⌝ }
-    ensures { λ r. ⌜ r ≡ length (labelEntry (now (file .entry)) v a) ⌝ }
-    ensures { λ _. ⌜ now (out .exit) ≡ wrote (now (out .entry)) (labelEntry (now (file .entry)) v a) ⌝ }
+    requires { ⌜ length (labelEntry (now file) a v) ≤ length (now out) ⌝ }
+    ensures { λ r. ⌜ r ≡ length (labelEntry (now (file .entry)) a v) ⌝ }
+    ensures { λ _. ⌜ now (out .exit) ≡ wrote (now (out .entry)) (labelEntry (now (file .entry)) a v) ⌝ }
 {
     let at = flow::COLUMNS * v + a;
     let version = versions[at];
@@ -123,8 +123,8 @@ fn write_row(
         at += write_label(
             file,
             h,
-            v,
             a,
+            v,
             versions,
             letters,
             reaching,

@@ -26,7 +26,7 @@ ghost use Rattle.words.specs.Tables.{table, wrote};
 pub const ENTRY: usize = 6;
 
 // Whether vertex v refers to array a, 1 or 0.
-fn reference_at(file: &[u8], h: Header, v: usize, a: usize) -> usize
+fn reference_at(file: &[u8], h: Header, a: usize, v: usize) -> usize
     requires { ⌜ ReadAs (now file) h ⌝ }
     requires { ⌜ v < vertices (now file) ⌝ }
     requires { ⌜ a < arrays (now file) ⌝ }
@@ -50,7 +50,7 @@ fn references_at(file: &[u8], h: Header, v: usize) -> usize
     let mut count = 0;
     let mut a = 0;
     while a < m {
-        count += reference_at(file, h, v, a);
+        count += reference_at(file, h, a, v);
         a += 1;
     }
     count

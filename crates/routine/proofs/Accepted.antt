@@ -29,7 +29,7 @@ bodies-passed file l e =
     record {
       laid = l;
       arrays-pass = each-passed (arrayCheck file) (arrays file) (search parts);
-      actions-pass = λ v a in-v in-a. each-passed (actionCheck file v) (arrays file) (each-passed (rowCheck file) (vertices file) (search parts) v in-v) a in-a;
+      actions-pass = λ a v in-a in-v. each-passed (λ a. actionCheck file a v) (arrays file) (each-passed (rowCheck file) (vertices file) (search parts) v in-v) a in-a;
       edges-pass = each-passed (edgeCheck file) (edges file) (search parts);
     }
 
@@ -38,7 +38,7 @@ unfolding bodyCheck check14 check15 check16
 passed-bodies file w =
     rw (
       all-passed (arrayCheck file) (arrays file) (w .arrays-pass),
-      all-passed (rowCheck file) (vertices file) (λ v in-v. all-passed (actionCheck file v) (arrays file) (λ a in-a. w .actions-pass v a in-v in-a)),
+      all-passed (rowCheck file) (vertices file) (λ v in-v. all-passed (λ a. actionCheck file a v) (arrays file) (λ a in-a. w .actions-pass a v in-a in-v)),
     ) (all-passed (edgeCheck file) (edges file) (w .edges-pass))
 
 -- ---- the reader's answer

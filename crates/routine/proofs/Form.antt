@@ -50,7 +50,7 @@ few-actions l = mul-le-mul (l .few-vertices) (l .few-arrays)
 
 module _ {h : Header} {file : List ℕ} (is : Heads h file) where
   pub action-place : {v a : ℕ} → v < vertices file → a < arrays file →
-      (18 + 4 * h .arrays + v * h .arrays + a ≡ actionAt file v a) × (actionAt file v a < length file)
+      (18 + 4 * h .arrays + v * h .arrays + a ≡ actionAt file a v) × (actionAt file a v < length file)
   action-place {v} {a} in-v in-a =
       omega (
         arith,

@@ -19,7 +19,7 @@ use Rattle.refusal.proofs.Checks.{holds-or, first-last}
 
 -- one of the first n actions of vertex v passes the test
 abbrev pub among : (Action → Bool) → List ℕ → ℕ → ℕ → Bool
-among test file v n = anyBelow (λ a. test (action file v a)) n
+among test file v n = anyBelow (λ a. test (action file a v)) n
 
 -- ---- only the byte 0 is nothing
 
@@ -33,9 +33,9 @@ first-branch : (t : Bool) (x : Action) → isNothing x ≡ false → isNothing (
 first-branch true x e = refl
 first-branch false x e = e
 
-nothing-zero : (file : List ℕ) (v a : ℕ) → isNothing (action file v a) ≡ eqb (actionByte file v a) 0
+nothing-zero : (file : List ℕ) (a v : ℕ) → isNothing (action file a v) ≡ eqb (actionByte file a v) 0
 unfolding action
-nothing-zero file v a = search (first-branch, neither-branch) depth 8
+nothing-zero file a v = search (first-branch, neither-branch) depth 8
 
 -- ---- mixed with one of the earlier ones
 
@@ -51,29 +51,29 @@ mixed-more (Reference r) y references remaps = ap₂ _||_ (or-false remaps) (or-
 mixed-more (Remap k) y references remaps = refl
 mixed-more Unknown y references remaps = refl
 
-module _ (file : List ℕ) (v a : ℕ) where
-  mixed-among : (n : ℕ) → firstFailed (mixedCheck file v a) 0 n ≡ wrong file v a (isMixed (action file v a) (among isReference file v n) (among isRemap file v n))
+module _ (file : List ℕ) (a v : ℕ) where
+  mixed-among : (n : ℕ) → firstFailed (mixedCheck file a v) 0 n ≡ wrong file a v (isMixed (action file a v) (among isReference file v n) (among isRemap file v n))
   unfolding firstFailed mixedCheck anyBelow
-  mixed-among zero = rw (mixed-none (action file v a))
+  mixed-among zero = rw (mixed-none (action file a v))
   mixed-among (suc n) =
-      let x = action file v a in
-      let y = action file v n in
+      let x = action file a v in
+      let y = action file n v in
       let references = among isReference file v n in
       let remaps = among isRemap file v n in
-      first-last (mixedCheck file v a) 0 n
-      ∙ ap₂ _andThen_ (mixed-among n) (ap (mixedCheck file v a) (zero-add n))
-      ∙ holds-or (isMixed x references remaps) (isMixed x (isReference y) (isRemap y)) (WrongActionByte (actionAt file v a))
-      ∙ ap (wrong file v a) (mixed-more x y references remaps)
+      first-last (mixedCheck file a v) 0 n
+      ∙ ap₂ _andThen_ (mixed-among n) (ap (mixedCheck file a v) (zero-add n))
+      ∙ holds-or (isMixed x references remaps) (isMixed x (isReference y) (isRemap y)) (WrongActionByte (actionAt file a v))
+      ∙ ap (wrong file a v) (mixed-more x y references remaps)
 
   -- four faults, one refusal
   pub one-test : {bad : Bool} {x : Action} {versions : ℕ} {terminal references remaps : Bool} →
       bad ≡ isWrong x versions terminal references remaps →
-      x ≡ action file v a →
+      x ≡ action file a v →
       versions ≡ arrayOf file a .versions →
       terminal ≡ isEntryOrExit file v →
       references ≡ among isReference file v a →
       remaps ≡ among isRemap file v a →
-      actionCheck file v a ≡ wrong file v a bad
+      actionCheck file a v ≡ wrong file a v bad
   unfolding actionCheck
   one-test is e f g h i =
-      rw (is, e, f, g, h, i) (simp (mixed-among a, nothing-zero file v a, and-comm (isEntryOrExit file v) (not (eqb (actionByte file v a) 0)), holds-or))
+      rw (is, e, f, g, h, i) (simp (mixed-among a, nothing-zero file a v, and-comm (isEntryOrExit file v) (not (eqb (actionByte file a v) 0)), holds-or))

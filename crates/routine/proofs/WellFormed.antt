@@ -37,32 +37,32 @@ pub record EdgeLimits (e : Edge) (n : ℕ) : Type 0 where
 
 -- ---- an action byte that passed
 
-record PassedAction (file : List ℕ) (v a : ℕ) : Type 0 where
-  known : isKnown (action file v a) ≡ true
-  below : remapsBelow (action file v a) (arrayOf file a .versions) ≡ true
-  zero-there : isEntryOrExit file v ≡ true → action file v a ≡ Nothing
-  alike : (b : ℕ) → b < a → isMixed (action file v a) (isReference (action file v b)) (isRemap (action file v b)) ≡ false
+record PassedAction (file : List ℕ) (a v : ℕ) : Type 0 where
+  known : isKnown (action file a v) ≡ true
+  below : remapsBelow (action file a v) (arrayOf file a .versions) ≡ true
+  zero-there : isEntryOrExit file v ≡ true → action file a v ≡ Nothing
+  alike : (b : ℕ) → b < a → isMixed (action file a v) (isReference (action file b v)) (isRemap (action file b v)) ≡ false
 
 -- not both in the row of the entry or the exit and other than zero
 placed : (row zero : Bool) → not (row && not zero) ≡ true → row ≡ true → zero ≡ true
 placed row zero e q = not-false zero (rw q at (not-true (row && not zero) e))
 
-zero-nothing : (file : List ℕ) (v a : ℕ) → actionByte file v a ≡ 0 → action file v a ≡ Nothing
+zero-nothing : (file : List ℕ) (a v : ℕ) → actionByte file a v ≡ 0 → action file a v ≡ Nothing
 unfolding action
-zero-nothing file v a e = ap actionOf e
+zero-nothing file a v e = ap actionOf e
 
-unmixed : (file : List ℕ) (v a b : ℕ) → mixedCheck file v a b ≡ Passed → isMixed (action file v a) (isReference (action file v b)) (isRemap (action file v b)) ≡ false
+unmixed : (file : List ℕ) (a v b : ℕ) → mixedCheck file a v b ≡ Passed → isMixed (action file a v) (isReference (action file b v)) (isRemap (action file b v)) ≡ false
 unfolding mixedCheck
-unmixed file v a b e = search parts
+unmixed file a v b e = search parts
 
-passed-action : (file : List ℕ) (v a : ℕ) → actionCheck file v a ≡ Passed → PassedAction file v a
+passed-action : (file : List ℕ) (a v : ℕ) → actionCheck file a v ≡ Passed → PassedAction file a v
 unfolding actionCheck
-passed-action file v a e =
+passed-action file a v e =
     record {
       known = search parts;
       below = search parts;
-      zero-there = λ r. zero-nothing file v a (eqb-true _ _ (placed _ _ (search parts) r));
-      alike = λ b h. unmixed file v a b (each-passed (mixedCheck file v a) a (search parts) b h);
+      zero-there = λ r. zero-nothing file a v (eqb-true _ _ (placed _ _ (search parts) r));
+      alike = λ b h. unmixed file a v b (each-passed (mixedCheck file a v) a (search parts) b h);
     }
 
 -- ---- the laws
@@ -75,26 +75,26 @@ module _ {file : List ℕ} (w : WellFormed file) where
       search parts
 
   module _ {v a : ℕ} (in-v : v < vertices file) (in-a : a < arrays file) where
-    passed-here : PassedAction file v a
-    passed-here = passed-action file v a (w .actions-pass v a in-v in-a)
+    passed-here : PassedAction file a v
+    passed-here = passed-action file a v (w .actions-pass a v in-a in-v)
 
-    pub action-known : action file v a ≡ Unknown → ⊥
+    pub action-known : action file a v ≡ Unknown → ⊥
     action-known e = false≢true (rw e at (passed-here .known))
 
-    pub remap-below : {k : ℕ} → action file v a ≡ Remap k → k < arrayOf file a .versions
+    pub remap-below : {k : ℕ} → action file a v ≡ Remap k → k < arrayOf file a .versions
     remap-below {k} e = ltb-true k (arrayOf file a .versions) (rw e at (passed-here .below))
 
-  pub entry-nothing : {a : ℕ} → a < arrays file → action file 0 a ≡ Nothing
+  pub entry-nothing : {a : ℕ} → a < arrays file → action file a 0 ≡ Nothing
   entry-nothing in-a = passed-here {v = 0} (omega (arith, w .laid .limits)) in-a .zero-there refl
 
-  pub exit-nothing : {a : ℕ} → a < arrays file → action file (vertices file - 1) a ≡ Nothing
+  pub exit-nothing : {a : ℕ} → a < arrays file → action file a (vertices file - 1) ≡ Nothing
   exit-nothing in-a =
       let last = vertices file - 1 in
       passed-here {v = last} (omega (arith, w .laid .limits)) in-a .zero-there (rw (eq-eqb last last refl, or-true))
 
   -- a vertex has references or remappings, never both
   pub never-both : {v a b : ℕ} {r : Access} {k : ℕ} → v < vertices file → a < arrays file → b < arrays file →
-      action file v a ≡ Reference r → action file v b ≡ Remap k → ⊥
+      action file a v ≡ Reference r → action file b v ≡ Remap k → ⊥
   never-both {v} {a} {b} in-v in-a in-b reference remap =
       ⊎-elim
       (λ (none : b - a ≡ 0). ⊎-elim

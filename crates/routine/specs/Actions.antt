@@ -26,14 +26,14 @@ actionOf b =
     (cond (ltb b (0x40 + width)) (Remap (b - 0x40))
     Unknown)))))
 
--- the byte of vertex v and array a
+-- the byte of array a at vertex v
 abbrev pub actionByte : List ℕ → ℕ → ℕ → ℕ
-actionByte file v a = getD file (actionAt file v a) 0
+actionByte file a v = getD file (actionAt file a v) 0
 
 -- what vertex v does with array a
 unfoldable pub action : List ℕ → ℕ → ℕ → Action
 unfolding actionOf
-action file v a = actionOf (actionByte file v a)
+action file a v = actionOf (actionByte file a v)
 
 -- one of document 01's five
 abbrev pub isKnown : Action → Bool
@@ -73,27 +73,27 @@ isMixed x references remaps = isReference x && remaps || isRemap x && references
 
 -- refused at its byte
 abbrev pub wrong : List ℕ → ℕ → ℕ → Bool → Verdict
-wrong file v a bad = holds (not bad) (WrongActionByte (actionAt file v a))
+wrong file a v bad = holds (not bad) (WrongActionByte (actionAt file a v))
 
 -- mixed with an earlier action of its row
 unfoldable pub mixedCheck : List ℕ → ℕ → ℕ → ℕ → Verdict
 unfolding action
-mixedCheck file v a earlier =
-    wrong file v a (isMixed (action file v a) (isReference (action file v earlier)) (isRemap (action file v earlier)))
+mixedCheck file a v earlier =
+    wrong file a v (isMixed (action file a v) (isReference (action file earlier v)) (isRemap (action file earlier v)))
 
 -- action unknown, version too large, row of entry or exit not zero, or references and remappings in one row
 unfoldable pub actionCheck : List ℕ → ℕ → ℕ → Verdict
 unfolding action arrayOf firstFailed mixedCheck
-actionCheck file v a =
-    wrong file v a (not (isKnown (action file v a)))
-    andThen wrong file v a (not (remapsBelow (action file v a) (arrayOf file a .versions)))
-    andThen wrong file v a (isEntryOrExit file v && not (eqb (actionByte file v a) 0))
-    andThen firstFailed (mixedCheck file v a) 0 a
+actionCheck file a v =
+    wrong file a v (not (isKnown (action file a v)))
+    andThen wrong file a v (not (remapsBelow (action file a v) (arrayOf file a .versions)))
+    andThen wrong file a v (isEntryOrExit file v && not (eqb (actionByte file a v) 0))
+    andThen firstFailed (mixedCheck file a v) 0 a
 
 -- the first wrong byte of a vertex's row
 unfoldable pub rowCheck : List ℕ → ℕ → Verdict
 unfolding actionCheck firstFailed
-rowCheck file v = firstFailed (actionCheck file v) 0 (arrays file)
+rowCheck file v = firstFailed (λ a. actionCheck file a v) 0 (arrays file)
 
 -- 15: action byte, first by vertex, then by array
 unfoldable pub check15 : List ℕ → Verdict

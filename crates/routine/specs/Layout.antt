@@ -47,9 +47,9 @@ recordAt a = 18 + 4 * a
 abbrev pub actionsAt : List ℕ → ℕ
 actionsAt file = 18 + 4 * arrays file
 
--- the action byte of vertex v and array a
+-- the action byte of array a at vertex v
 abbrev pub actionAt : List ℕ → ℕ → ℕ → ℕ
-actionAt file v a = actionsAt file + v * arrays file + a
+actionAt file a v = actionsAt file + v * arrays file + a
 
 -- the first edge
 abbrev pub edgesAt : List ℕ → ℕ

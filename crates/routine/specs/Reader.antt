@@ -64,7 +64,7 @@ pub record Laid (file : List ℕ) : Type 0 where
 pub record WellFormed (file : List ℕ) : Type 0 where
   pub laid : Laid file
   pub arrays-pass : (a : ℕ) → a < arrays file → arrayCheck file a ≡ Passed
-  pub actions-pass : (v a : ℕ) → v < vertices file → a < arrays file → actionCheck file v a ≡ Passed
+  pub actions-pass : (a v : ℕ) → a < arrays file → v < vertices file → actionCheck file a v ≡ Passed
   pub edges-pass : (i : ℕ) → i < edges file → edgeCheck file i ≡ Passed
 
 -- a laid file with its own header

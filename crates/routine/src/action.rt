@@ -77,25 +77,25 @@ impl Action {
     }
 }
 
-// Where the action byte of vertex v and array a stands.
-fn place(file: &[u8], h: Header, v: usize, a: usize) -> usize
+// Where the action byte of array a at vertex v stands.
+fn place(file: &[u8], h: Header, a: usize, v: usize) -> usize
     requires { ⌜ Heads h (now file) ⌝ }
     requires { ⌜ v < vertices (now file) ⌝ }
     requires { ⌜ a < arrays (now file) ⌝ }
-    ensures { λ r. ⌜ r ≡ actionAt (now (file .entry)) v a ⌝ }
+    ensures { λ r. ⌜ r ≡ actionAt (now (file .entry)) a v ⌝ }
     ensures { λ r. ⌜ r < length (now (file .entry)) ⌝ }
 {
     h.actions_at() + v * h.arrays + a
 }
 
 // What vertex v does with array a.
-pub fn at(file: &[u8], h: Header, v: usize, a: usize) -> Action
+pub fn at(file: &[u8], h: Header, a: usize, v: usize) -> Action
     requires { ⌜ Heads h (now file) ⌝ }
     requires { ⌜ v < vertices (now file) ⌝ }
     requires { ⌜ a < arrays (now file) ⌝ }
-    ensures { λ r. ⌜ r ≡ action (now (file .entry)) v a ⌝ }
+    ensures { λ r. ⌜ r ≡ action (now (file .entry)) a v ⌝ }
 {
-    let at = place(file, h, v, a);
+    let at = place(file, h, a, v);
     Action::of(file[at])
 }
 
@@ -119,12 +119,12 @@ fn check_row(file: &[u8], h: Header, v: usize) -> Verdict
     let mut remaps = false;
     let mut a = 0;
     while a < n {
-        let x = at(file, h, v, a);
+        let x = at(file, h, a, v);
         let versions = array::record_of(file, a).versions;
         let wrong = x.is_wrong(versions, terminal, references, remaps);
         if wrong {
             return Verdict::Failed(Refusal::WrongActionByte {
-                byte: place(file, h, v, a),
+                byte: place(file, h, a, v),
             });
         }
         references = references | x.is_reference();

@@ -22,7 +22,7 @@ module _ {file : List ℕ} (well : WellFormed file) (v : ℕ) where
   -- ---- its row
 
   module _ (in-v : v < vertices file) where
-    apart : {a b : ℕ} → a < arrays file → b < arrays file → (x y : Action) → action file v a ≡ x → action file v b ≡ y → (isReference x && isRemap y) ≡ false
+    apart : {a b : ℕ} → a < arrays file → b < arrays file → (x y : Action) → action file a v ≡ x → action file b v ≡ y → (isReference x && isRemap y) ≡ false
     apart in-a in-b Nothing y e f = refl
     apart in-a in-b (Reference r) Nothing e f = refl
     apart in-a in-b (Reference r) (Reference s) e f = refl
@@ -31,13 +31,13 @@ module _ {file : List ℕ} (well : WellFormed file) (v : ℕ) where
     apart in-a in-b (Remap k) y e f = refl
     apart in-a in-b Unknown y e f = refl
 
-    pub after-reference : {a : ℕ} → a < arrays file → isReference (action file v a) ≡ true → OneSort file v false
-    after-reference {a} in-a is b in-b = ap (λ (t : Bool). t && isRemap (action file v b)) (sym is) ∙ apart in-a in-b (action file v a) (action file v b) refl refl
+    pub after-reference : {a : ℕ} → a < arrays file → isReference (action file a v) ≡ true → OneSort file v false
+    after-reference {a} in-a is b in-b = ap (λ (t : Bool). t && isRemap (action file b v)) (sym is) ∙ apart in-a in-b (action file a v) (action file b v) refl refl
 
-    pub after-remap : {a : ℕ} → a < arrays file → isRemap (action file v a) ≡ true → OneSort file v true
+    pub after-remap : {a : ℕ} → a < arrays file → isRemap (action file a v) ≡ true → OneSort file v true
     after-remap {a} in-a is b in-b =
-        sym (and-true (isReference (action file v b))) ∙ ap (λ (t : Bool). isReference (action file v b) && t) (sym is)
-        ∙ apart in-b in-a (action file v b) (action file v a) refl refl
+        sym (and-true (isReference (action file b v))) ∙ ap (λ (t : Bool). isReference (action file b v) && t) (sym is)
+        ∙ apart in-b in-a (action file b v) (action file a v) refl refl
 
   -- ---- and its labels
 
@@ -47,12 +47,12 @@ module _ {file : List ℕ} (well : WellFormed file) (v : ℕ) where
   at-terminal t b in-b =
       at-cond (λ (x : Action). isReference x ≡ false) (eqb v 0 || (eqb v (exit file) && isArgument (kind file b))) (λ _. refl)
       (λ _. ap isReference (or-cases (eqb v 0) (eqb v (exit file))
-      (λ e. ap (λ (w : ℕ). action file w b) (eqb-true v 0 e) ∙ entry-nothing well in-b)
-      (λ e. ap (λ (w : ℕ). action file w b) (eqb-true v (exit file) e) ∙ exit-nothing well in-b) t))
+      (λ e. ap (λ (w : ℕ). action file b w) (eqb-true v 0 e) ∙ entry-nothing well in-b)
+      (λ e. ap (λ (w : ℕ). action file b w) (eqb-true v (exit file) e) ∙ exit-nothing well in-b) t))
 
 -- elsewhere the row tells
 module _ (file : List ℕ) (v : ℕ) (first : eqb v 0 ≡ false) (last : eqb v (exit file) ≡ false) where
-  as-read : (b : ℕ) → event file b v ≡ action file v b
+  as-read : (b : ℕ) → event file b v ≡ action file b v
   as-read b = inner-event file b v first last
 
   pub at-inner : (r : Bool) → OneSort file v r → Labels file v r

@@ -53,12 +53,12 @@ pub record Referred (file : List ℕ) (v step : ℕ) (versions before old : List
 
 -- what the answer whether the row of vertex v remaps tells: if yes it has no references, if no it has no remappings
 abbrev pub OneSort : List ℕ → ℕ → Bool → Type 0
-OneSort file v remaps = (b : ℕ) → b < arrays file → cond remaps (isReference (action file v b)) (isRemap (action file v b)) ≡ false
+OneSort file v remaps = (b : ℕ) → b < arrays file → cond remaps (isReference (action file b v)) (isRemap (action file b v)) ≡ false
 
 -- vertex v has no labels, and is neither entry nor exit
 pub record Unlabelled (file : List ℕ) (v : ℕ) : Type 0 where
   pub inner : eqb v (exit file) ≡ false
-  pub as-read : (b : ℕ) → event file b v ≡ action file v b
+  pub as-read : (b : ℕ) → event file b v ≡ action file b v
   pub no-label : (b : ℕ) → b < arrays file → isRemap (event file b v) ≡ false
 
 -- what the answer whether vertex v may have labels tells: if yes it has no references, if no it has no labels

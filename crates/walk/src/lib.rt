@@ -96,7 +96,7 @@ fn remaps(file: &[u8], h: Header, v: usize) -> bool
     let m = h.arrays;
     let mut a = 0;
     while a < m {
-        let x = action::at(file, h, v, a);
+        let x = action::at(file, h, a, v);
         let reference = x.is_reference();
         if reference {
             return false;
@@ -144,7 +144,7 @@ fn refer(
     let mut bytes = 0;
     let mut a = 0;
     while a < m {
-        let x = action::at(file, h, v, a);
+        let x = action::at(file, h, a, v);
         bytes += report::put(x, step, a, versions[a], stamps[a], &mut out[bytes..]);
         stamps[a] = state::stamp_after(x, step as u16, stamps[a]);
         a += 1;

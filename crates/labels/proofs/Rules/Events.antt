@@ -32,15 +32,15 @@ byte-fits b =
     at-cond InWidth (ltb b 0x40) (λ _. lit< tt) (λ _.
     at-cond InWidth (ltb b (0x40 + width)) (λ h. omega (arith, ltb-true b (0x40 + width) h)) (λ _. lit< tt))))))
 
-pub action-fits : (file : List ℕ) (v a : ℕ) → versionOf (action file v a) < width
+pub action-fits : (file : List ℕ) (a v : ℕ) → versionOf (action file a v) < width
 unfolding action
-action-fits file v a = byte-fits (actionByte file v a)
+action-fits file a v = byte-fits (actionByte file a v)
 
 -- every version is below the width
 pub version-fits : (file : List ℕ) (a : ℕ) → Proper file a → (v : ℕ) → version file a v < width
 unfolding version event action
 version-fits file a proper v =
-    at-cond InWidth (eqb v entry || (eqb v (exit file) && isArgument (kind file a))) (λ _. proper .initial-fits) (λ _. action-fits file v a)
+    at-cond InWidth (eqb v entry || (eqb v (exit file) && isArgument (kind file a))) (λ _. proper .initial-fits) (λ _. action-fits file a v)
 
 -- entry labels every array as a remapping to its initial version
 pub entry-remaps : (file : List ℕ) (a : ℕ) → event file a entry ≡ Remap (initial file a)
@@ -48,10 +48,10 @@ unfolding event
 entry-remaps file a = refl
 
 -- at any other vertex but the exit the action is the event
-pub inner-event : (file : List ℕ) (a v : ℕ) → eqb v entry ≡ false → eqb v (exit file) ≡ false → event file a v ≡ action file v a
+pub inner-event : (file : List ℕ) (a v : ℕ) → eqb v entry ≡ false → eqb v (exit file) ≡ false → event file a v ≡ action file a v
 unfolding event
 inner-event file a v first last =
-    ap₂ (λ (p q : Bool). cond (p || (q && isArgument (kind file a))) (Remap (initial file a)) (action file v a)) first last
+    ap₂ (λ (p q : Bool). cond (p || (q && isArgument (kind file a))) (Remap (initial file a)) (action file a v)) first last
 
 -- what holds of each kind of event holds of every event
 pub by-event : (P : Action → Type 0) → P Nothing → P (Reference Read) → P (Reference Define) → P (Reference Modify)

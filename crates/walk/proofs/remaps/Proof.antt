@@ -14,7 +14,7 @@ use Rattle.walk.proofs.remaps.Statement.{statement}
 use Rattle.walk.proofs.remaps.Tie as tie
 
 abbrev Inv-loop : tie.InvT-loop
-Inv-loop file h v m a₀ a = (a ≤ m) × ((b : ℕ) → b < a → isRemap (action file v b) ≡ false)
+Inv-loop file h v m a₀ a = (a ≤ m) × ((b : ℕ) → b < a → isRemap (action file b v) ≡ false)
 
 abbrev μ-loop : tie.MeasureT-loop
 μ-loop file h v m a₀ a = m - a
@@ -64,7 +64,7 @@ loop-again c =
     let t = c .before .before .before .before .before in
     let l = t .before .loop in
     let is = ap isRemap (sym (c .before .before .before .before .at .ensures)) ∙ sym (c .before .is-remap .ensures) ∙ c .if2 .left in
-    (omega arith, below-more (λ b. isRemap (action (s t .args .file .now) (s t .args .v) b) ≡ false) (l .a) (l .inv .1) is)
+    (omega arith, below-more (λ b. isRemap (action (s t .args .file .now) b (s t .args .v)) ≡ false) (l .a) (l .inv .1) is)
 
 returns-3 : tie.Need-returns-3 Inv-loop μ-loop
 returns-3 c = λ b in-b. c .before .loop .inv .1 b (omega (arith, c .before .before .before .pre .0 .heads .arrays-are))

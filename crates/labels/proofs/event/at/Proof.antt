@@ -19,12 +19,12 @@ use Rattle.labels.proofs.event.at.Tie as tie
 
 -- the event, by the header and the array's record
 told : {file : List ℕ} {h : Header} {a : ℕ} {r : ArrayRecord} {b : Bool} (v : ℕ) → OfArray file h a r → b ≡ isArgument (r .kind)
-    → cond (eqb v entry || (eqb v (h .vertices - 1) && b)) (Remap (r .initial)) (action file v a) ≡ event file a v
+    → cond (eqb v entry || (eqb v (h .vertices - 1) && b)) (Remap (r .initial)) (action file a v) ≡ event file a v
 unfolding event
 told {file} {h} {a} {r} v is e =
-    ap (λ (b : Bool). cond (eqb v entry || (eqb v (h .vertices - 1) && b)) (Remap (r .initial)) (action file v a)) e
+    ap (λ (b : Bool). cond (eqb v entry || (eqb v (h .vertices - 1) && b)) (Remap (r .initial)) (action file a v)) e
     ∙ ap₂
-    (λ (n : ℕ) (r : ArrayRecord). cond (eqb v entry || (eqb v (n - 1) && isArgument (r .kind))) (Remap (r .initial)) (action file v a))
+    (λ (n : ℕ) (r : ArrayRecord). cond (eqb v entry || (eqb v (n - 1) && isArgument (r .kind))) (Remap (r .initial)) (action file a v))
     (is .read .heads .vertices-are) (is .recorded)
 
 sub-label : tie.Need-sub-label

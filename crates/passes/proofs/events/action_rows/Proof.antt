@@ -15,10 +15,10 @@ use Rattle.passes.proofs.events.action_rows.Tie as tie
 
 -- what the cell of array a and vertex v is to hold
 abbrev versionAt : List ℕ → ℕ → ℕ → ℕ
-versionAt file a v = versionSet (action file v a)
+versionAt file a v = versionSet (action file a v)
 
 abbrev useAt : List ℕ → ℕ → ℕ → ℕ
-useAt file a v = useGives (action file v a)
+useAt file a v = useGives (action file a v)
 
 abbrev Inv-loop : tie.InvT-loop
 Inv-loop file h versions₀ uses₀ n v₀ versions uses v =

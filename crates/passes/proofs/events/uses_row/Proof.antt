@@ -13,7 +13,7 @@ use Rattle.passes.proofs.events.uses_row.Statement.{statement}
 use Rattle.passes.proofs.events.uses_row.Tie as tie
 
 abbrev Inv-loop : tie.InvT-loop
-Inv-loop file h v uses₀ m a₀ uses a = Replacing uses₀ (8 * v) (λ b. useGives (action file v b)) (arrays file) uses a
+Inv-loop file h v uses₀ m a₀ uses a = Replacing uses₀ (8 * v) (λ b. useGives (action file b v)) (arrays file) uses a
 
 abbrev μ-loop : tie.MeasureT-loop
 μ-loop file h v uses₀ m a₀ uses a = m - a

@@ -15,7 +15,7 @@ use Rattle.passes.proofs.events.versions_row.Tie as tie
 use Rattle.sets.specs.Sets.{width}
 
 abbrev Inv-loop : tie.InvT-loop
-Inv-loop file h v versions₀ m a₀ versions a = Replacing versions₀ (8 * v) (λ b. versionSet (action file v b)) (arrays file) versions a
+Inv-loop file h v versions₀ m a₀ versions a = Replacing versions₀ (8 * v) (λ b. versionSet (action file b v)) (arrays file) versions a
 
 abbrev μ-loop : tie.MeasureT-loop
 μ-loop file h v versions₀ m a₀ versions a = m - a
@@ -46,7 +46,7 @@ at-requires c κs = (s c .pre .0 .heads, (s c .pre .1 .0, in-a c))
 version-set-requires : tie.Need-version-set-requires Inv-loop μ-loop
 version-set-requires c κs =
     let s = s (c .before) in
-    subst (λ (x : Action). versionOf x < width) (sym (c .at .ensures)) (action-fits (s .args .file .now) (s .args .v) (c .before .before .loop .a))
+    subst (λ (x : Action). versionOf x < width) (sym (c .at .ensures)) (action-fits (s .args .file .now) (c .before .before .loop .a) (s .args .v))
 
 mul-versions : tie.Need-mul-versions Inv-loop μ-loop
 mul-versions c = let t = c .before .before in omega (arith, small t, s t .pre .1 .0, s t .pre .0 .well .laid .limits .few-vertices)

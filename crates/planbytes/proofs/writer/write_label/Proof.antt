@@ -25,7 +25,7 @@ start c = c .before .before .before .before .before .before .before .before
 has-label : (c : tie.Else1) → isLabel (start c .args .file .now) (start c .args .a) (start c .args .v) ≡ true
 has-label c = some-version (start c .args .file .now) (start c .args .a) (start c .args .v) (holds-version (start c)) (c .if1 .left)
 
-is-entry : (c : tie.Else1) → labelEntry (start c .args .file .now) (start c .args .v) (start c .args .a) ≡ labelBytes (start c .args .file .now) (start c .args .v) (start c .args .a)
+is-entry : (c : tie.Else1) → labelEntry (start c .args .file .now) (start c .args .a) (start c .args .v) ≡ labelBytes (start c .args .file .now) (start c .args .a) (start c .args .v)
 is-entry c = labelled-bytes _ _ _ (has-label c)
 
 mul-at : tie.Need-mul-at
@@ -43,7 +43,7 @@ shared-slice-read-version c = omega (arith, places (c .before .before .before .b
 returns : tie.Need-returns
 returns c =
     let s = c .before .before .before .before .before .before .before .before in
-    let e = unlabelled-bytes (s .args .file .now) (s .args .v) (s .args .a) (no-version (s .args .file .now) (s .args .a) (s .args .v) (holds-version s) (c .if1 .taken)) in
+    let e = unlabelled-bytes (s .args .file .now) (s .args .a) (s .args .v) (no-version (s .args .file .now) (s .args .a) (s .args .v) (holds-version s) (c .if1 .taken)) in
     (sym (ap length e), sym (ap (wrote (s .args .out .now)) e))
 
 shared-slice-read-letter : tie.Need-shared-slice-read-letter

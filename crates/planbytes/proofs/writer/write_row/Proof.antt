@@ -15,7 +15,7 @@ use Rattle.planbytes.proofs.writer.write_row.Statement.{statement}
 use Rattle.planbytes.proofs.writer.write_row.Tie as tie
 
 abbrev Inv-loop : tie.InvT-loop
-Inv-loop file h v versions letters reaching kept out₀ m at₀ a₀ out at a = Filled (labelEntry file v) (arrays file) out₀ a out × (at ≡ length (rows (labelEntry file v) a))
+Inv-loop file h v versions letters reaching kept out₀ m at₀ a₀ out at a = Filled (λ a. labelEntry file a v) (arrays file) out₀ a out × (at ≡ length (rows (λ a. labelEntry file a v) a))
 
 abbrev μ-loop : tie.MeasureT-loop
 μ-loop file h v versions letters reaching kept out₀ m at₀ a₀ out at a = m - a

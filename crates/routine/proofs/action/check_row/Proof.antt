@@ -17,7 +17,7 @@ use Rattle.routine.proofs.action.check_row.Tie as tie
 
 abbrev Inv-loop : tie.InvT-loop
 Inv-loop file h v n terminal references₀ remaps₀ a₀ references remaps a =
-    Undecided (actionCheck file v) (arrays file) a
+    Undecided (λ a. actionCheck file a v) (arrays file) a
     × (references ≡ among isReference file v a)
     × (remaps ≡ among isRemap file v a)
 
@@ -46,11 +46,11 @@ place-requires c κs = search needs
 turn : (c : tie.After-is-wrong Inv-loop μ-loop) →
     let l = c .before .before .before .before in
     let s = l .before .before .before in
-    actionCheck (s .args .file .now) (s .args .v) (l .loop .a) ≡ wrong (s .args .file .now) (s .args .v) (l .loop .a) (c .is-wrong .result)
+    actionCheck (s .args .file .now) (l .loop .a) (s .args .v) ≡ wrong (s .args .file .now) (l .loop .a) (s .args .v) (c .is-wrong .result)
 turn c =
     let l = c .before .before .before .before in
     let s = l .before .before .before in
-    one-test (s .args .file .now) (s .args .v) (l .loop .a)
+    one-test (s .args .file .now) (l .loop .a) (s .args .v)
     (c .is-wrong .ensures)
     (c .before .before .at .ensures)
     (ap (λ (r : ArrayRecord). r .versions) (c .before .record-of .ensures))
