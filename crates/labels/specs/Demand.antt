@@ -11,19 +11,24 @@ use Rattle.refusal.specs.declared.Refusal.{Refusal}
 use Rattle.refusal.specs.declared.Refusal.the-variants.{AmbiguousReference}
 use Rattle.refusal.specs.declared.Verdict.the-variants.{Passed, Failed}
 use Rattle.routine.specs.Layout.{arrays, vertices, exit}
-use Rattle.sets.specs.Sets.{has}
+use Rattle.sets.specs.Sets.{has, width}
 use Rattle.labels.specs.declared.Use.{Use}
+use Rattle.labels.specs.declared.Use.the-variants.{N}
 use Rattle.labels.specs.Ambiguity.{Ambiguous}
 use Rattle.labels.specs.Checks.{check21}
 use Rattle.labels.specs.Events.{isLabel}
 use Rattle.labels.specs.Kept.{InKept, keptOf}
 use Rattle.labels.specs.Reaching.{Reaches, reachingOf}
-use Rattle.labels.specs.Uses.{IsUse, useOf, Unused, isKept}
+use Rattle.labels.specs.Uses.{IsUse, useOf, Unused, isKept, Leaves, leavingByte}
 
 -- demand 2
 pub record Demand2 (file : List ℕ) : Type 0 where
   -- the letter of a label is the one whose rule holds, and no other's rule does
   pub letters : (a v : ℕ) → a < arrays file → (u : Use) → IsUse file a v u ↔ (u ≡ useOf file a v)
+  -- its leaving version in the plan is k exactly where it leaves with k
+  pub leaving : (a v : ℕ) → a < arrays file → T (isLabel file a v) → (k : ℕ) → k < width → (leavingByte file a v ≡ k) ↔ Leaves file a v k
+  -- and 255, none, exactly where its letter is N
+  pub leaving-none : (a v : ℕ) → a < arrays file → (leavingByte file a v ≡ 255) ↔ IsUse file a v N
   -- its reaching set has the versions that reach it, and no others
   pub reaching : (a v : ℕ) → a < arrays file → (k : ℕ) → T (has (reachingOf file a v) k) ↔ Reaches file a v k
   -- its kept set has the versions that it keeps, and no others

@@ -122,3 +122,8 @@ isKept file a v = isLabel file a v && not (isN (useOf file a v))
 -- v is a label that leaves with version k
 abbrev pub Leaves : List ℕ → ℕ → ℕ → ℕ → Type 0
 Leaves file a v k = T (isKept file a v) × (version file a v ≡ k)
+
+-- the leaving version of the label at v as the plan has it, 255 for none
+unfoldable pub leavingByte : List ℕ → ℕ → ℕ → ℕ
+unfolding useOf version
+leavingByte file a v = cond (isN (useOf file a v)) 255 (version file a v)

@@ -10,8 +10,8 @@ use lib.ListN.{length, getD, drop}
 use Rattle.labels.specs.Events.{event, isLabel, version, versionOf, versionSet}
 use Rattle.labels.specs.Letters.{letterByte, useOfByte}
 use Rattle.labels.specs.Routines.{ReadAs}
-use Rattle.labels.specs.Uses.{useOf, isN}
-use Rattle.planbytes.specs.Plan.{leavingByte, eightBytes, labelBytes, labelEntry}
+use Rattle.labels.specs.Uses.{useOf, isN, leavingByte}
+use Rattle.planbytes.specs.Plan.{eightBytes, labelBytes, labelEntry}
 use Rattle.planbytes.specs.Tables.{Tabled, Leaving}
 use Rattle.routine.specs.declared.header.Header.{Header}
 use Rattle.routine.specs.Layout.{arrays, vertices}

@@ -3,11 +3,11 @@
 use mathlib.Core.Bool.{cond}
 use mathlib.Core.List.{List, [], _∷_, _++_}
 use Prim.Native.Nat.{ℕ, _+_, _*_}
-use Rattle.labels.specs.Events.{event, isLabel, version}
+use Rattle.labels.specs.Events.{event, isLabel}
 use Rattle.labels.specs.Kept.{keptOf}
 use Rattle.labels.specs.Letters.{letterByte}
 use Rattle.labels.specs.Reaching.{reachingOf}
-use Rattle.labels.specs.Uses.{useOf, isN}
+use Rattle.labels.specs.Uses.{useOf, leavingByte}
 use Rattle.routine.specs.Layout.{arrays, vertices}
 use Rattle.words.specs.Sums.{total, countOf}
 use Rattle.words.specs.Tables.{rows}
@@ -47,11 +47,6 @@ unfolding rows contentsEntry
 contents file = rows (contentsEntry file) (vertices file)
 
 -- ---- labels of eight bytes by vertex, then array: array, use letter, leaving version (255 none), zero, reaching, kept
-
--- the leaving version at v, 255 for none
-unfoldable pub leavingByte : List ℕ → ℕ → ℕ → ℕ
-unfolding useOf version
-leavingByte file a v = cond (isN (useOf file a v)) 255 (version file a v)
 
 -- its eight bytes
 abbrev pub eightBytes : ℕ → ℕ → ℕ → ℕ → ℕ → List ℕ
