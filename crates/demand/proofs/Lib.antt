@@ -2,4 +2,5 @@ pub mod Along
 pub mod Demand
 pub mod Invariant
 pub mod Labels
+pub mod Machine
 pub mod Sound

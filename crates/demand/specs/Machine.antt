@@ -1,13 +1,15 @@
 -- Document 01, "Run": copying at every remapping, a machine of its own. It is fed an array's record, what the vertices do with the array
 -- and the step numbers, and nothing of the plan or of the run.
 -- Assumes nothing.
+use mathlib.Core.Path.{_≡_}
 use mathlib.Core.Bool.{cond}
 use mathlib.Core.List.{List}
-use Prim.Native.Nat.{ℕ, zero, suc, _+_}
+use Prim.Native.Nat.{ℕ, zero, suc, _+_, _<_}
 use lib.Dec.{eqb}
 use Rattle.labels.specs.Events.{event}
+use Rattle.routine.specs.Actions.{actionByte}
 use Rattle.routine.specs.Arrays.{arrayOf, isInOrInout}
-use Rattle.routine.specs.Layout.{arrays}
+use Rattle.routine.specs.Layout.{arrays, vertices}
 use Rattle.routine.specs.declared.action.Action.{Action}
 use Rattle.routine.specs.declared.action.Action.the-variants.{Nothing, Reference, Remap, Unknown}
 use Rattle.routine.specs.declared.array.ArrayRecord.{ArrayRecord}
@@ -47,3 +49,12 @@ unfolding machineAfter event rows
 machineRecords file path =
     byStep (λ i a. recordsAt (event file a (vertexAt path i)) (i + 1) a (machineAfter file path a i .held) (machineAfter file path a i .stamp))
     (arrays file) (steps path)
+
+-- two files with the same arrays and the same action bytes, and a path over their vertices: whatever else the files hold, as their edges
+-- and so all labels of the plan, the machine goes the same way (`machine-alike`, `records-alike`)
+pub record FedAlike (file other path : List ℕ) : Type 0 where
+  pub same-arrays : arrays file ≡ arrays other
+  pub same-records : (a : ℕ) → a < arrays file → arrayOf file a ≡ arrayOf other a
+  pub same-vertices : vertices file ≡ vertices other
+  pub same-actions : (a v : ℕ) → a < arrays file → v < vertices file → actionByte file a v ≡ actionByte other a v
+  pub own-vertices : (i : ℕ) → i < steps path → vertexAt path i < vertices file
