@@ -1,4 +1,4 @@
--- Document 01, "Labels": kept sets.
+-- Document 01, "Labels": kept sets. The letters are the computed ones, which are the rules' letters (`letters` of `Demand2`).
 -- Assumes nothing.
 use mathlib.Core.Bool.{Bool, true, false, not, _||_, cond}
 use mathlib.Core.List.{List}

@@ -44,7 +44,8 @@ pub record BroughtBy (file : List ℕ) (read : List ℕ → Option ℕ) (v k : �
   pub brings : read before ≡ some k
 
 -- k is in the reaching set of v: some path from the entry to v has k as the leaving version of its last kept label before v;
--- also if no kept label lies before v there, k is the initial version and the array is in or inout
+-- also if no kept label lies before v there, k is the initial version and the array is in or inout.
+-- `isKept` goes by the computed letter, which is the rules' letter (`letters` of `Demand2`)
 abbrev pub Reaches : List ℕ → ℕ → ℕ → ℕ → Type 0
 Reaches file a v k = BroughtBy file (λ before. orInitial file a (lastVersion (isKept file a) (version file a) before)) v k
 
