@@ -1,13 +1,13 @@
 -- The ways out of the call `plan` once the routine is read: what the checks say, as the definition's answer.
 -- Assumes nothing.
-use mathlib.Core.Path.{_≡_, sym, _∙_}
+use mathlib.Core.Path.{_≡_, refl, sym, subst, _∙_}
 use mathlib.Core.List.{List}
 use Prim.Native.Nat.{ℕ, _≤_, _<_}
 use native.Mathlib.Omega.{arith}
 use borrow.Author.Tests.{le-leb, lt-leb, leb-true}
 use lib.ListN.{length}
 use Rattle.labels.specs.Checks.{programmerCheck}
-use Rattle.planned.specs.Calls.{plannerCheck, PlannedRead}
+use Rattle.planned.specs.Calls.{plannerCheck, planInto, PlannedRead}
 use Rattle.planbytes.specs.Plan.{planBytes, planLength}
 use Rattle.planbytes.proofs.Sizes.{plan-length}
 use Rattle.refusal.specs.Replies.{written}
@@ -43,7 +43,7 @@ module _ (file : List ℕ) (size : ℕ) {v : Verdict} (is : v ≡ programmerChec
 
 module _ (file before : List ℕ) {reply : Reply} (is : reply ≡ written (plannerCheck file (length before)) (planLength file)) where
   pub denied-planned : {r : Refusal} → reply ≡ Denied r → PlannedRead file before reply before
-  denied-planned e = record { answer = is; buffer = rw e }
+  denied-planned e = record { answer = is; buffer = subst (λ (r : Reply). before ≡ planInto r file before) (sym e) refl }
 
   -- all checks have passed
   module _ {n : ℕ} (e : reply ≡ Written n) where
@@ -59,4 +59,4 @@ module _ (file before : List ℕ) {reply : Reply} (is : reply ≡ written (plann
     plan-fits = omega (arith, plan-length file, leb-true (planLength file) (length before) (holds-true _ _ (passed-right (programmerCheck file) _ checks-passed)))
 
     pub written-planned : {after : List ℕ} → after ≡ wrote before (planBytes file) → PlannedRead file before reply after
-    written-planned w = record { answer = is; buffer = rw e w }
+    written-planned {after} w = record { answer = is; buffer = subst (λ (r : Reply). after ≡ planInto r file before) (sym e) w }
