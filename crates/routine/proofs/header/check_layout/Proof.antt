@@ -7,6 +7,7 @@ use native.Mathlib.Omega.{arith}
 use borrow.Author.Needs.{needs}
 use borrow.Author.Tests.{eq-eqb, ne-eqb}
 use lib.Dec.{eqb}
+use lib.ListN.{length}
 use Rattle.words.specs.Words.{word}
 use Rattle.routine.specs.declared.header.Header.{Header}
 use Rattle.routine.specs.Layout.{actionsAt, edgesAt, endAt, check13}
@@ -89,13 +90,19 @@ returns-4 : tie.Need-returns-4
 unfolding check13
 returns-4 c =
     let v = c .before .before .before .before .before in
-    rw (first (v .before .before .before), second v, third (c .before .before), ← end (c .before), ne-eqb _ _ (c .if4 .taken))
+    let file = c .before .before .before .before .before .before .before .before .before .before .before .before .args .file .now in
+    rw (
+      first (v .before .before .before),
+      second v,
+      third (c .before .before),
+      ne-eqb (length file) (endAt file) (λ e. c .if4 .taken (e ∙ sym (end (c .before)))),
+    )
 
 returns-5 : tie.Need-returns-5
 unfolding check13
 returns-5 c =
     let v = c .before .before .before .before .before in
-    rw (first (v .before .before .before), second v, third (c .before .before), ← end (c .before), eq-eqb _ _ (c .if4 .left))
+    rw (first (v .before .before .before), second v, third (c .before .before), eq-eqb _ _ (c .if4 .left ∙ end (c .before)))
 
 pub check-layout-spec : {M : Type 1} → statement M
 check-layout-spec =
