@@ -1,4 +1,4 @@
--- What the checks 20 and 21 hold, row by row, and what they answer.
+-- How the code keeps it: what the checks 20 and 21 hold, row by row, and what they answer.
 -- Assumes nothing.
 use mathlib.Core.Path.{_≡_}
 use mathlib.Core.Bool.{cond}

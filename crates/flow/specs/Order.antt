@@ -1,4 +1,4 @@
--- The order in which a round takes the edges.
+-- How the code keeps it: the order in which a round takes the edges.
 -- Assumes nothing.
 use mathlib.Core.Path.{_≡_}
 use mathlib.Core.List.{List}

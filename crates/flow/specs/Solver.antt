@@ -1,5 +1,5 @@
--- One operator on sets, computed by rounds over the edges: bit k is in the set of v if a path of one edge or more from v, through
--- vertices that pass k, arrives at a vertex that gives k. Paths run along the edges, or against them.
+-- How the code keeps it: one operator on sets, computed by rounds over the edges. Bit k is in the set of v if a path of one edge or more
+-- from v, through vertices that pass k, arrives at a vertex that gives k. Paths run along the edges, or against them.
 -- A set is a mask. No definition here names its width.
 -- Assumes nothing.
 use mathlib.Core.Path.{_≡_}

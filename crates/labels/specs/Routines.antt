@@ -1,4 +1,4 @@
--- What the functions over a routine are handed: a file that was read with its header, an array with its record, an order of the edges.
+-- How the code keeps it: what functions over a routine are handed: a file that was read with its header, an array and its record, an order of the edges.
 -- Assumes nothing.
 use mathlib.Core.Path.{_≡_}
 use mathlib.Core.List.{List}

@@ -1,4 +1,4 @@
--- Edges that fall.
+-- How the code keeps it: edges that fall.
 -- Assumes nothing.
 use mathlib.Core.Bool.{Bool}
 use mathlib.Core.List.{List}

@@ -1,4 +1,4 @@
--- The places of the edges in an order.
+-- How the code keeps it: the places of the edges in an order.
 -- Assumes nothing.
 use mathlib.Core.Path.{_≡_}
 use mathlib.Core.List.{List}

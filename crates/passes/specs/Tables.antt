@@ -1,4 +1,4 @@
--- Tables of the label rules: the cell of vertex v and array a stands at 8 v + a.
+-- How the code keeps it: tables of the label rules, the cell of vertex v and array a at 8 v + a.
 -- Assumes nothing.
 use mathlib.Core.Path.{_≡_}
 use mathlib.Core.Bool.{Bool, _||_}

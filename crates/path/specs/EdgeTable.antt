@@ -1,4 +1,4 @@
--- The edges as a table of bits, by which 32 is decided: sixteen words of sixteen bits for each vertex.
+-- How the code keeps it: the edges as a table of bits, by which 32 is decided, sixteen words of sixteen bits for each vertex.
 -- Assumes nothing.
 use mathlib.Core.Bool.{Bool, _&&_}
 use mathlib.Core.List.{List}

@@ -1,4 +1,4 @@
--- What the tables of a planned routine hold: the cell of vertex v and array a at 8 v + a.
+-- How the code keeps it: what the tables of a planned routine hold, the cell of vertex v and array a at 8 v + a.
 -- Assumes nothing.
 use mathlib.Core.Path.{_≡_}
 use mathlib.Core.Bool.{true, false}

@@ -38,12 +38,12 @@ planOf file size = written (planCheck file size) (planLength file)
 abbrev pub planInto : Reply → List ℕ → List ℕ → List ℕ
 planInto reply file before = filledBy reply (planBytes file) before
 
--- the reply of a routine that was read, and where that is no refusal the table of first labels
+-- how the code keeps it: the reply of a routine that was read, and where that is no refusal the table of first labels
 pub record Replied (file : List ℕ) (size : ℕ) (reply : Reply) (firsts : List ℕ) : Type 0 where
   pub answer : reply ≡ written (plannerCheck file size) (planLength file)
   pub counts : (n : ℕ) → reply ≡ Written n → Firsts file firsts
 
--- of a routine that was read
+-- how the code keeps it: the same of a routine that was read
 pub record PlannedRead (file before : List ℕ) (reply : Reply) (after : List ℕ) : Type 0 where
   pub answer : reply ≡ written (plannerCheck file (length before)) (planLength file)
   pub buffer : after ≡ planInto reply file before

@@ -12,11 +12,11 @@ use Rattle.words.specs.Words.{bytes16}
 abbrev pub entryBytes : State → List ℕ
 entryBytes s = bytes16 (s .copies) ++ (bytes16 (s .live) ++ (s .current ∷ 0 ∷ []))
 
--- the state of array a in a list of states, and past its end zeros
+-- how the code keeps it: the state of array a in a list of states, and past its end zeros
 abbrev pub stateOf : List State → ℕ → State
 stateOf states a = getD states a (record { current = 0; live = 0; stamps = []; copies = 0 })
 
--- the entries of the first m arrays
+-- how the code keeps it: the entries of the first m arrays
 abbrev pub entriesOf : List State → ℕ → List ℕ
 entriesOf states m = rows (λ a. entryBytes (stateOf states a)) m
 

@@ -47,6 +47,8 @@ abbrev pub deniedOf : Answer → Reply
 deniedOf (Routine h) = Written 0
 deniedOf (Refused r) = Denied r
 
+-- ---- how the code keeps it: what a file that passed has
+
 -- counts within their limits
 pub record Limits (h : Header) : Type 0 where
   pub some-array : 1 ≤ h .arrays

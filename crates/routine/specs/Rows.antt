@@ -1,4 +1,4 @@
--- Check 15 as one test of an action, by what stands earlier in its row.
+-- How the code keeps it: check 15 as one test of an action, by what stands earlier in its row.
 -- Assumes nothing.
 use mathlib.Core.Bool.{Bool, true, false, not, _&&_, _||_}
 use Prim.Native.Nat.{ℕ}

@@ -45,7 +45,7 @@ DemandMet (Denied r) file path = Unit {0}
 abbrev pub runInto : Reply → List ℕ → List ℕ → List ℕ → List ℕ
 runInto reply file path before = filledBy reply (reportBytes file path) before
 
--- of a routine that was read
+-- how the code keeps it: the same of a routine that was read
 pub record RanRead (file path before : List ℕ) (reply : Reply) (after : List ℕ) : Type 0 where
   pub answer : reply ≡ written (runnerCheck file path (length before)) (reportLength file path)
   pub buffer : after ≡ runInto reply file path before

@@ -1,5 +1,5 @@
--- Blocks of edges: the turns 16 b up to 16 b + 16 of a round are block b. A block is pending if one of its edges may alter a set; an edge
--- alters none while its far end is as it was when the edge was last taken.
+-- How the code keeps it: blocks of edges. The turns 16 b up to 16 b + 16 of a round are block b. A block is pending if one of its edges
+-- may alter a set; an edge alters none while its far end is as it was when the edge was last taken.
 -- Assumes nothing.
 use mathlib.Core.Path.{_≡_}
 use mathlib.Core.Bool.{Bool, true, false}

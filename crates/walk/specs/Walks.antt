@@ -1,4 +1,4 @@
--- What the functions that follow the path are handed, and what they leave.
+-- How the code keeps it: what the functions that follow the path are handed, and what they leave.
 -- Assumes nothing.
 use mathlib.Core.Path.{_≡_}
 use mathlib.Core.Bool.{Bool, true, false, cond}

@@ -13,12 +13,12 @@ rows row (suc n) = rows row n ++ row n
 abbrev pub table : (ℕ → ℕ) → ℕ → List ℕ
 table f n = rows (λ i. f i ∷ []) n
 
--- a list with m entries from `at` on replaced
+-- how the code keeps it: a list with m entries from `at` on replaced
 unfoldable pub replaced : {A : Type 0} → List A → ℕ → (ℕ → A) → ℕ → List A
 replaced s at f zero = s
 replaced s at f (suc a) = set (replaced s at f a) (at + a) (f a)
 
--- a table of eight columns, the entry of row v and column a at 8 v + a: row v with its first m entries replaced
+-- how the code keeps it: a table of eight columns, the entry of row v and column a at 8 v + a, with the first m entries of row v replaced
 abbrev pub withRow : List ℕ → ℕ → (ℕ → ℕ) → ℕ → List ℕ
 withRow s v f m = replaced s (8 * v) f m
 
