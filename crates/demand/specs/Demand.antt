@@ -27,7 +27,8 @@ IsHome file path a =
 pub record Demand3 (file path : List ℕ) : Type 0 where
   -- the report's records are the machine's: version held, kind, stamp seen, new stamp
   pub reads-alike : runRecords file path ≡ machineRecords file path
-  -- the version used at a reference is the one that the source names there: that of the array's last label before it on the path
+  -- the version used at a reference is the one that the source names there: that of the array's last label before it on the path;
+  -- `table (vertexAt path) i` are the vertices before the one at index i
   pub source-names :
       (i a : ℕ) → i < steps path → a < arrays file → T (isReference (event file a (vertexAt path i)))
       → lastVersion (isLabel file a) (version file a) (table (vertexAt path) i) ≡ some (stateAfter file path a i .current)

@@ -296,7 +296,7 @@ module _ (es : List ℕ) (along : Bool) (gives passes : List ℕ) {order : List 
 -- ---- the theorems
 
 module _ (es : List ℕ) (along : Bool) (gives passes : List ℕ) where
-  pub solution-length : (n : ℕ) → length (solution es along gives passes n) ≡ n
+  solution-length : (n : ℕ) → length (solution es along gives passes n) ≡ n
   unfolding solution
   solution-length n = after-length es along gives passes (natural-order (edgeCount es)) n n
 

@@ -35,7 +35,7 @@ weaken f (last e) = last e
 weaken f (next {u} e h t) = next e (f u h) (weaken f t)
 
 -- two paths that meet at a vertex of the kind make one
-pub append : {es : List ℕ} {p : ℕ → Bool} {v u w : ℕ} → Path es p v u → T (p u) → Path es p u w → Path es p v w
+append : {es : List ℕ} {p : ℕ → Bool} {v u w : ℕ} → Path es p v u → T (p u) → Path es p u w → Path es p v w
 append (last e) h s = next e h s
 append (next e g t) h s = next e g (append t h s)
 

@@ -31,7 +31,7 @@ use Rattle.flow.proofs.Exact.{or-le, or-subset, after, ends-alike}
 abbrev pub grows : List ℕ → ℕ → List ℕ → ℕ → ℕ
 grows s v row a = bitOr (getD s (8 * v + a) 0) (getD row a 0)
 
-pub grown-length : (s : List ℕ) (v : ℕ) (row : List ℕ) (m : ℕ) → length (grown s v row m) ≡ length s
+grown-length : (s : List ℕ) (v : ℕ) (row : List ℕ) (m : ℕ) → length (grown s v row m) ≡ length s
 grown-length s v row = replaced-length s (8 * v) (grows s v row)
 
 pub grown-at : (s : List ℕ) (v : ℕ) (row : List ℕ) (m a : ℕ) → a < m → 8 * v + m ≤ length s → getD (grown s v row m) (8 * v + a) 0 ≡ grows s v row a
@@ -235,7 +235,7 @@ module _ (es : List ℕ) (along : Bool) (gives passes : List ℕ) where
     pub swept-length : (s : List ℕ) (j : ℕ) → j ≤ length order → length (swept step order along s j) ≡ length s
     swept-length s = swept-keeps ord along step (λ t. length t ≡ length s) (λ t i l e. step-length t i ∙ e) s refl
 
-    pub rounds-length : (s : List ℕ) (r : ℕ) → length (rounds step order along s r) ≡ length s
+    rounds-length : (s : List ℕ) (r : ℕ) → length (rounds step order along s r) ≡ length s
     rounds-length s = rounds-keeps ord along step (λ t. length t ≡ length s) (λ t i l e. step-length t i ∙ e) s refl
 
     pub swept-below : (s : List ℕ) → Tables es gives passes s → (j : ℕ) → j ≤ length order → (length (swept step order along s j) ≡ length s) × Below s (swept step order along s j)

@@ -67,7 +67,8 @@ pub record IsUse (file : List ℕ) (a v : ℕ) (u : Use) : Type 0 where
   pub at-exit : v ≡ exit file → u ≡ exitUse (kind file a)
   pub elsewhere : (v ≡ exit file → ⊥) → Rule file a v u
 
--- ---- use, computed: bit 0 a reference met; bit 1 a read, a modify or a label met with no define before; bit 2 a read; bit 3 a write
+-- ---- use, computed: bit 0 a reference met; bit 1 a read, a modify or a label met with no define before; bit 2 a read; bit 3 a write.
+-- A reader may skip from here to `isN`: that the letter so computed is the rules' is `letters` of `Demand2`
 
 -- what an event gives
 abbrev pub useGives : Action → ℕ

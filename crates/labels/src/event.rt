@@ -30,7 +30,7 @@ pub fn at(file: &[u8], h: Header, r: ArrayRecord, a: usize, v: usize) -> Action
 }
 
 // A label is a remapping.
-pub fn is_label(x: Action) -> bool
+fn is_label(x: Action) -> bool
     ensures { λ r. ⌜ r ≡ isRemap x ⌝ }
 {
     x.is_remap()
@@ -55,7 +55,7 @@ pub fn is_kept(x: Action, u: Use) -> bool
 }
 
 // A label's version.
-pub fn version_of(x: Action) -> u8
+fn version_of(x: Action) -> u8
     ensures { λ r. ⌜ r ≡ versionOf x ⌝ }
 {
     match x {

@@ -36,7 +36,7 @@ module _ {file : List ℕ} (well : WellFormed file) where
   pub in-eight : {a : ℕ} → a < arrays file → a < 8
   in-eight h = omega (arith, well .laid .limits .few-arrays)
 
-  pub in-cells : {a v : ℕ} → a < arrays file → v < vertices file → 8 * v + a < 8 * vertices file
+  in-cells : {a v : ℕ} → a < arrays file → v < vertices file → 8 * v + a < 8 * vertices file
   in-cells h k = omega (arith, in-eight h)
 
   -- a table that was filled cell by cell

@@ -30,7 +30,7 @@ use Rattle.labels.proofs.Letters.{letter-use}
 
 -- ---- use
 
-pub use-passes : (x : Action) → passesBy (useGives x) ≡ usePasses x
+use-passes : (x : Action) → passesBy (useGives x) ≡ usePasses x
 use-passes = by-event (λ x. passesBy (useGives x) ≡ usePasses x) refl refl refl refl (λ k. refl) refl
 
 -- ---- cells and tests

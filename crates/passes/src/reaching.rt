@@ -35,7 +35,7 @@ pub fn fill_reached(gives: &mut [Set], passes: &mut [Set])
 }
 
 // Whether a cell is the entry's, or its set says that a path from the entry reaches it.
-pub fn is_reached(i: usize, set: Set) -> bool
+fn is_reached(i: usize, set: Set) -> bool
     ensures { λ r. ⌜ r ≡ reachedCell i set ⌝ }
 {
     (i < flow::COLUMNS) | (set % 2 == 1)

@@ -25,7 +25,7 @@ use Rattle.words.proofs.Tables.{zeros-at}
 use Rattle.words.proofs.Tests.{by-test}
 use Rattle.path.specs.Paths.{vertexAt, joins, isEdge, arrivalCheck}
 
-pub with-edge-length : (table : List ℕ) (e : Edge) → length (withEdge table e) ≡ length table
+with-edge-length : (table : List ℕ) (e : Edge) → length (withEdge table e) ≡ length table
 unfolding withEdge
 with-edge-length table e = length-set table _ _
 

@@ -42,7 +42,8 @@ unfoldable pub readOf : List ℕ → Answer
 unfolding readCheck
 readOf file = answered (readCheck file) (headerOf file)
 
--- a refusal of the reader's, handed on; a routine read is none, and answers 0 only so that each answer has a value
+-- a refusal of the reader's, handed on. `plan` and `run` ask for it only where the answer is a refusal; `Written 0` is never an answer of
+-- theirs, and stands here so that each case has a value
 abbrev pub deniedOf : Answer → Reply
 deniedOf (Routine h) = Written 0
 deniedOf (Refused r) = Denied r

@@ -24,7 +24,7 @@ pub bit-zero : (m : ℕ) → bit m 0 ≡ m % 2
 unfolding bit
 bit-zero m = ap (λ (n : ℕ). n % 2) (div-one m)
 
-pub bit-suc : (m k : ℕ) → bit m (suc k) ≡ bit (m / 2) k
+bit-suc : (m k : ℕ) → bit m (suc k) ≡ bit (m / 2) k
 unfolding bit
 bit-suc m k =
     let e : m / 2 ^ suc k ≡ m / 2 / 2 ^ k = ap (λ (p : ℕ). m / 2 ^ p) (omega arith) ∙ sym (shr-shr m 1 k) in
@@ -34,7 +34,7 @@ pub has-bit : (m k : ℕ) → has m k ≡ true → bit m k ≡ 1
 unfolding has
 has-bit m k h = eqb-true (bit m k) 1 h
 
-pub bit-has : (m k : ℕ) → bit m k ≡ 1 → has m k ≡ true
+bit-has : (m k : ℕ) → bit m k ≡ 1 → has m k ≡ true
 unfolding has
 bit-has m k h = eq-eqb (bit m k) 1 h
 
@@ -48,7 +48,7 @@ pub has-shr : (m j k : ℕ) → has (m / 2 ^ j) k ≡ has m (j + k)
 unfolding has bit
 has-shr m j k = ap (λ (x : ℕ). eqb (x % 2) 1) (shr-shr m j k)
 
-pub has-suc : (m k : ℕ) → has m (suc k) ≡ has (m / 2) k
+has-suc : (m k : ℕ) → has m (suc k) ≡ has (m / 2) k
 unfolding has
 has-suc m k = ap (λ (n : ℕ). eqb n 1) (bit-suc m k)
 
@@ -262,11 +262,11 @@ lowest-below w m some fits =
 
 -- ---- counting members
 
-pub count-one : (m k : ℕ) → has m k ≡ true → 1 ≤ ones m
+count-one : (m k : ℕ) → has m k ≡ true → 1 ≤ ones m
 count-one m zero h = omega (arith, ones-step m, bit-zero m, has-bit m 0 h)
 count-one m (suc k) h = omega (arith, ones-step m, count-one (m / 2) k (sym (has-suc m k) ∙ h))
 
-pub count-two : (m j k : ℕ) → (j ≡ k → ⊥) → has m j ≡ true → has m k ≡ true → 2 ≤ ones m
+count-two : (m j k : ℕ) → (j ≡ k → ⊥) → has m j ≡ true → has m k ≡ true → 2 ≤ ones m
 count-two m zero zero n hj hk = absurd (n refl)
 count-two m zero (suc k) n hj hk = omega (arith, ones-step m, bit-zero m, has-bit m 0 hj, count-one (m / 2) k (sym (has-suc m k) ∙ hk))
 count-two m (suc j) zero n hj hk = omega (arith, ones-step m, bit-zero m, has-bit m 0 hk, count-one (m / 2) j (sym (has-suc m j) ∙ hj))

@@ -159,7 +159,7 @@ module _ (es : List ℕ) (along : Bool) (gives passes : List ℕ) {order : List 
   abbrev At : ℕ → ℕ → List ℕ → Progress → Type 0
   At j to s p = Taken es order along gives passes old j to s p
 
-  pub taken-length : {j to : ℕ} {s : List ℕ} {p : Progress} → j ≤ length order → At j to s p → length s ≡ length old
+  taken-length : {j to : ℕ} {s : List ℕ} {p : Progress} → j ≤ length order → At j to s p → length s ≡ length old
   taken-length {j} l w = ap length (w .is) ∙ swept-length es along gives passes ord old j l
 
   -- turns that alter nothing may be passed over
@@ -182,7 +182,7 @@ module _ (es : List ℕ) (along : Bool) (gives passes : List ℕ) {order : List 
       (λ k from up. next .shut (k / 16) (omega arith) (omega arith))
 
   -- a block is pending no longer once its turns come next
-  pub opened : {j to : ℕ} {s : List ℕ} {p q : Progress} (b : ℕ) → j ≡ min (16 * b) (length order) → to ≡ min (16 * (b + 1)) (length order)
+  opened : {j to : ℕ} {s : List ℕ} {p q : Progress} (b : ℕ) → j ≡ min (16 * b) (length order) → to ≡ min (16 * (b + 1)) (length order)
       → q ≡ record { pending = minus (p .pending) (2 ^ b); altered = p .altered } → At j j s p → At j to s q
   opened {j} {to} {s} {p} {q} b ej et eq w =
       subst (At j to s) (sym eq)

@@ -20,7 +20,7 @@ pow-pred b k = ap (λ (j : ℕ). b ^ j) (let e : suc k - 1 ≡ k = omega arith i
 
 -- ---- decimal: the fewest digits are those without zeros in front
 
-pub decimal-is : (f k n : ℕ) → Fewest 10 1 n k → k ≤ f → digits 10 k n ≡ decimalIn f n
+decimal-is : (f k n : ℕ) → Fewest 10 1 n k → k ≤ f → digits 10 k n ≡ decimalIn f n
 decimal-is f zero n few h = absurd (omega (arith, few .0))
 decimal-is zero (suc k) n few h = absurd (omega arith)
 decimal-is (suc f) (suc zero) n few h =
@@ -37,12 +37,12 @@ decimal-is (suc f) (suc (suc j)) n few h =
     ∙ ap (λ (b : Bool). cond b [] (decimalIn f (n / 10)) ++ (glyph (n % 10) ∷ [])) (sym (le-ltb n 10 (omega (arith, big, pow-suc 10 j, one-le-pow j 10 (omega arith)))))
 
 -- no more than d digits, if d hold n and no more were asked for
-pub fewest-le : (b least d n k : ℕ) → 0 < b → least ≤ d → Fewest b least n k → n < b ^ d → k ≤ d
+fewest-le : (b least d n k : ℕ) → 0 < b → least ≤ d → Fewest b least n k → n < b ^ d → k ≤ d
 fewest-le b least d n k pos l few h =
     by-test (leb k d) (leb-true k d)
     (λ e. absurd (omega (arith, leb-false k d e, few .2 (omega (arith, leb-false k d e)), pow-le-pow-right {n = b} pos {i = d} {j = k - 1} (omega (arith, leb-false k d e)))))
 
-pub digits-length : (b k n : ℕ) → length (digits b k n) ≡ k
+digits-length : (b k n : ℕ) → length (digits b k n) ≡ k
 digits-length b zero n = refl
 digits-length b (suc k) n =
     length-append (digits b k (n / b)) (glyph (n % b) ∷ [])

@@ -18,7 +18,7 @@ module _ {A : Type 0} (s : List A) (at : ℕ) (f : ℕ → A) where
   replaced-length (suc m) = length-set (replaced s at f m) _ _ ∙ replaced-length m
 
   -- one more entry
-  pub replaced-next : {t : List A} {k : ℕ} {x : A} (m : ℕ) → t ≡ replaced s at f m → k ≡ at + m → x ≡ f m → set t k x ≡ replaced s at f (m + 1)
+  replaced-next : {t : List A} {k : ℕ} {x : A} (m : ℕ) → t ≡ replaced s at f m → k ≡ at + m → x ≡ f m → set t k x ≡ replaced s at f (m + 1)
   unfolding replaced
   replaced-next {t} {k} {x} m e here is =
       ap₂ (λ (i : ℕ) (y : A). set t i y) here is ∙ ap (λ (l : List A). set l (at + m) (f m)) e ∙ ap (replaced s at f) (sym (add-one m))
