@@ -122,6 +122,9 @@ hpf_outcome hpf_plan(const uint8_t *routine, size_t routine_len, uint8_t *plan, 
  *   0              2      for each vertex its number, the entry first, each next one along an edge. The path may end
  *                         at any vertex; an odd last byte is ignored
  *
+ * path_len counts bytes, as every length here does: two for each vertex. Who hands over the number of vertices has half
+ * the path run, and is answered 0.
+ *
  *   report         bytes  of A arrays and N references, N = (length - 6A) / 10
  *   -------------  -----  ----------------------------------------------------------------------------------------
  *   0              6A     for each array, after the last step:

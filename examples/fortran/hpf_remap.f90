@@ -1,5 +1,5 @@
 ! Array remapping by copies, from Fortran. `include/hpf_remap.h` documents formats, answers and the rules for buffers.
-! A byte is a c_int8_t, which has a sign: iand(int(b), 255) is its number from 0 to 255.
+! A byte is a c_int8_t, which has a sign: iand(int(b), 255) is its number from 0 to 255. All lengths are in bytes.
 module hpf_remap
   use iso_c_binding, only: c_int64_t, c_int8_t, c_size_t
   implicit none
@@ -32,7 +32,7 @@ module hpf_remap
       integer(c_int8_t), intent(in) :: routine(*)
       integer(c_size_t), value :: routine_len
       integer(c_int8_t), intent(in) :: path(*)
-      integer(c_size_t), value :: path_len
+      integer(c_size_t), value :: path_len ! in bytes: twice the number of vertices
       integer(c_int8_t), intent(inout) :: report(*)
       integer(c_size_t), value :: report_len
       type(hpf_outcome) :: outcome

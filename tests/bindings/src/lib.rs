@@ -34,7 +34,8 @@ pub struct Outcome {
 }
 
 /// The calls as C has them. Each pointer is that of as many bytes as the length beside it says,
-/// or null if that length is 0; what is written must not overlap what is read.
+/// or null if that length is 0; what is written must not overlap what is read. So `path_len` is
+/// twice the number of vertices.
 pub mod ffi {
     use crate::Outcome;
 
@@ -67,8 +68,9 @@ pub fn plan(routine: &[u8], out: &mut [u8]) -> Outcome {
     unsafe { ffi::hpf_plan(routine.as_ptr(), routine.len(), out.as_mut_ptr(), out.len()) }
 }
 
-/// Runs a routine along a path of 16-bit vertices, low byte first: writes the report over the
-/// front of `out`, and leaves the rest of it.
+/// Runs a routine along a path: writes the report over the front of `out`, and leaves the rest
+/// of it. The path is bytes, two for each vertex, low byte first: with a slice of as many bytes
+/// as there are vertices half the path is run, and the answer is 0.
 ///
 /// A refusal writes nothing. Number 2 says that `out` is too short, and `first` the length that
 /// is needed, so that a call with an empty `out` asks for it.
