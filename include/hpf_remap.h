@@ -115,15 +115,55 @@ typedef struct {
  */
 hpf_outcome hpf_plan(const uint8_t *routine, size_t routine_len, uint8_t *plan, size_t plan_len);
 
-/* Runs a path through a routine, which it plans itself.
+/* What the translated routine does by its plan. For each array it has a current version, or none, and for each version
+ * a flag: live or dead. Arrays do not depend on each other.
+ *
+ *   start      An in or inout argument is current and live in its initial version: the caller's copy. Of any other
+ *              array no version is current and none is live.
+ *   label      If the letter is not N, and the leaving version t is not current: where t is dead, the letter is not D
+ *              and a version is current, that one is copied to t (nothing else is ever copied); t is live and current.
+ *              Then, at N too: each live version that is neither current nor in the kept set is dead, and its memory
+ *              may be freed. An argument's initial version is the caller's: only its flag changes.
+ *   reference  The current version is used, which is that of the array's last label on every path there (else 21). No
+ *              flag changes, at a write either: the label before it left no other version live.
+ *   exit       The labels of the arguments are served as any others, so that out and inout end in the caller's copy.
+ *              Of a local array no version is then current and none live.
+ *
+ * Routine Q, for example: one inout argument, 2 versions, initial 0; vertices 1 remap 1, 2 define, 3 remap 0, 4 read,
+ * 5 exit; edges 0-1, 1-2, 1-3, 2-3, 3-4, 4-5. Its labels:
+ *
+ *   vertex  use  leave  reach  keep
+ *   0       N    -      0001   0002
+ *   1       W    1      0001   0002   not D: along 1-3 nothing is defined
+ *   3       R    0      0002   0001
+ *   5       W    0      0001   0001
+ *
+ * Two paths, 0 1 3 4 and 0 1 2 3 4; stamps, of version 0 and version 1, tell values as they do in a report (below):
+ *
+ *   step  vertex  what is done                 current  live  stamps         copies
+ *                 at the start                 0        0001  65535  0       0
+ *   1     0       N; 0 is current, and stays   0        0001  65535  0       0
+ *   2     1       0 copied to 1; 0 is dead     1        0002  65535  65535   1
+ *   3     3       1 copied to 0; 1 is dead     0        0001  65535  0       2
+ *   4     4       read of 0 sees 65535         0        0001  65535  0       2
+ *
+ *   1, 2  0, 1    as above
+ *   3     2       define of 1 gives 3          1        0002  65535  3       1
+ *   4     3       1 copied to 0; 1 is dead     0        0001  3      0       2
+ *   5     4       read of 0 sees 3             0        0001  3      0       2
+ *
+ * Had 0 stayed live at vertex 1, nothing would have been copied at 3, and the last read would have seen 65535.
+ */
+
+/* Runs a path through a routine, which it plans itself: by the rule above, with stamps in place of values.
  *
  *   path           bytes
  *   -------------  -----  ----------------------------------------------------------------------------------------
  *   0              2      for each vertex its number, the entry first, each next one along an edge. The path may end
  *                         at any vertex; an odd last byte is ignored
  *
- * path_len counts bytes, as every length here does: two for each vertex. Who hands over the number of vertices has half
- * the path run, and is answered 0.
+ * path_len counts bytes, as every length here does: two for each vertex. A caller who hands over the number of vertices
+ * has half the path run, and is answered 0.
  *
  *   report         bytes  of A arrays and N references, N = (length - 6A) / 10
  *   -------------  -----  ----------------------------------------------------------------------------------------
@@ -140,8 +180,9 @@ hpf_outcome hpf_plan(const uint8_t *routine, size_t routine_len, uint8_t *plan, 
  * A stamp tells a value: it is the step that gave it, 65,535 for what the caller gave (in and inout), 0 for what was
  * never given.
  */
-hpf_outcome hpf_run(const uint8_t *routine, size_t routine_len, const uint8_t *path, size_t path_len, uint8_t *report,
-                    size_t report_len);
+hpf_outcome hpf_run(const uint8_t *routine, size_t routine_len,
+                    const uint8_t *path, size_t path_len, /* in bytes: twice the number of vertices */
+                    uint8_t *report, size_t report_len);
 
 #ifdef __cplusplus
 }

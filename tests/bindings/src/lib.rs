@@ -34,8 +34,7 @@ pub struct Outcome {
 }
 
 /// The calls as C has them. Each pointer is that of as many bytes as the length beside it says,
-/// or null if that length is 0; what is written must not overlap what is read. So `path_len` is
-/// twice the number of vertices.
+/// or null if that length is 0; what is written must not overlap what is read.
 pub mod ffi {
     use crate::Outcome;
 
@@ -51,7 +50,7 @@ pub mod ffi {
             routine: *const u8,
             routine_len: usize,
             path: *const u8,
-            path_len: usize,
+            path_len: usize, // in bytes: twice the number of vertices
             report: *mut u8,
             report_len: usize,
         ) -> Outcome;
