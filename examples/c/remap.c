@@ -1,5 +1,5 @@
-/* Plans routine P of document 01 and runs its case 2. Prints the plan's labels, the copies and flags that the run
- * leaves for each array, and what each reference saw and gave. */
+/* Plans routine P and runs case 2 (docs/CASES.md). Prints the plan's labels, the copies and flags that the run leaves
+ * for each array, and what each reference saw and gave. */
 #include <stdio.h>
 #include <stdlib.h>
 
@@ -11,11 +11,12 @@ static const uint8_t routine[62] = {
     22, 0, 8, 0, /* vertices */
     30, 0, 8, 0, /* edges */
     0, 3, 0, 0,  /* one local array, 3 versions, initial 0 */
-    0x00, 0x20, 0x41, 0x10, 0x42, 0x40, 0x10, 0x00,
+    0x00, 0x20, 0x41, 0x10, 0x42, 0x40, 0x10, 0x00, /* entry, define, remap 1, read, remap 2, remap 0, read, exit */
     0, 0, 1, 0, 1, 0, 2, 0, 2, 0, 3, 0, 3, 0, 4, 0,
-    4, 0, 5, 0, 5, 0, 6, 0, 6, 0, 2, 0, 6, 0, 7, 0,
+    4, 0, 5, 0, 5, 0, 6, 0, 6, 0, 2, 0, 6, 0, 7, 0, /* edges: from, to */
 };
 
+/* Nine vertices, two bytes each; hpf_run is given its length in bytes. */
 static const uint8_t path[18] = {0, 0, 1, 0, 2, 0, 3, 0, 4, 0, 5, 0, 6, 0, 2, 0, 3, 0};
 
 static unsigned word(const uint8_t *bytes) { return bytes[0] + 256u * bytes[1]; }

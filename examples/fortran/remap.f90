@@ -1,5 +1,5 @@
-! Plans routine P of document 01 and runs its case 2. Prints the plan's labels, the copies and flags that the run
-! leaves for each array, and what each reference saw and gave.
+! Plans routine P and runs case 2 (docs/CASES.md). Prints the plan's labels, the copies and flags that the run leaves
+! for each array, and what each reference saw and gave.
 program remap
   use iso_c_binding, only: c_int8_t, c_size_t
   use iso_fortran_env, only: error_unit
@@ -7,8 +7,10 @@ program remap
   implicit none
 
   integer, parameter :: edges(2, 8) = reshape([0, 1, 1, 2, 2, 3, 3, 4, 4, 5, 5, 6, 6, 2, 6, 7], [2, 8])
+  ! entry, define, remap 1, read, remap 2, remap 0, read, exit
   integer, parameter :: actions(8) = [0, 32, 65, 16, 66, 64, 16, 0]
   integer, parameter :: steps(9) = [0, 1, 2, 3, 4, 5, 6, 2, 3]
+  ! The path has nine vertices, two bytes each; hpf_run is given its length in bytes.
   integer(c_int8_t) :: routine(62), path(18)
   integer(c_int8_t) :: plan(hpf_largest_plan)
   integer(c_int8_t), allocatable :: report(:)

@@ -1,5 +1,5 @@
-//! Plans routine P of document 01, runs its case 2, and prints what the plan's flags and the
-//! report show.
+//! Plans routine P, runs case 2 (docs/CASES.md), and prints what the plan's flags and the report
+//! show.
 
 use hpf_remap::{LARGEST_PLAN, Outcome};
 use std::process::ExitCode;
@@ -11,11 +11,14 @@ const ROUTINE: [u8; 62] = [
     22, 0, 8, 0, // vertices
     30, 0, 8, 0, // edges
     0, 3, 0, 0,  // one local array, 3 versions, initial 0
+    // entry, define, remap 1, read, remap 2, remap 0, read, exit
     0x00, 0x20, 0x41, 0x10, 0x42, 0x40, 0x10, 0x00,
+    // edges: from, to
     0, 0, 1, 0, 1, 0, 2, 0, 2, 0, 3, 0, 3, 0, 4, 0,
     4, 0, 5, 0, 5, 0, 6, 0, 6, 0, 2, 0, 6, 0, 7, 0,
 ];
 
+/// Nine vertices, two bytes each.
 const PATH: [u8; 18] = [0, 0, 1, 0, 2, 0, 3, 0, 4, 0, 5, 0, 6, 0, 2, 0, 3, 0];
 
 fn word(bytes: &[u8], at: usize) -> usize {
