@@ -138,8 +138,8 @@ hpf_outcome hpf_plan(const uint8_t *routine, size_t routine_len, uint8_t *plan, 
  *   3       R    0      0002   0001
  *   5       W    0      0001   0001
  *
- * Two paths, 0 1 3 4 and 0 1 2 3 4. Stamps, of version 0 and version 1, tell values as they do in a report (below); that
- * of a version which dies becomes 0, but the caller's copy keeps its own.
+ * Two paths, 0 1 3 4 and 0 1 2 3 4. Stamps, of version 0 and version 1, tell values as they do in a report (below);
+ * that of a version which dies becomes 0, but the caller's copy keeps its own.
  *
  *   step  vertex  what is done                 current  live  stamps         copies
  *                 at the start                 0        0001  65535  0       0
