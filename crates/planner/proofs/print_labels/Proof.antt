@@ -47,6 +47,9 @@ add-print-vertex c = search needs
 print-vertex-requires : tie.Need-print-vertex-requires Inv-loop μ-loop
 print-vertex-requires c κs = search needs
 
+returns : tie.Need-returns Inv-loop μ-loop
+returns c = search needs
+
 add-v : tie.Need-add-v Inv-loop μ-loop
 add-v c = search needs
 
@@ -56,8 +59,8 @@ loop-less c = search needs
 loop-again : tie.Need-loop-again Inv-loop μ-loop
 loop-again c = search needs
 
-returns : tie.Need-returns Inv-loop μ-loop
-returns c = search needs
+returns-2 : tie.Need-returns-2 Inv-loop μ-loop
+returns-2 c = search needs
 
 pub print-labels-spec : {M : Type 1} → statement M
 print-labels-spec =
@@ -77,7 +80,8 @@ print-labels-spec =
     mul-print-vertex
     add-print-vertex
     print-vertex-requires
+    returns
     add-v
     loop-less
     loop-again
-    returns)
+    returns-2)

@@ -23,6 +23,9 @@ add-print-label c = search needs
 print-label-requires : tie.Need-print-label-requires Inv-loop μ-loop
 print-label-requires c κs = search needs
 
+returns : tie.Need-returns Inv-loop μ-loop
+returns c = search needs
+
 add-i : tie.Need-add-i Inv-loop μ-loop
 add-i c = search needs
 
@@ -32,8 +35,8 @@ loop-less c = search needs
 loop-again : tie.Need-loop-again Inv-loop μ-loop
 loop-again c = search needs
 
-returns : tie.Need-returns Inv-loop μ-loop
-returns c = search needs
+returns-2 : tie.Need-returns-2 Inv-loop μ-loop
+returns-2 c = search needs
 
 pub print-vertex-spec : {M : Type 1} → statement M
 print-vertex-spec =
@@ -45,7 +48,8 @@ print-vertex-spec =
     mul-print-label
     add-print-label
     print-label-requires
+    returns
     add-i
     loop-less
     loop-again
-    returns)
+    returns-2)

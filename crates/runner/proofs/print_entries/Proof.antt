@@ -20,6 +20,9 @@ mul-print-entry c = search needs
 print-entry-requires : tie.Need-print-entry-requires Inv-loop μ-loop
 print-entry-requires c κs = search needs
 
+returns : tie.Need-returns Inv-loop μ-loop
+returns c = search needs
+
 add-a : tie.Need-add-a Inv-loop μ-loop
 add-a c = search needs
 
@@ -29,8 +32,8 @@ loop-less c = search needs
 loop-again : tie.Need-loop-again Inv-loop μ-loop
 loop-again c = search needs
 
-returns : tie.Need-returns Inv-loop μ-loop
-returns c = search needs
+returns-2 : tie.Need-returns-2 Inv-loop μ-loop
+returns-2 c = search needs
 
 pub print-entries-spec : {M : Type 1} → statement M
 print-entries-spec =
@@ -41,7 +44,8 @@ print-entries-spec =
     loop-holds
     mul-print-entry
     print-entry-requires
+    returns
     add-a
     loop-less
     loop-again
-    returns)
+    returns-2)

@@ -17,6 +17,9 @@ loop-holds c = search needs
 print-record-requires : tie.Need-print-record-requires Inv-loop μ-loop
 print-record-requires c κs = search needs
 
+returns : tie.Need-returns Inv-loop μ-loop
+returns c = search needs
+
 add-at : tie.Need-add-at Inv-loop μ-loop
 add-at c = search needs
 
@@ -26,10 +29,10 @@ loop-less c = search needs
 loop-again : tie.Need-loop-again Inv-loop μ-loop
 loop-again c = search needs
 
-returns : tie.Need-returns Inv-loop μ-loop
-returns c = search needs
+returns-2 : tie.Need-returns-2 Inv-loop μ-loop
+returns-2 c = search needs
 
 pub print-records-spec : {M : Type 1} → statement M
 print-records-spec =
     tie.close
-    (tie.spec Inv-loop μ-loop loop-holds print-record-requires add-at loop-less loop-again returns)
+    (tie.spec Inv-loop μ-loop loop-holds print-record-requires returns add-at loop-less loop-again returns-2)
