@@ -1,9 +1,15 @@
 //! The two programs, run in a folder of their own.
 
-use std::fs::{self, File};
-use std::io::{Error, ErrorKind, Result, Write};
+use crate::expected::{Met, program};
+use harness::library::Input;
+use std::ffi::OsStr;
+use std::fs::{self, File, Permissions};
+use std::io::{self, Error, ErrorKind, Read, Result, Write};
+use std::os::fd::OwnedFd;
+use std::os::unix::fs::{PermissionsExt, symlink};
+use std::os::unix::net::UnixStream;
 use std::path::PathBuf;
-use std::process::{self, Command, Output, Stdio};
+use std::process::{self, Command, ExitStatus, Output, Stdio};
 use std::thread;
 use std::time::Duration;
 
@@ -12,18 +18,74 @@ use std::time::Duration;
 pub enum Content<'a> {
     Bytes(&'a [u8]),
     Missing,
+    /// A link to itself.
+    Loop,
+    /// A file that only root may open.
+    Forbidden,
     /// A folder: it can be opened, but not read.
-    Unreadable,
+    Folder,
 }
 
 impl Content<'_> {
-    /// All that counts as these bytes.
-    pub fn all_of(bytes: &[u8]) -> Vec<Content<'_>> {
-        let mut all = vec![Content::Bytes(bytes)];
-        if bytes.is_empty() {
-            all.extend([Content::Missing, Content::Unreadable]);
+    pub fn met(self) -> Met {
+        match self {
+            Content::Bytes(_) => Met::End,
+            Content::Missing | Content::Loop | Content::Forbidden => Met::Unopened,
+            Content::Folder => Met::Unread,
         }
-        all
+    }
+}
+
+/// What a program left.
+pub struct Left {
+    pub output: Vec<u8>,
+    pub errors: Vec<u8>,
+    pub status: ExitStatus,
+}
+
+impl From<Output> for Left {
+    fn from(output: Output) -> Left {
+        Left {
+            output: output.stdout,
+            errors: output.stderr,
+            status: output.status,
+        }
+    }
+}
+
+/// A standard output that takes no byte, or only some.
+#[derive(Clone, Copy, Debug, PartialEq, Eq)]
+pub enum Sink {
+    /// A full device.
+    Full,
+    /// None: the descriptor is closed.
+    Closed,
+    /// A pipe that nobody reads; the program ignores the signal.
+    Unread,
+    /// A pipe that nobody reads; the signal ends the program.
+    Signalled,
+    /// A file that may not grow beyond some 512 bytes.
+    Limited,
+}
+
+impl Sink {
+    pub const ALL: [Sink; 5] = [
+        Sink::Full,
+        Sink::Closed,
+        Sink::Unread,
+        Sink::Signalled,
+        Sink::Limited,
+    ];
+
+    /// What the shell runs, once a line has come.
+    fn script(self) -> &'static str {
+        match self {
+            Sink::Full => r#"read -r go; exec "$0" <routine >/dev/full"#,
+            Sink::Closed => r#"read -r go; exec "$0" <routine >&-"#,
+            Sink::Unread => r#"read -r go; trap '' PIPE; exec "$0" <routine"#,
+            Sink::Signalled => r#"read -r go; exec "$0" <routine"#,
+            Sink::Limited => r#"read -r go; trap '' XFSZ; ulimit -f 1; exec "$0" <routine >output"#,
+        }
     }
 }
 
@@ -45,8 +107,8 @@ impl Folder {
         Ok(Folder { work, programs })
     }
 
-    fn command(&self, name: &str) -> Command {
-        let mut command = Command::new(self.programs.join(name));
+    fn start(&self, program: impl AsRef<OsStr>) -> Command {
+        let mut command = Command::new(program);
         command
             .current_dir(&self.work)
             .stdin(Stdio::null())
@@ -55,8 +117,19 @@ impl Folder {
         command
     }
 
-    /// What the planner prints for a standard input that comes in these pieces.
-    pub fn planner(&self, pieces: &[&[u8]]) -> Result<Vec<u8>> {
+    fn command(&self, name: &str) -> Command {
+        self.start(self.programs.join(name))
+    }
+
+    /// A shell that runs the script, with the program as `$0`.
+    fn shell(&self, script: &str, name: &str) -> Command {
+        let mut command = self.start("sh");
+        command.arg("-c").arg(script).arg(self.programs.join(name));
+        command
+    }
+
+    /// What the planner leaves for a standard input that comes in these pieces.
+    pub fn planner(&self, pieces: &[&[u8]]) -> Result<Left> {
         let mut child = self.command("planner").stdin(Stdio::piped()).spawn()?;
         if let Some(mut input) = child.stdin.take() {
             for (index, piece) in pieces.iter().enumerate() {
@@ -71,20 +144,87 @@ impl Folder {
                 }
             }
         }
-        child.wait_with_output().map(printed)
+        child.wait_with_output().map(Left::from)
     }
 
-    /// What the planner prints for a standard input that is open, but cannot be read.
-    pub fn planner_of_folder(&self) -> Result<Vec<u8>> {
+    /// What the planner leaves for a standard input that has these bytes, and then fails.
+    pub fn planner_cut(&self, bytes: &[u8]) -> Result<Left> {
+        let (mut fed, input) = UnixStream::pair()?;
+        input.set_nonblocking(true)?;
+        fed.write_all(bytes)?;
+        // With `fed` still open, the read after the last byte would have to wait.
+        let mut command = self.command("planner");
+        command.stdin(OwnedFd::from(input)).output().map(Left::from)
+    }
+
+    /// What the planner leaves for a standard input that is open, but cannot be read.
+    pub fn planner_of_folder(&self) -> Result<Left> {
         let folder = File::open(&self.work)?;
-        self.command("planner").stdin(folder).output().map(printed)
+        let mut command = self.command("planner");
+        command.stdin(folder).output().map(Left::from)
     }
 
-    /// What the runner prints for these files.
-    pub fn runner(&self, routine: Content, path: Content) -> Result<Vec<u8>> {
+    /// What the planner leaves without a standard input.
+    pub fn planner_of_nothing(&self) -> Result<Left> {
+        let mut command = self.shell(r#"exec "$0" <&-"#, "planner");
+        command.output().map(Left::from)
+    }
+
+    /// What the runner leaves for these files.
+    pub fn runner(&self, routine: Content, path: Content) -> Result<Left> {
         self.set("routine", routine)?;
         self.set("path", path)?;
-        self.command("runner").output().map(printed)
+        self.command("runner").output().map(Left::from)
+    }
+
+    /// What the input's program leaves where it cannot write all of its output, and how often it
+    /// wrote, if the system counts that.
+    pub fn unwritten(&self, input: &Input, sink: Sink) -> Result<(Left, Option<u64>)> {
+        let path = input.path.as_deref().unwrap_or_default();
+        self.set("routine", Content::Bytes(&input.routine))?;
+        self.set("path", Content::Bytes(path))?;
+        self.set("output", Content::Bytes(&[]))?;
+        let mut command = self.shell(sink.script(), program(input));
+        if sink == Sink::Unread || sink == Sink::Signalled {
+            let (_, writer) = io::pipe()?;
+            command.stdout(writer);
+        }
+        let mut child = command.stdin(Stdio::piped()).spawn()?;
+        // The counts of a process that has ended are kept from all but root, unless they are open.
+        let counts = File::open(format!("/proc/{}/io", child.id()));
+        if let Some(mut input) = child.stdin.take() {
+            input.write_all(b"\n")?;
+        }
+        let mut errors = Vec::new();
+        if let Some(mut stream) = child.stderr.take() {
+            stream.read_to_end(&mut errors)?;
+        }
+        // Standard error has ended, so the program has; until it is waited for, its counts stand.
+        let writes = counts.ok().and_then(writes);
+        let left = Left {
+            output: fs::read(self.work.join("output"))?,
+            errors,
+            status: child.wait()?,
+        };
+        Ok((left, writes))
+    }
+
+    /// All that the runner is to take as these bytes.
+    pub fn contents<'a>(&self, bytes: &'a [u8]) -> Result<Vec<Content<'a>>> {
+        let mut all = vec![Content::Bytes(bytes)];
+        if bytes.is_empty() {
+            all.extend([Content::Missing, Content::Loop, Content::Folder]);
+            if self.forbids()? {
+                all.push(Content::Forbidden);
+            }
+        }
+        Ok(all)
+    }
+
+    /// Whether a file can be kept from this user, who is then not root.
+    fn forbids(&self) -> Result<bool> {
+        self.set("routine", Content::Forbidden)?;
+        Ok(File::open(self.work.join("routine")).is_err())
     }
 
     fn set(&self, name: &str, content: Content) -> Result<()> {
@@ -99,7 +239,12 @@ impl Folder {
         match content {
             Content::Bytes(bytes) => fs::write(file, bytes),
             Content::Missing => Ok(()),
-            Content::Unreadable => fs::create_dir(file),
+            Content::Loop => symlink(name, file),
+            Content::Forbidden => {
+                fs::write(&file, [0; 2])?;
+                fs::set_permissions(file, Permissions::from_mode(0))
+            }
+            Content::Folder => fs::create_dir(file),
         }
     }
 }
@@ -111,12 +256,9 @@ impl Drop for Folder {
     }
 }
 
-/// Standard output, and after it what should not be there: standard error, a bad status.
-fn printed(output: Output) -> Vec<u8> {
-    let mut all = output.stdout;
-    all.extend(output.stderr);
-    if !output.status.success() {
-        all.extend(format!("({})\n", output.status).bytes());
-    }
-    all
+/// How often a process has called `write`, by its counts.
+fn writes(counts: File) -> Option<u64> {
+    let counts = io::read_to_string(counts).ok()?;
+    let line = counts.lines().find_map(|line| line.strip_prefix("syscw: "));
+    line?.parse().ok()
 }

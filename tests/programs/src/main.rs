@@ -5,12 +5,14 @@
 mod expected;
 mod folder;
 mod inputs;
+mod unwritten;
 
-use expected::Answer;
-use folder::{Content, Folder};
+use expected::{Answer, Met, Printed, program};
+use folder::{Folder, Left};
 use harness::library::Input;
 use harness::shrink::shrink;
 use oracle::generate::damage::FILE_REFUSALS;
+use oracle::routine::LONGEST_FILE;
 use std::collections::BTreeMap;
 use std::env;
 use std::io::{Error, Result};
@@ -40,51 +42,61 @@ fn programs() -> Result<PathBuf> {
     folder.canonicalize().map_err(named)
 }
 
-/// The program that an input is for.
-fn program(input: &Input) -> &'static str {
-    match input.path {
-        None => "planner",
-        Some(_) => "runner",
-    }
-}
-
-/// What the input's program prints: the planner fed at once and in two pieces; both programs
-/// also with all else that counts as empty.
-fn outputs(folder: &Folder, input: &Input) -> Result<Vec<Vec<u8>>> {
+/// What the input's program leaves, beside what it is to print: the planner fed at once, in two
+/// pieces and with a read that fails behind the last byte; both programs also with all else that
+/// counts as empty.
+fn runs(folder: &Folder, input: &Input) -> Result<Vec<(Left, Printed)>> {
     let routine = &input.routine;
     let mut all = Vec::new();
     let Some(path) = &input.path else {
         let (first, second) = routine.split_at(routine.len() / 2);
-        all.push(folder.planner(&[routine])?);
-        all.push(folder.planner(&[first, second])?);
+        let whole = expected::printed(input, Met::End, Met::End);
+        let unread = expected::printed(input, Met::Unread, Met::End);
+        all.push((folder.planner(&[routine])?, whole.clone()));
+        all.push((folder.planner(&[first, second])?, whole));
+        if routine.len() <= LONGEST_FILE {
+            all.push((folder.planner_cut(routine)?, unread.clone()));
+        }
         if routine.is_empty() {
-            all.push(folder.planner_of_folder()?);
+            all.push((folder.planner_of_folder()?, unread.clone()));
+            all.push((folder.planner_of_nothing()?, unread));
         }
         return Ok(all);
     };
-    for routine in Content::all_of(routine) {
-        for path in Content::all_of(path) {
-            all.push(folder.runner(routine, path)?);
+    for routine in folder.contents(routine)? {
+        for path in folder.contents(path)? {
+            let printed = expected::printed(input, routine.met(), path.met());
+            all.push((folder.runner(routine, path)?, printed));
         }
     }
     Ok(all)
 }
 
-/// An output other than the expected one.
-fn difference(folder: &Folder, input: &Input) -> Result<Option<Vec<u8>>> {
-    let (_, expected) = expected::output(input);
-    let outputs = outputs(folder, input)?;
-    Ok(outputs
-        .into_iter()
-        .find(|output| output != expected.as_bytes()))
+/// What differs in words; what was to be printed comes first.
+fn in_words(input: &Input, left: &Left, printed: &Printed) -> String {
+    let found = String::from_utf8_lossy(&left.output);
+    let errors = String::from_utf8_lossy(&left.errors);
+    let alike = printed.output.lines().zip(found.lines());
+    let line = alike.take_while(|(one, other)| one == other).count();
+    format!(
+        "output, errors, status; the outputs differ from line {line} on, from 0\n{input}oracle:\n{}{}{}:\n{found}{errors}{}\n",
+        printed.output,
+        printed.errors,
+        program(input),
+        left.status
+    )
 }
 
-fn in_words(input: &Input, found: &str) -> String {
-    let (_, expected) = expected::output(input);
-    let alike = expected.lines().zip(found.lines());
-    let line = alike.take_while(|(one, other)| one == other).count();
-    let program = program(input);
-    format!("line {line} differs, from 0\n{input}oracle:\n{expected}{program}:\n{found}")
+/// A run that left something else than it was to print.
+fn difference(folder: &Folder, input: &Input) -> Result<Option<String>> {
+    let runs = runs(folder, input)?;
+    let other = |(left, printed): &&(Left, Printed)| {
+        left.output != printed.output.as_bytes()
+            || left.errors != printed.errors.as_bytes()
+            || !left.status.success()
+    };
+    let found = runs.iter().find(other);
+    Ok(found.map(|(left, printed)| in_words(input, left, printed)))
 }
 
 /// Tries all inputs; a difference in words, with a small input.
@@ -94,8 +106,7 @@ fn hold(folder: &Folder, seed: u64, tally: &mut Tally) -> Result<Option<String>>
             if difference(folder, &input)?.is_some() {
                 let differs = |input: &Input| matches!(difference(folder, input), Ok(Some(_)));
                 let small = shrink(input, &differs);
-                let found = difference(folder, &small)?.unwrap_or_default();
-                let words = in_words(&small, &String::from_utf8_lossy(&found));
+                let words = difference(folder, &small)?.unwrap_or_default();
                 let found = format!("mismatch: seed {seed}, {kind}, input {index}\n{words}");
                 return Ok(Some(found));
             }
@@ -148,6 +159,13 @@ fn run(seed: u64) -> Result<ExitCode> {
     for (program, answer) in due() {
         if !tally.contains_key(&(program, answer)) {
             println!("never answered: {program} {answer}");
+            return Ok(ExitCode::FAILURE);
+        }
+    }
+    match unwritten::hold(&folder)? {
+        Ok(words) => println!("{words}"),
+        Err(words) => {
+            println!("{words}");
             return Ok(ExitCode::FAILURE);
         }
     }
