@@ -62,10 +62,19 @@ fn print_listing(plan: &[u8]) -> bool {
     print_labels(plan)
 }
 
+// A refusal, on standard error and then on standard output.
+fn print_refusal(reply: Reply) -> bool {
+    let mut line = [0u8; streams::ROOM];
+    let told = streams::put_refusal(&mut line, b"planner: refused ", reply);
+    io::write_all(STDERR_FILENO, &line[..told]);
+    let n = listing::outcome(&mut line, reply);
+    io::write_all(STDOUT_FILENO, &line[..n])
+}
+
 fn print_plan(file: &[u8], out: &mut [u8]) -> bool {
     let reply = plan::plan(file, out);
     if let Reply::Denied(_) = reply {
-        return streams::print_refusal(b"planner: refused ", reply);
+        return print_refusal(reply);
     }
     print_listing(out)
 }

@@ -90,11 +90,20 @@ fn print_report(file: &[u8], report: &[u8], length: usize) -> bool {
     print_records(report, 6 * (arrays as usize), length)
 }
 
+// A refusal, on standard error and then on standard output.
+fn print_refusal(reply: Reply) -> bool {
+    let mut line = [0u8; streams::ROOM];
+    let told = streams::put_refusal(&mut line, b"runner: refused ", reply);
+    io::write_all(STDERR_FILENO, &line[..told]);
+    let n = listing::outcome(&mut line, reply);
+    io::write_all(STDOUT_FILENO, &line[..n])
+}
+
 fn print_run(file: &[u8], path: &[u8], report: &mut [u8]) -> bool {
     let reply = run::run(file, path, report);
     match reply {
         Reply::Written(length) => print_report(file, report, length),
-        Reply::Denied(_) => streams::print_refusal(b"runner: refused ", reply),
+        Reply::Denied(_) => print_refusal(reply),
     }
 }
 

@@ -1,6 +1,5 @@
-// What the programs share of reading and writing: a file read to its end, and a refusal told on both streams.
+// What the programs share of reading and writing: a file read to its end, and a refusal's line for standard error.
 use libc::STDERR_FILENO;
-use libc::STDOUT_FILENO;
 use refusal::Reply;
 ghost use mathlib.Core.Path.{_≡_};
 ghost use mathlib.Core.List.{_++_};
@@ -11,7 +10,7 @@ ghost use Rattle.listing.specs.Lines.{outcomeLine};
 ghost use Rattle.words.specs.Tables.{wrote};
 
 // Room for the start of a line, and for any line of `listing` after it.
-const ROOM: usize = 32 + listing::ROOM;
+pub const ROOM: usize = 32 + listing::ROOM;
 
 // One read into `buf`, and how many bytes came. If it fails, `failed` goes to standard error.
 fn read_once(fd: i32, buf: &mut [u8], failed: &[u8]) -> usize
@@ -41,7 +40,7 @@ pub fn read_all(fd: i32, buf: &mut [u8], failed: &[u8]) -> usize
 }
 
 // A line of `start` and a call's answer.
-fn put_refusal(out: &mut [u8], start: &[u8], reply: Reply) -> usize
+pub fn put_refusal(out: &mut [u8], start: &[u8], reply: Reply) -> usize
     requires { ⌜ 160 ≤ length (now out) ⌝ }
     requires { ⌜ length (now start) ≤ 32 ⌝ }
     ensures { λ r. ⌜ Counts r (now (out .exit)) ⌝ }
@@ -50,15 +49,4 @@ fn put_refusal(out: &mut [u8], start: &[u8], reply: Reply) -> usize
 {
     let at = bytes::copy(start, out);
     at + listing::outcome(&mut out[at..], reply)
-}
-
-// A refusal as a line on standard error, which begins with `start`, and then on standard output. Answers whether the latter took it.
-pub fn print_refusal(start: &[u8], reply: Reply) -> bool
-    requires { ⌜ length (now start) ≤ 32 ⌝ }
-{
-    let mut line = [0u8; ROOM];
-    let told = put_refusal(&mut line, start, reply);
-    io::write_all(STDERR_FILENO, &line[..told]);
-    let n = listing::outcome(&mut line, reply);
-    io::write_all(STDOUT_FILENO, &line[..n])
 }
