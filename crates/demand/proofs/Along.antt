@@ -20,7 +20,7 @@ use Rattle.routine.specs.declared.array.ArrayRecord.{ArrayRecord}
 use Rattle.words.proofs.Tests.{at-cond, and-left, and-right}
 use Rattle.sets.specs.Sets.{has, width}
 use Rattle.sets.proofs.Laws.{has-single, single-is, has-zero}
-use Rattle.state.specs.declared.State.{State}
+use Rattle.state.specs.States.{State, stampOf}
 use Rattle.state.specs.Fits.{Fits}
 use Rattle.demand.specs.Machine.{Machine, machineStart, machineStep}
 use Rattle.report.specs.Records.{recordsAt}
@@ -28,7 +28,6 @@ use Rattle.state.specs.Exit.{left}
 use Rattle.state.specs.Moves.{isD}
 use Rattle.state.specs.References.{referenced}
 use Rattle.state.specs.Start.{started}
-use Rattle.state.specs.States.{stampOf}
 use Rattle.state.specs.Vertex.{labelled, visited}
 use Rattle.state.proofs.Fits.{started-fits, step-fits}
 use Rattle.state.proofs.States.{below-current}

@@ -22,7 +22,7 @@ use Rattle.refusal.specs.declared.Verdict.the-variants.{Passed}
 use Rattle.routine.specs.declared.action.Action.{Action}
 use Rattle.routine.specs.declared.action.Action.the-variants.{Nothing, Reference, Remap, Unknown}
 use Rattle.routine.specs.declared.array.ArrayRecord.{ArrayRecord}
-use Rattle.state.specs.declared.State.{State}
+use Rattle.state.specs.States.{State}
 use Rattle.demand.specs.Demand.{IsHome, Demand3}
 use Rattle.state.specs.Fits.{Fits}
 use Rattle.demand.specs.Machine.{Machine, machineStep, machineAfter, machineRecords}

@@ -23,12 +23,11 @@ use Rattle.routine.specs.declared.action.Action.{Action}
 use Rattle.routine.specs.declared.action.Action.the-variants.{Nothing, Reference, Remap, Unknown}
 use Rattle.routine.specs.declared.array.ArrayRecord.{ArrayRecord}
 use Rattle.sets.specs.Sets.{has, width}
-use Rattle.state.specs.declared.State.{State}
+use Rattle.state.specs.States.{State, hasCurrent, stampOf, stamped}
 use Rattle.demand.specs.Machine.{Machine, machineStep}
 use Rattle.report.specs.Records.{recordsAt}
 use Rattle.state.specs.Moves.{isD}
 use Rattle.state.specs.References.{referenced}
-use Rattle.state.specs.States.{hasCurrent, stampOf, stamped}
 use Rattle.state.specs.Vertex.{labelled, visited}
 use Rattle.state.proofs.Labels.{Agree, Sits}
 use Rattle.state.proofs.States.{below-current}

@@ -13,10 +13,9 @@ use Rattle.routine.specs.declared.action.Action.the-variants.{Remap}
 use Rattle.routine.specs.declared.array.ArrayRecord.{ArrayRecord}
 use Rattle.words.proofs.Tests.{at-cond, and-right, or-cases}
 use Rattle.sets.specs.Sets.{has, width}
-use Rattle.state.specs.declared.State.{State}
+use Rattle.state.specs.States.{State, hasCurrent}
 use Rattle.state.specs.Cleaning.{callers}
 use Rattle.state.specs.Moves.{moves, copiesStamp, moved, isD}
-use Rattle.state.specs.States.{hasCurrent}
 use Rattle.state.specs.Vertex.{labelled}
 use Rattle.state.proofs.States.{copies-current}
 use Rattle.demand.specs.Machine.{Machine, machineStep}

@@ -16,9 +16,8 @@ use Rattle.state.specs.Exit.{left}
 use Rattle.state.specs.Moves.{copiesStamp}
 use Rattle.state.specs.References.{referenced}
 use Rattle.state.specs.Start.{started}
-use Rattle.state.specs.States.{stampOf}
+use Rattle.state.specs.States.{State, stampOf}
 use Rattle.state.specs.Vertex.{labelled, visited}
-use Rattle.state.specs.declared.State.{State}
 use Rattle.report.specs.declared.record.Record.{Record}
 use Rattle.path.specs.Paths.{steps, vertexAt}
 use Rattle.words.specs.Tables.{rows}

@@ -11,7 +11,7 @@ use Rattle.report.specs.declared.record.Record.{Record}
 use Rattle.routine.specs.Actions.{isReference}
 use Rattle.routine.specs.declared.action.Action.{Action}
 use Rattle.routine.specs.declared.action.Action.the-variants.{Nothing, Reference, Remap, Unknown}
-use Rattle.state.specs.declared.State.{State}
+use Rattle.state.specs.States.{State}
 use Rattle.words.specs.Tables.{rows}
 use Rattle.words.proofs.Tables.{rows-length, rows-same}
 

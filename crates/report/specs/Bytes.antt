@@ -4,7 +4,9 @@ use mathlib.Core.List.{List, [], _∷_, _++_}
 use Prim.Native.Nat.{ℕ}
 use lib.ListN.{getD}
 use Rattle.report.specs.declared.record.Record.{Record}
-use Rattle.state.specs.declared.State.{State}
+use Rattle.state.specs.Carrying.{bare}
+use Rattle.state.specs.States.{State}
+use Rattle.state.specs.declared.Carried.{Carried}
 use Rattle.words.specs.Tables.{rows}
 use Rattle.words.specs.Words.{bytes16}
 
@@ -12,13 +14,13 @@ use Rattle.words.specs.Words.{bytes16}
 abbrev pub entryBytes : State → List ℕ
 entryBytes s = bytes16 (s .copies) ++ (bytes16 (s .live) ++ (s .current ∷ 0 ∷ []))
 
--- how the code keeps it: the state of array a in a list of states, and past its end zeros
-abbrev pub stateOf : List State → ℕ → State
-stateOf states a = getD states a (record { current = 0; live = 0; stamps = []; copies = 0 })
+-- how the code keeps it: the state of array a in a list of carried states, and past its end zeros
+abbrev pub carriedOf : List Carried → ℕ → Carried
+carriedOf states a = getD states a (record { current = 0; live = 0; copies = 0; stamp = 0 })
 
 -- how the code keeps it: the entries of the first m arrays
-abbrev pub entriesOf : List State → ℕ → List ℕ
-entriesOf states m = rows (λ a. entryBytes (stateOf states a)) m
+abbrev pub entriesOf : List Carried → ℕ → List ℕ
+entriesOf states m = rows (λ a. entryBytes (bare (carriedOf states a))) m
 
 -- ten bytes for each reference: step, array, version, kind, zero, stamp seen, new stamp
 abbrev pub recordBytes : Record → List ℕ

@@ -8,7 +8,7 @@ use routine::action::Action;
 use routine::array;
 use routine::array::ArrayRecord;
 use routine::header::Header;
-use state::State;
+use state::Carried;
 ghost use mathlib.Core.Path.{_≡_};
 ghost use mathlib.Core.Bool.{cond};
 ghost use Prim.Native.Nat.{_*_, _<_, _≤_};
@@ -20,6 +20,7 @@ ghost use Rattle.routine.specs.Layout.{arrays, vertices};
 ghost use Rattle.report.specs.Bytes.{entryBytes, entriesOf, recordBytes, recordsBytes};
 ghost use Rattle.report.specs.Records.{recordOf, recordsAt};
 ghost use Rattle.report.specs.References.{referencesAt};
+ghost use Rattle.state.specs.Carrying.{bare};
 ghost use Rattle.words.specs.Tables.{table, wrote};
 
 // Bytes of an array's entry.
@@ -71,9 +72,9 @@ pub fn fill(file: &[u8], h: Header, counts: &mut [u8])
 }
 
 // Writes the entry of one array at the front of what is lent.
-fn write_entry(out: &mut [u8], s: State)
+fn write_entry(out: &mut [u8], s: Carried)
     requires { ⌜ 6 ≤ length (now out) ⌝ }
-    ensures { λ _. ⌜ now (out .exit) ≡ wrote (now (out .entry)) (entryBytes s) ⌝ }
+    ensures { λ _. ⌜ now (out .exit) ≡ wrote (now (out .entry)) (entryBytes (bare s)) ⌝ }
 {
     out[0] = (s.copies % 256) as u8;
     out[1] = (s.copies / 256) as u8;
@@ -84,7 +85,7 @@ fn write_entry(out: &mut [u8], s: State)
 }
 
 // Writes the entries of the first m arrays at the front of what is lent.
-pub fn write_entries(states: [State; ArrayRecord::MAX], m: usize, out: &mut [u8])
+pub fn write_entries(states: [Carried; ArrayRecord::MAX], m: usize, out: &mut [u8])
     requires { ⌜ m ≤ 8 ⌝ }
     requires { ⌜ 6 * m ≤ length (now out) ⌝ }
     ensures { λ _. ⌜ now (out .exit) ≡ wrote (now (out .entry)) (entriesOf states m) ⌝ }

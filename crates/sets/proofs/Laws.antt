@@ -8,7 +8,7 @@ use native.Mathlib.Nat.{eq-zero-or-pos, eq-or-lt-of-le, le-of-suc-le-suc, div-eq
 use native.Mathlib.Omega.{arith}
 use borrow.Author.Tests.{eqb-true, ltb-true, lt-ltb, eq-eqb}
 use lib.Dec.{eqb, lit<, eqb·zero-suc, eqb·suc-zero, eqb·suc-suc}
-use lib.Bits.{bitAnd, bitOr, and-step, or-step, and-shr, or-shr, and-le-l, and-comm, and-mask, and-zero-r, or-add-and}
+use lib.Bits.{bitAnd, bitOr, and-step, or-step, and-shr, or-shr, and-le-l, and-comm, and-mask, or-add-and}
 use lib.Pow.{pow-mono, pow-pos, shr-shr, shl-exact}
 use lib.Count.{ones, ones-step, ones-le, trailingZeros, under, trailing-le}
 use Rattle.sets.specs.Sets.{bit, has, minus, Two, several}
@@ -79,15 +79,6 @@ minus-step a b = omega (arith, and-step a b, and-le-l (a / 2) (b / 2))
 
 minus-half : (a b : ℕ) → minus a b / 2 ≡ minus (a / 2) (b / 2)
 minus-half a b = omega (arith, minus-step a b)
-
--- the empty set in a difference
-pub minus-none : (a : ℕ) → minus a 0 ≡ a
-unfolding minus
-minus-none a = omega (arith, and-zero-r a)
-
-pub none-minus : (b : ℕ) → minus 0 b ≡ 0
-unfolding minus
-none-minus b = omega arith
 
 pub bit-minus : (a b k : ℕ) → bit (minus a b) k ≡ bit a k - min (bit a k) (bit b k)
 bit-minus a b zero = simp bit-zero (omega (arith, minus-step a b))

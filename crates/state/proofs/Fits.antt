@@ -18,7 +18,6 @@ use Rattle.routine.specs.declared.action.Action.{Action}
 use Rattle.routine.specs.declared.action.Action.the-variants.{Nothing, Reference, Remap, Unknown}
 use Rattle.routine.specs.declared.array.ArrayRecord.{ArrayRecord}
 use Rattle.sets.specs.Sets.{has, minus, width}
-use Rattle.state.specs.declared.State.{State}
 use Rattle.state.specs.Fits.{Stamps, Fits}
 use Rattle.state.specs.Stamps.{stampAfter}
 use Rattle.state.specs.Cleaning.{dying, callers, cleared, cleaned}
@@ -26,7 +25,7 @@ use Rattle.state.specs.Exit.{left}
 use Rattle.state.specs.Moves.{moves, copiesStamp, targetStamp, moved}
 use Rattle.state.specs.References.{referenced}
 use Rattle.state.specs.Start.{started}
-use Rattle.state.specs.States.{stampOf, emptied}
+use Rattle.state.specs.States.{State, stampOf, emptied}
 use Rattle.state.specs.Vertex.{labelled, visited}
 use Rattle.words.proofs.Tables.{at-set, zeros-at}
 use Rattle.words.proofs.Tests.{at-cond}

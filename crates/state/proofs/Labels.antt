@@ -15,10 +15,9 @@ use Rattle.words.proofs.Tests.{at-cond, by-test, and-left}
 use Rattle.state.proofs.States.{copies-current}
 use Rattle.sets.specs.Sets.{has, minus, width}
 use Rattle.sets.proofs.Laws.{has-or, has-minus, has-single, has-with, has-cond}
-use Rattle.state.specs.declared.State.{State}
+use Rattle.state.specs.States.{State, hasCurrent, stampOf}
 use Rattle.state.specs.Cleaning.{currentSet, dying, cleared, cleaned}
 use Rattle.state.specs.Moves.{moves, copiesStamp, moved, isD, targetStamp}
-use Rattle.state.specs.States.{hasCurrent, stampOf}
 
 -- every live version has the stamp x
 abbrev pub Agree : State → ℕ → Type 0
@@ -32,7 +31,7 @@ pub record Sits (s : State) (x : ℕ) : Type 0 where
 -- ---- the cleaning
 
 -- a cleared stamp list keeps the stamps of the versions that are not dead
-cleared-keeps : (dead : ℕ) (stamps : List ℕ) (n k : ℕ) → has dead k ≡ false → getD (cleared dead stamps n) k 0 ≡ getD stamps k 0
+pub cleared-keeps : (dead : ℕ) (stamps : List ℕ) (n k : ℕ) → has dead k ≡ false → getD (cleared dead stamps n) k 0 ≡ getD stamps k 0
 unfolding cleared
 cleared-keeps dead stamps zero k h = refl
 cleared-keeps dead stamps (suc n) k h =
@@ -46,7 +45,7 @@ pub current-has : (s : State) (k : ℕ) → has (currentSet s) k ≡ (hasCurrent
 current-has s k = has-cond (hasCurrent s) (2 ^ s .current) k ∙ ap (λ (b : Bool). hasCurrent s && b) (has-single (s .current) k)
 
 -- k is in the kept set, or current
-abbrev spares : ℕ → State → ℕ → Bool
+abbrev pub spares : ℕ → State → ℕ → Bool
 spares keep s k = has keep k || hasCurrent s && eqb (s .current) k
 
 -- what is live and spared stays, with its stamp
@@ -65,7 +64,7 @@ module _ (own keep : ℕ) (s : State) where
   unfolding cleaned
   cleaned-has k = simp (has-minus, has-or, current-has, stays)
 
-  cleaned-stamp : (k : ℕ) → has (cleaned own keep s .live) k ≡ true → stampOf (cleaned own keep s) k ≡ stampOf s k
+  pub cleaned-stamp : (k : ℕ) → has (cleaned own keep s .live) k ≡ true → stampOf (cleaned own keep s) k ≡ stampOf s k
   unfolding cleaned
   cleaned-stamp k h =
       cleared-keeps (minus (dying keep s) own) (s .stamps) width k

@@ -1,5 +1,4 @@
 pub mod Carrying
-pub mod Current
 pub mod Fits
 pub mod Labels
 pub mod Lent

@@ -8,8 +8,7 @@ use lib.ListN.{set}
 use Rattle.routine.specs.Arrays.{isArgument}
 use Rattle.routine.specs.declared.array.ArrayRecord.{ArrayRecord}
 use Rattle.sets.specs.Sets.{has, minus, width}
-use Rattle.state.specs.declared.State.{State}
-use Rattle.state.specs.States.{hasCurrent}
+use Rattle.state.specs.States.{State, hasCurrent}
 
 -- the current copy as a set
 abbrev pub currentSet : State → ℕ

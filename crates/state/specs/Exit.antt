@@ -3,8 +3,7 @@
 use mathlib.Core.Bool.{Bool, not, _&&_, cond}
 use Rattle.routine.specs.Arrays.{isArgument}
 use Rattle.routine.specs.declared.array.ArrayRecord.{ArrayRecord}
-use Rattle.state.specs.declared.State.{State}
-use Rattle.state.specs.States.{emptied}
+use Rattle.state.specs.States.{State, emptied}
 
 -- at the exit local arrays lose all copies and have none current
 abbrev pub left : ArrayRecord → Bool → State → State

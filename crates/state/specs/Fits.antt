@@ -4,8 +4,7 @@ use mathlib.Core.Path.{_≡_}
 use mathlib.Core.List.{List}
 use Prim.Native.Nat.{ℕ, _≤_, _<_, _^_}
 use lib.ListN.{length, getD}
-use Rattle.state.specs.declared.State.{State}
-use Rattle.state.specs.States.{Current}
+use Rattle.state.specs.States.{State, Current}
 use Rattle.sets.specs.Sets.{width}
 
 -- a stamp of 16 bits for each version

@@ -1,6 +1,6 @@
 pub mod Carrying
 pub mod Cleaning
-pub mod Current
+pub mod Computed
 pub mod Exit
 pub mod Fits
 pub mod Moves

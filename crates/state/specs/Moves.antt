@@ -8,8 +8,7 @@ use Rattle.labels.specs.Uses.{isN}
 use Rattle.labels.specs.declared.Use.{Use}
 use Rattle.labels.specs.declared.Use.the-variants.{N, D, R, W}
 use Rattle.sets.specs.Sets.{has}
-use Rattle.state.specs.declared.State.{State}
-use Rattle.state.specs.States.{hasCurrent, stampOf, stamped}
+use Rattle.state.specs.States.{State, hasCurrent, stampOf, stamped}
 
 -- the target is to be taken up: the label is kept, and the target is not current, or nothing is
 abbrev pub moves : Use → ℕ → State → Bool

@@ -2,9 +2,8 @@
 -- Assumes nothing.
 use Prim.Native.Nat.{ℕ}
 use Rattle.routine.specs.declared.action.Access.{Access}
-use Rattle.state.specs.declared.State.{State}
+use Rattle.state.specs.States.{State, stampOf, stamped}
 use Rattle.state.specs.Stamps.{stampAfter}
-use Rattle.state.specs.States.{stampOf, stamped}
 
 -- the current version is used, and a define or modify gives it the step number as its stamp
 unfoldable pub referenced : Access → ℕ → State → State

@@ -3,9 +3,18 @@
 use Prim.Native.Nat.{ℕ}
 use Rattle.routine.specs.declared.action.Access.{Access}
 use Rattle.routine.specs.declared.action.Access.the-variants.{Read, Define, Modify}
+use Rattle.routine.specs.declared.action.Action.{Action}
+use Rattle.routine.specs.declared.action.Action.the-variants.{Nothing, Reference, Remap, Unknown}
 
 -- the stamp after a reference
 abbrev pub stampAfter : Access → ℕ → ℕ → ℕ
 stampAfter Read step stamp = stamp
 stampAfter Define step stamp = step
 stampAfter Modify step stamp = step
+
+-- after an event that is no label
+abbrev pub stampBy : Action → ℕ → ℕ → ℕ
+stampBy Nothing step stamp = stamp
+stampBy (Reference x) step stamp = stampAfter x step stamp
+stampBy (Remap k) step stamp = stamp
+stampBy Unknown step stamp = stamp

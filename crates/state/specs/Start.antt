@@ -5,8 +5,7 @@ use Prim.Native.Nat.{_^_}
 use lib.ListN.{set, replicate}
 use Rattle.routine.specs.Arrays.{isInOrInout}
 use Rattle.routine.specs.declared.array.ArrayRecord.{ArrayRecord}
-use Rattle.state.specs.declared.State.{State}
-use Rattle.state.specs.States.{emptied}
+use Rattle.state.specs.States.{State, emptied}
 use Rattle.sets.specs.Sets.{width}
 
 -- in and inout start current and live in the initial version with stamp 65,535; others with no current copy, none live

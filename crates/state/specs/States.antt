@@ -2,12 +2,19 @@
 -- Assumes nothing.
 use mathlib.Core.Path.{_≡_}
 use mathlib.Core.Bool.{Bool, not}
+use mathlib.Core.List.{List}
 use mathlib.Core.Logic.{_⊎_}
 use Prim.Native.Nat.{ℕ, _<_}
 use lib.Dec.{eqb}
 use lib.ListN.{getD, set, replicate}
-use Rattle.state.specs.declared.State.{State}
 use Rattle.sets.specs.Sets.{width}
+
+-- the current version, or 255 for none; the set of live versions; a stamp for each version; the copies counted
+pub record State : Type 0 where
+  pub current : ℕ
+  pub live : ℕ
+  pub stamps : List ℕ
+  pub copies : ℕ
 
 -- no current copy
 abbrev pub nothing : ℕ

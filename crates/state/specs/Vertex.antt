@@ -7,11 +7,10 @@ use Rattle.labels.specs.declared.Use.{Use}
 use Rattle.routine.specs.declared.action.Action.{Action}
 use Rattle.routine.specs.declared.action.Action.the-variants.{Nothing, Reference, Remap, Unknown}
 use Rattle.routine.specs.declared.array.ArrayRecord.{ArrayRecord}
-use Rattle.state.specs.declared.State.{State}
 use Rattle.state.specs.Cleaning.{callers, cleaned}
 use Rattle.state.specs.Moves.{moved}
 use Rattle.state.specs.References.{referenced}
-use Rattle.state.specs.States.{Current}
+use Rattle.state.specs.States.{State, Current}
 use Rattle.sets.specs.Sets.{width}
 
 -- a label: the move, then the cleaning
@@ -35,13 +34,8 @@ relabelled r (Reference x) u keep s = s
 relabelled r (Remap t) u keep s = labelled r u t keep s
 relabelled r Unknown u keep s = s
 
--- an array's state before a label: a version or none is current, wide stamps, and a copy more can be counted
+-- an array's state before a label: a version or none is current, a stamp for each version, and a copy more can be counted
 pub record Ready (s : State) : Type 0 where
   pub current : Current s
   pub wide : length (s .stamps) ≡ width
   pub few-copies : s .copies < 65535
-
--- and before an event, whose version is below the width
-pub record Visits (x : Action) (s : State) : Type 0 where
-  pub ready : Ready s
-  pub at-remap : (t : ℕ) → x ≡ Remap t → t < width

@@ -1,6 +1,6 @@
 -- The report's bytes, entry by entry and record by record, and their number; references on a path.
 -- Assumes nothing.
-use mathlib.Core.Path.{_≡_, ap}
+use mathlib.Core.Path.{_≡_, sym, ap}
 use mathlib.Core.Bool.{cond}
 use mathlib.Core.List.{List}
 use Prim.Native.Nat.{ℕ, _+_, _*_, _≤_, _<_}
@@ -9,15 +9,17 @@ use lib.ListN.{length, length-append}
 use Rattle.demand.specs.Run.{stateAfter, runRecords}
 use Rattle.labels.specs.Events.{event}
 use Rattle.path.specs.Paths.{steps, vertexAt}
-use Rattle.report.specs.Bytes.{entryBytes, stateOf, entriesOf, recordsBytes}
+use Rattle.report.specs.Bytes.{entryBytes, carriedOf, entriesOf, recordsBytes}
 use Rattle.report.specs.Records.{recordsAt}
 use Rattle.report.specs.References.{referencesAt}
 use Rattle.report.proofs.Bytes.{entries-length, byStep-bytes, ten}
 use Rattle.routine.specs.Actions.{isReference}
 use Rattle.routine.specs.Layout.{arrays}
+use Rattle.state.specs.Carrying.{bare}
 use Rattle.state.specs.States.{stampOf}
-use Rattle.state.specs.declared.State.{State}
+use Rattle.state.specs.declared.Carried.{Carried}
 use Rattle.walk.specs.Report.{entries, reportBytes, referencesOn, reportLength}
+use Rattle.walk.specs.Walks.{Reported}
 use Rattle.words.specs.Tables.{rows}
 use Rattle.words.proofs.Sums.{total-none, total-more, total-few, count-few, rows-total}
 use Rattle.words.proofs.Tables.{rows-same}
@@ -25,12 +27,12 @@ use Rattle.words.proofs.Tables.{rows-same}
 -- ---- entries
 
 pub entries-of :
-    (file path : List ℕ) (states : List State) → ((a : ℕ) → a < arrays file → stateOf states a ≡ stateAfter file path a (steps path))
+    (file path : List ℕ) (states : List Carried) → ((a : ℕ) → a < arrays file → Reported (stateAfter file path a (steps path)) (carriedOf states a))
     → entriesOf states (arrays file) ≡ entries file path
 unfolding entries
 entries-of file path states is =
-    rows-same (λ a. entryBytes (stateOf states a)) (λ a. entryBytes (stateAfter file path a (steps path))) (arrays file)
-    (λ a h. ap entryBytes (is a h))
+    rows-same (λ a. entryBytes (bare (carriedOf states a))) (λ a. entryBytes (stateAfter file path a (steps path))) (arrays file)
+    (λ a h. sym (ap entryBytes (is a h .is)))
 
 -- ---- records
 

@@ -3,7 +3,7 @@
 use mathlib.Core.Path.{_≡_, refl, sym, ap, ap₂, subst, _∙_}
 use mathlib.Core.Bool.{false, true≢false}
 use mathlib.Core.List.{List, []}
-use Prim.Native.Nat.{ℕ, _+_, _≤_, _<_}
+use Prim.Native.Nat.{ℕ, _+_, _*_, _≤_, _<_}
 use native.Mathlib.Omega.{arith}
 use borrow.Author.Count.{below-more}
 use lib.ListN.{length, getD, set, length-set}
@@ -13,10 +13,16 @@ use Rattle.routine.specs.Actions.{isReference}
 use Rattle.routine.specs.Layout.{arrays}
 use Rattle.routine.specs.declared.action.Action.{Action}
 use Rattle.routine.specs.declared.action.Action.the-variants.{Nothing, Reference, Remap, Unknown}
-use Rattle.state.specs.Current.{stampBy, settled}
-use Rattle.state.specs.declared.State.{State}
+use Rattle.routine.specs.Arrays.{arrayOf}
+use Rattle.sets.specs.Sets.{width}
+use Rattle.state.specs.Carrying.{carrying, Carries, rowOf, OtherRows}
+use Rattle.state.specs.Cleaning.{callers}
+use Rattle.state.specs.Stamps.{stampBy}
+use Rattle.state.specs.States.{State}
+use Rattle.state.specs.declared.Carried.{Carried}
+use Rattle.state.proofs.Carrying.{carries-as}
 use Rattle.report.specs.Records.{recordsAt}
-use Rattle.report.specs.Bytes.{stateOf, recordsBytes}
+use Rattle.report.specs.Bytes.{carriedOf, recordsBytes}
 use Rattle.walk.specs.Walks.{Stands, Held, cellBytes, rowBytes, stampAt, Referred}
 use Rattle.words.specs.Tables.{replaced, wrote}
 use Rattle.words.proofs.Replaced.{replaced-length, replaced-at, replaced-still}
@@ -24,44 +30,44 @@ use Rattle.words.proofs.Tables.{rows-empty}
 
 -- ---- states
 
-stands-as : {want s s' : State} {version version' stamp stamp' : ℕ} → s' ≡ s → version' ≡ version → stamp' ≡ stamp
-    → Stands want s version stamp → Stands want s' version' stamp'
-stands-as e f g h = record { is = ap₂ settled g e ∙ h .is; version-is = f ∙ h .version-is ∙ ap (λ (s : State). s .current) (sym e) }
-
-pub held-as : {want want' : ℕ → State} {m : ℕ} {states : List State} {versions stamps : List ℕ} → ((b : ℕ) → b < m → want b ≡ want' b)
-    → Held want m states versions stamps → Held want' m states versions stamps
-held-as {want} {want'} {m} {states} {versions} {stamps} same h = record {
-  states-sized = h .states-sized;
-  versions-sized = h .versions-sized;
-  stamps-sized = h .stamps-sized;
-  stand = λ b in-b. subst (λ (s : State). Stands s (stateOf states b) (getD versions b 0) (getD stamps b 0)) (same b in-b) (h .stand b in-b);
+stands-as : {own : ℕ} {want : State} {c c' : Carried} {version version' stamp stamp' : ℕ} {row row' : ℕ → ℕ} → c' ≡ c → version' ≡ version → stamp' ≡ stamp
+    → ((k : ℕ) → k < width → row' k ≡ row k) → Stands own want c version stamp row → Stands own want c' version' stamp' row'
+stands-as {own} {want} {c} {c'} {version} {version'} {stamp} {stamp'} {row} e f g same h = record {
+  is = carries-as same (subst (λ (d : Carried). Carries own want d row) (sym (ap₂ carrying g e)) (h .is));
+  version-is = f ∙ h .version-is ∙ ap (λ (d : Carried). d .current) (sym e);
 }
 
--- one more state is filled in
-pub hold-more : {want : ℕ → State} {a : ℕ} {states : List State} {versions stamps : List ℕ} (s : State) (stamp : ℕ) → Held want a states versions stamps
-    → a < 8 → settled stamp s ≡ want a → Held want (a + 1) (set states a s) (set versions a (s .current)) (set stamps a stamp)
-hold-more {want} {a} {states} {versions} {stamps} s stamp h in-a is = record {
-  states-sized = length-set states a s ∙ h .states-sized;
-  versions-sized = length-set versions a (s .current) ∙ h .versions-sized;
-  stamps-sized = length-set stamps a stamp ∙ h .stamps-sized;
+-- one more state is filled in, and its row of stamps
+pub hold-more : {file : List ℕ} {want : ℕ → State} {a : ℕ} {states : List Carried} {versions stamps others others' : List ℕ} (c : Carried)
+    → Held file want a states versions stamps others → a < 8 → length others' ≡ 8 * width → OtherRows a others others'
+    → Carries (callers (arrayOf file a)) (want a) c (rowOf others' a)
+    → Held file want (a + 1) (set states a c) (set versions a (c .current)) (set stamps a (c .stamp)) others'
+hold-more {file} {want} {a} {states} {versions} {stamps} {others} {others'} c h in-a sized same is = record {
+  states-sized = length-set states a c ∙ h .states-sized;
+  versions-sized = length-set versions a (c .current) ∙ h .versions-sized;
+  stamps-sized = length-set stamps a (c .stamp) ∙ h .stamps-sized;
+  others-sized = sized;
   stand =
-      below-more (λ b. Stands (want b) (stateOf (set states a s) b) (getD (set versions a (s .current)) b 0) (getD (set stamps a stamp) b 0)) a
+      below-more (λ b. Stands (callers (arrayOf file b)) (want b) (carriedOf (set states a c) b) (getD (set versions a (c .current)) b 0) (getD (set stamps a (c .stamp)) b 0) (rowOf others' b)) a
       (λ b in-b. let ne : b ≡ a → ⊥ = λ e. omega arith in
-      stands-as (getD-set-other states a b s _ ne) (getD-set-other versions a b (s .current) 0 ne) (getD-set-other stamps a b stamp 0 ne) (h .stand b in-b))
-      (stands-as (getD-set-same states a s _ (omega (arith, h .states-sized))) (getD-set-same versions a (s .current) 0 (omega (arith, h .versions-sized)))
-      (getD-set-same stamps a stamp 0 (omega (arith, h .stamps-sized))) (record { is = is; version-is = refl }));
+      stands-as (getD-set-other states a b c _ ne) (getD-set-other versions a b (c .current) 0 ne) (getD-set-other stamps a b (c .stamp) 0 ne) (λ k in-k. same b k ne in-k) (h .stand b in-b))
+      (stands-as (getD-set-same states a c _ (omega (arith, h .states-sized))) (getD-set-same versions a (c .current) 0 (omega (arith, h .versions-sized)))
+      (getD-set-same stamps a (c .stamp) 0 (omega (arith, h .stamps-sized))) (λ k in-k. refl) (record { is = is; version-is = refl }));
 }
 
--- the states and stamps from array a on are as they were
-pub record Untouched (a : ℕ) (states₀ : List State) (stamps₀ : List ℕ) (states : List State) (stamps : List ℕ) : Type 0 where
-  pub states-same : (b : ℕ) → a ≤ b → stateOf states b ≡ stateOf states₀ b
+-- the states, stamps and rows from array a on are as they were
+pub record Untouched (a : ℕ) (states₀ : List Carried) (stamps₀ others₀ : List ℕ) (states : List Carried) (stamps others : List ℕ) : Type 0 where
+  pub states-same : (b : ℕ) → a ≤ b → carriedOf states b ≡ carriedOf states₀ b
   pub stamps-same : (b : ℕ) → a ≤ b → getD stamps b 0 ≡ getD stamps₀ b 0
+  pub rows-same : (b k : ℕ) → a ≤ b → k < width → rowOf others b k ≡ rowOf others₀ b k
 
-pub untouched-more : {a : ℕ} {states₀ states : List State} {stamps₀ stamps : List ℕ} (s : State) (stamp : ℕ) → Untouched a states₀ stamps₀ states stamps
-    → Untouched (a + 1) states₀ stamps₀ (set states a s) (set stamps a stamp)
-untouched-more {a} {states₀} {states} {stamps₀} {stamps} s stamp u = record {
-  states-same = λ b h. getD-set-other states a b s _ (λ e. omega arith) ∙ u .states-same b (omega arith);
-  stamps-same = λ b h. getD-set-other stamps a b stamp 0 (λ e. omega arith) ∙ u .stamps-same b (omega arith);
+pub untouched-more : {a : ℕ} {states₀ states : List Carried} {stamps₀ stamps others₀ others others' : List ℕ} (c : Carried) → Untouched a states₀ stamps₀ others₀ states stamps others
+    → OtherRows a others others'
+    → Untouched (a + 1) states₀ stamps₀ others₀ (set states a c) (set stamps a (c .stamp)) others'
+untouched-more {a} {states₀} {states} {stamps₀} {stamps} {others₀} {others} {others'} c u same = record {
+  states-same = λ b h. getD-set-other states a b c _ (λ e. omega arith) ∙ u .states-same b (omega arith);
+  stamps-same = λ b h. getD-set-other stamps a b (c .stamp) 0 (λ e. omega arith) ∙ u .stamps-same b (omega arith);
+  rows-same = λ b k h in-k. same b k (λ e. omega arith) in-k ∙ u .rows-same b k (omega arith) in-k;
 }
 
 -- ---- references

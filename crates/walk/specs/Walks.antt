@@ -3,7 +3,7 @@
 use mathlib.Core.Path.{_≡_}
 use mathlib.Core.Bool.{Bool, true, false, cond}
 use mathlib.Core.List.{List}
-use Prim.Native.Nat.{ℕ, _<_}
+use Prim.Native.Nat.{ℕ, _*_, _<_}
 use lib.Dec.{eqb}
 use lib.ListN.{length, getD}
 use Rattle.labels.specs.Events.{event}
@@ -12,25 +12,35 @@ use Rattle.labels.specs.Kept.{keptOf}
 use Rattle.labels.specs.Uses.{useOf}
 use Rattle.routine.specs.Actions.{action, isReference, isRemap}
 use Rattle.routine.specs.Arrays.{arrayOf}
-use Rattle.state.specs.Current.{stampBy, settled}
+use Rattle.sets.specs.Sets.{width}
+use Rattle.state.specs.Carrying.{whole, carrying, Carries, rowOf, OtherRows}
+use Rattle.state.specs.Cleaning.{callers}
 use Rattle.state.specs.Exit.{left}
-use Rattle.state.specs.Vertex.{labelled, relabelled}
-use Rattle.state.specs.declared.State.{State}
+use Rattle.state.specs.Stamps.{stampBy}
+use Rattle.state.specs.Vertex.{labelled, relabelled, Ready}
+use Rattle.state.specs.States.{State, hasCurrent, stampOf}
+use Rattle.state.specs.declared.Carried.{Carried}
 use Rattle.report.specs.Records.{recordsAt}
-use Rattle.report.specs.Bytes.{stateOf, recordsBytes}
+use Rattle.report.specs.Bytes.{carriedOf, recordsBytes}
 use Rattle.words.specs.Tables.{rows, replaced, wrote}
 
--- an array's state, held as a state, its current version, and the stamp of its current copy
-pub record Stands (want s : State) (version stamp : ℕ) : Type 0 where
-  pub is : settled stamp s ≡ want
-  pub version-is : version ≡ s .current
+-- an array's state, held as a carried state, its current version, the stamp of its current copy, and a row of stamps
+pub record Stands (own : ℕ) (want : State) (c : Carried) (version stamp : ℕ) (row : ℕ → ℕ) : Type 0 where
+  pub is : Carries own want (carrying stamp c) row
+  pub version-is : version ≡ c .current
 
 -- the states of the first m arrays
-pub record Held (want : ℕ → State) (m : ℕ) (states : List State) (versions stamps : List ℕ) : Type 0 where
+pub record Held (file : List ℕ) (want : ℕ → State) (m : ℕ) (states : List Carried) (versions stamps others : List ℕ) : Type 0 where
   pub states-sized : length states ≡ 8
   pub versions-sized : length versions ≡ 8
   pub stamps-sized : length stamps ≡ 8
-  pub stand : (b : ℕ) → b < m → Stands (want b) (stateOf states b) (getD versions b 0) (getD stamps b 0)
+  pub others-sized : length others ≡ 8 * width
+  pub stand : (b : ℕ) → b < m → Stands (callers (arrayOf file b)) (want b) (carriedOf states b) (getD versions b 0) (getD stamps b 0) (rowOf others b)
+
+-- state s as the report is written from it, with the stamp of its current copy
+pub record Reported (s : State) (c : Carried) : Type 0 where
+  pub is : s ≡ whole c (s .stamps)
+  pub stamp-is : hasCurrent s ≡ true → c .stamp ≡ stampOf s (s .current)
 
 -- the bytes of array a at vertex v: a record, if it is referenced there
 abbrev pub cellBytes : List ℕ → ℕ → ℕ → List ℕ → List ℕ → ℕ → List ℕ
@@ -70,3 +80,9 @@ Labels file v false = Unlabelled file v
 unfoldable pub relabelledAt : List ℕ → ℕ → ℕ → State → State
 unfolding arrayOf event useOf keptOf labelled
 relabelledAt file a v s = left (arrayOf file a) (eqb v (exit file)) (relabelled (arrayOf file a) (event file a v) (useOf file a v) (keptOf file a v) s)
+
+-- what is carried of array a, and the table, before and after its label at vertex v and the exit: the other rows stay, and the rule holds
+pub record RelabelledAt (file : List ℕ) (a v : ℕ) (c : Carried) (old : List ℕ) (n : Carried) (new : List ℕ) : Type 0 where
+  pub sized : length new ≡ length old
+  pub other-rows : OtherRows a old new
+  pub rule : (s : State) → Ready s → Carries (callers (arrayOf file a)) s c (rowOf old a) → Carries (callers (arrayOf file a)) (relabelledAt file a v s) n (rowOf new a)

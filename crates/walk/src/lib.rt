@@ -8,10 +8,9 @@ use routine::array::ArrayRecord;
 use routine::header::Header;
 use sets::Set;
 use state::Carried;
-use state::State;
 ghost use mathlib.Core.Path.{_≡_};
-ghost use Prim.Native.Nat.{ℕ, _≤_, _<_};
-ghost use lib.ListN.{length, getD};
+ghost use Prim.Native.Nat.{ℕ, _*_, _≤_, _<_};
+ghost use lib.ListN.{length, getD, replicate};
 ghost use Rattle.labels.specs.Events.{event};
 ghost use Rattle.labels.specs.Routines.{ReadAs};
 ghost use Rattle.passes.specs.Tables.{LettersAndKept};
@@ -19,17 +18,15 @@ ghost use Rattle.routine.specs.Arrays.{arrayOf};
 ghost use Rattle.routine.specs.Layout.{arrays, vertices};
 ghost use Rattle.routine.specs.Reader.{WellFormed};
 ghost use Rattle.refusal.specs.declared.Verdict.the-variants.{Passed};
-ghost use Rattle.state.specs.Carrying.{whole};
-ghost use Rattle.state.specs.Current.{settled};
+ghost use Rattle.sets.specs.Sets.{width};
+ghost use Rattle.state.specs.Carrying.{carrying, Visits};
 ghost use Rattle.state.specs.Start.{started};
-ghost use Rattle.state.specs.States.{Current};
-ghost use Rattle.state.specs.Vertex.{Visits};
 ghost use Rattle.path.specs.Paths.{steps, pathCheck};
-ghost use Rattle.report.specs.Bytes.{stateOf, recordsBytes};
+ghost use Rattle.report.specs.Bytes.{carriedOf, recordsBytes};
 ghost use Rattle.report.specs.References.{referencesAt};
 ghost use Rattle.walk.specs.Report.{reportBytes, referencesOn, reportLength};
 ghost use Rattle.demand.specs.Run.{stateAfter, runRecords};
-ghost use Rattle.walk.specs.Walks.{Held, rowBytes, Referred, OneSort, Unlabelled, Labels, relabelledAt};
+ghost use Rattle.walk.specs.Walks.{Held, Reported, rowBytes, Referred, OneSort, Unlabelled, Labels, RelabelledAt};
 ghost use Rattle.words.specs.Tables.{table, replaced, wrote};
 
 // How many references the path meets.
@@ -61,17 +58,17 @@ pub fn length(file: &[u8], h: Header, path: &[u8], counts: &mut [u8]) -> usize
     report::ENTRY * h.arrays + Record::SIZE * references_on(file, path, counts)
 }
 
-// The states before the first step, with the current versions and their stamps.
+// The states before the first step, with the current versions and their stamps. In the table beside them every stamp is 0.
 fn start_all(
     file: &[u8],
     h: Header,
     versions: &mut [u8; ArrayRecord::MAX],
     stamps: &mut [u16; ArrayRecord::MAX],
-) -> [State; ArrayRecord::MAX]
+) -> [Carried; ArrayRecord::MAX]
     requires { ⌜ ReadAs (now file) h ⌝ }
     requires { ⌜ length (now versions) ≡ 8 ⌝ }
     requires { ⌜ length (now stamps) ≡ 8 ⌝ }
-    ensures { λ r. ⌜ Held (λ a. started (arrayOf (now (file .entry)) a)) (arrays (now (file .entry))) r (now (versions .exit)) (now (stamps .exit)) ⌝ }
+    ensures { λ r. ⌜ Held (now (file .entry)) (λ a. started (arrayOf (now (file .entry)) a)) (arrays (now (file .entry))) r (now (versions .exit)) (now (stamps .exit)) (replicate (8 * width) 0) ⌝ }
 {
     let none = state::empty(0);
     let mut states = [none; ArrayRecord::MAX];
@@ -80,7 +77,7 @@ fn start_all(
     while a < m {
         let s = state::start(array::record_of(file, a));
         versions[a] = s.current;
-        stamps[a] = state::current_stamp(s);
+        stamps[a] = s.stamp;
         states[a] = s;
         a += 1;
     }
@@ -192,34 +189,35 @@ fn relabel(
     a: usize,
     v: usize,
     c: Carried,
+    others: &mut [u16; state::STAMPS],
 ) -> Carried
     requires { ⌜ ReadAs (now file) h ⌝ }
     requires { ⌜ (a < arrays (now file)) × (v < vertices (now file)) ⌝ }
     requires { ⌜ LettersAndKept (now file) (now letters) (now kept) ⌝ }
-    requires { ⌜ Visits (event (now file) a v) (whole c) ⌝ }
-    ensures { λ r. ⌜ whole r ≡ relabelledAt (now (file .entry)) a v (whole c) ⌝ }
+    requires { ⌜ length (now others) ≡ 8 * width ⌝ }
+    requires { ⌜ Visits (event (now file) a v) c ⌝ }
+    ensures { λ r. ⌜ RelabelledAt (now (file .entry)) a v c (now (others .entry)) r (now (others .exit)) ⌝ }
 {
     let r = array::record_of(file, a);
     let x = event::at(file, h, r, a, v);
     let place = flow::COLUMNS * v + a;
-    let labelled = state::relabelled(c, r, x, letters[place], kept[place]);
+    let labelled = state::relabelled(c, others, a, x, letters[place], kept[place]);
     state::leave(labelled, r, v == h.vertices - 1)
 }
 
 // The states with the stamps of their current copies in them.
 fn settle_all(
-    states: [State; ArrayRecord::MAX],
+    states: [Carried; ArrayRecord::MAX],
     m: usize,
     stamps: [u16; ArrayRecord::MAX],
-) -> [State; ArrayRecord::MAX]
+) -> [Carried; ArrayRecord::MAX]
     requires { ⌜ m ≤ 8 ⌝ }
-    requires { ⌜ ((b : ℕ) → b < m → Current (stateOf states b)) ⌝ }
-    ensures { λ r. ⌜ r ≡ replaced states 0 (λ b. settled (getD stamps b 0) (stateOf states b)) m ⌝ }
+    ensures { λ r. ⌜ r ≡ replaced states 0 (λ b. carrying (getD stamps b 0) (carriedOf states b)) m ⌝ }
 {
     let mut new = states;
     let mut a = 0;
     while a < m {
-        new[a] = state::settled(new[a], stamps[a]);
+        new[a] = state::with_stamp(new[a], stamps[a]);
         a += 1;
     }
     new
@@ -233,16 +231,17 @@ fn follow(
     letters: &[u8],
     kept: &[Set],
     out: &mut [u8],
-) -> [State; ArrayRecord::MAX]
+) -> [Carried; ArrayRecord::MAX]
     requires { ⌜ ReadAs (now file) h ⌝ }
     requires { ⌜ pathCheck (now file) (now path) ≡ Passed ⌝ }
     requires { ⌜ LettersAndKept (now file) (now letters) (now kept) ⌝ }
     requires { ⌜ length (recordsBytes (runRecords (now file) (now path))) ≤ length (now out) ⌝ }
-    ensures { λ r. ⌜ ((a : ℕ) → a < arrays (now (file .entry)) → stateOf r a ≡ stateAfter (now (file .entry)) (now (path .entry)) a (steps (now (path .entry)))) ⌝ }
+    ensures { λ r. ⌜ ((a : ℕ) → a < arrays (now (file .entry)) → Reported (stateAfter (now (file .entry)) (now (path .entry)) a (steps (now (path .entry)))) (carriedOf r a)) ⌝ }
     ensures { λ _. ⌜ now (out .exit) ≡ wrote (now (out .entry)) (recordsBytes (runRecords (now (file .entry)) (now (path .entry)))) ⌝ }
 {
     let mut versions = [0u8; ArrayRecord::MAX];
     let mut stamps = [0u16; ArrayRecord::MAX];
+    let mut others = [0u16; state::STAMPS];
     let mut states = start_all(file, h, &mut versions, &mut stamps);
     let n = path::count(path);
     let m = h.arrays;
@@ -258,12 +257,11 @@ fn follow(
             while a < m {
                 let s = states[a];
                 let stamp = stamps[a];
-                let c = Carried { state: s, stamp };
-                let next = relabel(file, h, letters, kept, a, v, c);
-                let t = next.state;
-                versions[a] = t.current;
+                let c = state::with_stamp(s, stamp);
+                let next = relabel(file, h, letters, kept, a, v, c, &mut others);
+                versions[a] = next.current;
                 stamps[a] = next.stamp;
-                states[a] = t;
+                states[a] = next;
                 a += 1;
             }
         }

@@ -5,23 +5,24 @@ use Prim.Native.Nat.{_*_, _-_}
 use native.Mathlib.Omega.{arith}
 use lib.ListN.{length}
 use Rattle.words.proofs.Buffers.{Filled, begin, lies, lent, next-row, buffer-length, end}
-use Rattle.report.specs.Bytes.{entryBytes, stateOf, entriesOf}
+use Rattle.report.specs.Bytes.{entryBytes, carriedOf, entriesOf}
+use Rattle.state.specs.Carrying.{bare}
 use Rattle.report.proofs.Bytes.{entries-length}
 use Rattle.report.proofs.write_entries.Statement.{statement}
 use Rattle.report.proofs.write_entries.Tie as tie
 
 abbrev Inv-loop : tie.InvT-loop
-Inv-loop m out₀ states a₀ out a = Filled (λ b. entryBytes (stateOf states b)) m out₀ a out
+Inv-loop m out₀ states a₀ out a = Filled (λ b. entryBytes (bare (carriedOf states b))) m out₀ a out
 
 abbrev μ-loop : tie.MeasureT-loop
 μ-loop m out₀ states a₀ out a = m - a
 
 -- where the entry of array a stands
 here : (c : tie.At-loop Inv-loop μ-loop) → 6 * c .loop .a ≡ length (entriesOf (c .before .before .args .t1) (c .loop .a))
-here c = sym (entries-length (stateOf (c .before .before .args .t1)) (c .loop .a))
+here c = sym (entries-length (λ b. bare (carriedOf (c .before .before .args .t1) b)) (c .loop .a))
 
 loop-holds : tie.Need-loop-holds Inv-loop μ-loop
-loop-holds c = begin _ _ _ (omega (arith, entries-length (stateOf (c .before .args .t1)) (c .before .args .m)))
+loop-holds c = begin _ _ _ (omega (arith, entries-length (λ b. bare (carriedOf (c .before .args .t1) b)) (c .before .args .m)))
 
 mul-at : tie.Need-mul-at Inv-loop μ-loop
 mul-at c = omega arith

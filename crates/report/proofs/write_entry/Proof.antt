@@ -5,6 +5,7 @@ use borrow.Author.Needs.{needs}
 use lib.ListN.{length-set}
 use lib.Seq.{sets-eq}
 use Rattle.report.specs.Bytes.{entryBytes}
+use Rattle.state.specs.Carrying.{bare}
 use Rattle.report.proofs.write_entry.Statement.{statement}
 use Rattle.report.proofs.write_entry.Tie as tie
 
@@ -44,7 +45,7 @@ same-length c = search needs
 returns : tie.Need-returns
 returns c =
     let s = c .before .before .before .before in
-    sets-eq (entryBytes (s .args .s)) (s .args .out .now) 0 (s .pre)
+    sets-eq (entryBytes (bare (s .args .s))) (s .args .out .now) 0 (s .pre)
 
 pub write-entry-spec : {M : Type 1} → statement M
 write-entry-spec =

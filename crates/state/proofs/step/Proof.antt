@@ -95,7 +95,7 @@ module _ {M : Type 1} (𝓤 : URA M) (H : Heap 𝓤) (A : Atoms 𝓤) (W : Given
           qed W ((‵ (flft κ q) ⊛ ‵ ftrue) ∷ ‵ (owns (MutRef (named 0) κ R ∷ numberTypes) x at) ∷ []) ∵ enter ! C Λ code.function (vptr b o ∷ labelWords a) _ $
           alloc1 ! (λ l₀. alloc1 ! (λ l₁. alloc1 ! (λ l₂. alloc1 ! (λ l₃. alloc1 ! (λ l₄. alloc1 ! (λ l₅. alloc1 ! (λ l₆. alloc1 ! (λ l₇. alloc0 ! $ params1 ! $
           pass1 ! (init ! 12 refl (tt, tt)) $ pass1 ! (init ! 10 refl (tt, record { fits = a .letter-fits })) $ pass1 ! (init ! 8 refl (tt, record { fits = a .version-fits })) $
-          pass1 ! (init ! 6 refl (tt, record { fits = a .keep-fits })) $ pass1 ! (init ! 4 refl (tt, record { fits = a .callers-fits })) $ pass0 ! $
+          pass1 ! (init ! 6 refl (tt, record { fits = a .keep-fits })) $ pass1 ! (init ! 4 refl (tt, record { fits = a .held-fits })) $ pass0 ! $
           -- [room for _7; …; room for _6; …; _5; …; _4; …; _3; …; _2; …; _1; …; room for _0; …; the token; what the parameters own]
           move ! (17 ∷ []) $ fsplit ! $ fsplit3 ! $ drop ! $ move ! (19 ∷ []) $ split ! $ move ! (2 ∷ 3 ∷ 0 ∷ []) $
           opens ! tt R {h = h} b o (λ vs. spelt ! R (Is R) (shows 𝓤 H A R) (LL.vals T.the-type T′.the-laws) (LL.tells T.the-type T′.the-laws) fullShare h vs b o $

@@ -130,7 +130,7 @@ module _ {M : Type 1} (𝓤 : URA M) (H : Heap 𝓤) (A : Atoms 𝓤) (W : Given
         qed W (‵ ftrue ∷ ‵ (owns (R ∷ numberTypes) x at) ∷ []) ∵ enter ! C Λ code.function (mach s ∷ labelWords a) _ $
         alloc1 ! (λ l₀. alloc1 ! (λ l₁. alloc1 ! (λ l₂. alloc1 ! (λ l₃. alloc1 ! (λ l₄. alloc1 ! (λ l₅. alloc1 ! (λ l₆. alloc1 ! (λ l₇. alloc1 ! (λ l₈. alloc0 ! $ params1 ! $
         pass1 ! (init ! 14 refl (typed 𝓤 H A W s _ is)) $ pass1 ! (init ! 12 refl (tt, record { fits = a .letter-fits })) $ pass1 ! (init ! 10 refl (tt, record { fits = a .version-fits })) $
-        pass1 ! (init ! 8 refl (tt, record { fits = a .keep-fits })) $ pass1 ! (init ! 6 refl (tt, record { fits = a .callers-fits })) $ pass0 ! $
+        pass1 ! (init ! 8 refl (tt, record { fits = a .keep-fits })) $ pass1 ! (init ! 6 refl (tt, record { fits = a .held-fits })) $ pass0 ! $
         -- [room for _8; …; room for _7; …; room for _6; …; _5; …; _4; …; _3; …; _2; …; _1; …; room for _0; …; true; what the parameters own]
         assigns ! (of-opd ! (load ! (from ! (stop !)) (look ! 14 refl))) (from ! (stop !)) (init ! 4 refl (typed 𝓤 H A W s _ is)) $
         assigns ! (addr ! (from ! (stop !))) (from ! (stop !)) (init ! 0 refl (tt, tt)) $

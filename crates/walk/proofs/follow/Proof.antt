@@ -8,16 +8,20 @@ use borrow.Author.Needs.{needs}
 use lib.ListN.{length, getD}
 use Rattle.labels.specs.Events.{event}
 use Rattle.routine.specs.Layout.{arrays, vertices}
-use Rattle.state.specs.Carrying.{whole}
-use Rattle.state.specs.Current.{settled}
-use Rattle.state.specs.Vertex.{Visits}
-use Rattle.state.specs.declared.State.{State}
+use Rattle.routine.specs.Arrays.{arrayOf}
+use Rattle.demand.specs.Run.{stateAfter}
+use Rattle.state.specs.Carrying.{carrying, Carries, Visits, rowOf}
+use Rattle.state.specs.Cleaning.{callers}
+use Rattle.state.specs.States.{State}
+use Rattle.state.specs.Vertex.{Ready}
+use Rattle.state.specs.declared.Carried.{Carried}
+use Rattle.state.proofs.Carrying.{carries-as}
 use Rattle.path.specs.Paths.{steps, vertexAt}
-use Rattle.report.specs.Bytes.{stateOf}
-use Rattle.walk.specs.Walks.{Held, rowBytes, Referred, Unlabelled, Labels, relabelledAt}
+use Rattle.report.specs.Bytes.{carriedOf}
+use Rattle.walk.specs.Walks.{Held, Reported, rowBytes, Referred, Unlabelled, Labels, relabelledAt}
 use Rattle.walk.proofs.Held.{hold-more, Untouched, untouched-more}
 use Rattle.path.proofs.Paths.{Walk, walk, within-vertices}
-use Rattle.walk.proofs.Walking.{Walking, relabelledFrom, begins, row-is, stamps-sized, visits-after, held-on, held-labelled, steps-on, all-written, last-states, last-current}
+use Rattle.walk.proofs.Walking.{Walking, begins, row-is, stamps-sized, then, carries-after, ready-after, visits-after, relabelled-next, held-on, steps-on, all-written, last-states}
 use Rattle.passes.proofs.Cells.{in-eight}
 use Rattle.words.proofs.Buffers.{row-room, buffer-length}
 use Rattle.words.proofs.Replaced.{replaced-at}
@@ -27,17 +31,17 @@ use Rattle.walk.proofs.follow.Tie as tie
 
 -- the labels of vertex v: the first a arrays are done
 abbrev Inv-loop2 : tie.InvT-loop2
-Inv-loop2 file h path letters kept out versions₀ stamps₀ states₀ n m at i v a₀ versions stamps states a =
-    (a ≤ m) × Held (relabelledFrom file v states₀ stamps₀) a states versions stamps × Untouched a states₀ stamps₀ states stamps
+Inv-loop2 file h path letters kept out versions₀ stamps₀ others₀ states₀ n m at i v a₀ versions stamps others states a =
+    (a ≤ m) × Held file (λ b. stateAfter file path b i) a states versions stamps others × Untouched a states₀ stamps₀ others₀ states stamps others
 
 abbrev μ-loop2 : tie.MeasureT-loop2
-μ-loop2 file h path letters kept out versions₀ stamps₀ states₀ n m at i v a₀ versions stamps states a = m - a
+μ-loop2 file h path letters kept out versions₀ stamps₀ others₀ states₀ n m at i v a₀ versions stamps others states a = m - a
 
 abbrev Inv-loop : tie.InvT-loop
-Inv-loop file h path letters kept out₀ versions₀ stamps₀ states₀ n m at₀ i₀ out versions stamps states at i = Walking file path out₀ at i states versions stamps out
+Inv-loop file h path letters kept out₀ versions₀ stamps₀ others₀ states₀ n m at₀ i₀ out versions stamps others states at i = Walking file path out₀ at i states versions stamps others out
 
 abbrev μ-loop : tie.MeasureT-loop
-μ-loop file h path letters kept out₀ versions₀ stamps₀ states₀ n m at₀ i₀ out versions stamps states at i = n - i
+μ-loop file h path letters kept out₀ versions₀ stamps₀ others₀ states₀ n m at₀ i₀ out versions stamps others states at i = n - i
 
 -- what holds in a turn
 module _ (c : tie.In-loop Inv-loop2 μ-loop2 Inv-loop μ-loop) where
@@ -139,7 +143,7 @@ loop2-holds c =
     let r = c .before .before .before .before in
     let t = turn (q r) in
     let held = l (q r) .loop .inv .held in
-    (omega arith, record { states-sized = held .states-sized; versions-sized = held .versions-sized; stamps-sized = stamps-sized (file t) (path t) (s t .pre .0 .well) (s t .pre .1 .0) (in-i t) (along t .short) held (referred r); stand = λ b h. absurd (omega arith) }, record { states-same = λ b h. refl; stamps-same = λ b h. refl })
+    (omega arith, record { states-sized = held .states-sized; versions-sized = held .versions-sized; stamps-sized = stamps-sized (file t) (path t) (s t .pre .0 .well) (s t .pre .1 .0) (in-i t) (along t .short) held (referred r); others-sized = held .others-sized; stand = λ b h. absurd (omega arith) }, record { states-same = λ b h. refl; stamps-same = λ b h. refl; rows-same = λ b k h in-k. refl })
 
 -- what holds in a turn
 module _ (c : tie.In-loop2 Inv-loop2 μ-loop2 Inv-loop μ-loop) where
@@ -158,15 +162,39 @@ module _ (c : tie.In-loop2 Inv-loop2 μ-loop2 Inv-loop μ-loop) where
   small : a < 8
   small = in-eight (s begun .pre .0 .well) in-a
 
-  -- the array is as it was
-  same : settled (getD (c .before .loop2 .stamps) a 0) (stateOf (c .before .loop2 .states) a) ≡ settled (getD (after served) a 0) (stateOf (l (q served) .loop .states) a)
-  same = ap₂ settled (c .before .loop2 .inv .2 .stamps-same a (omega arith)) (c .before .loop2 .inv .2 .states-same a (omega arith))
+  abbrev v : ℕ
+  v = q served .vertex .result
 
-  visits : Visits (event (file begun) a (q served .vertex .result)) (settled (getD (c .before .loop2 .stamps) a 0) (stateOf (c .before .loop2 .states) a))
+  -- the array is as it was
+  abbrev carried : Carried
+  carried = carrying (getD (c .before .loop2 .stamps) a 0) (carriedOf (c .before .loop2 .states) a)
+
+  same : carried ≡ carrying (getD (after served) a 0) (carriedOf (l (q served) .loop .states) a)
+  same = ap₂ carrying (c .before .loop2 .inv .2 .stamps-same a (omega arith)) (c .before .loop2 .inv .2 .states-same a (omega arith))
+
+  -- its state once the references are made
+  abbrev state : State
+  state = then (file begun) (path begun) (s begun .pre .0 .well) (s begun .pre .1 .0) (in-i begun) (along begun .short) (l (q served) .loop .inv .held) (referred served) a in-a
+
+  visits : Visits (event (file begun) a v) carried
   visits =
-      subst (Visits (event (file begun) a (q served .vertex .result))) (sym same)
-      (subst (λ (v : ℕ). Visits (event (file begun) a v) (settled (getD (after served) a 0) (stateOf (l (q served) .loop .states) a))) (sym (q served .vertex .ensures))
+      subst (Visits (event (file begun) a v)) (sym same)
+      (subst (λ (v : ℕ). Visits (event (file begun) a v) (carrying (getD (after served) a 0) (carriedOf (l (q served) .loop .states) a))) (sym (q served .vertex .ensures))
       (visits-after (file begun) (path begun) (s begun .pre .0 .well) (s begun .pre .1 .0) (in-i begun) (along begun .short) (l (q served) .loop .inv .held) (referred served) a in-a))
+
+  carries : Carries (callers (arrayOf (file begun) a)) state carried (rowOf (c .before .loop2 .others) a)
+  carries =
+      carries-as (λ k in-k. c .before .loop2 .inv .2 .rows-same a k (omega arith) in-k)
+      (subst (λ (d : Carried). Carries (callers (arrayOf (file begun) a)) state d (rowOf (l (q served) .loop .others) a)) (sym same)
+      (carries-after (file begun) (path begun) (s begun .pre .0 .well) (s begun .pre .1 .0) (in-i begun) (along begun .short) (l (q served) .loop .inv .held) (referred served) a in-a))
+
+  ready : Ready state
+  ready = ready-after (file begun) (path begun) (s begun .pre .0 .well) (s begun .pre .1 .0) (in-i begun) (along begun .short) (l (q served) .loop .inv .held) (referred served) a in-a
+
+  next-is : relabelledAt (file begun) a v state ≡ stateAfter (file begun) (path begun) a (l (q served) .loop .i + 1)
+  next-is =
+      ap (λ (v : ℕ). relabelledAt (file begun) a v state) (q served .vertex .ensures)
+      ∙ relabelled-next (file begun) (path begun) (s begun .pre .0 .well) (s begun .pre .1 .0) (in-i begun) (along begun .short) (l (q served) .loop .inv .held) (referred served) a in-a
 
 mul-s : tie.Need-mul-s Inv-loop2 μ-loop2 Inv-loop μ-loop
 mul-s c = omega (arith, small c)
@@ -180,42 +208,48 @@ mul-stamp c = omega (arith, small (c .before))
 array-read-stamp : tie.Need-array-read-stamp Inv-loop2 μ-loop2 Inv-loop μ-loop
 array-read-stamp c = omega (arith, small (c .before))
 
+with-stamp-requires : tie.Need-with-stamp-requires Inv-loop2 μ-loop2 Inv-loop μ-loop
+with-stamp-requires c κs = search needs
+
 relabel-requires : tie.Need-relabel-requires Inv-loop2 μ-loop2 Inv-loop μ-loop
 relabel-requires c κs =
-    let t = c .before in
+    let t = c .before .before .before in
     let s = s (begun t) in
-    (s .pre .0, ((in-a t, in-v (q (served t))), (s .pre .1 .1 .0, visits t)))
+    (s .pre .0, ((in-a t, in-v (q (served t))), (s .pre .1 .1 .0, (t .before .loop2 .inv .1 .others-sized, subst (Visits (event (file (begun t)) (a t) (v t))) (sym (c .before .with-stamp .ensures)) (visits t)))))
 
 array-write-versions : tie.Need-array-write-versions Inv-loop2 μ-loop2 Inv-loop μ-loop
-array-write-versions c = omega (arith, small (c .before .before .before))
+array-write-versions c = omega (arith, small (c .before .before .before .before))
 
 mul-stamps : tie.Need-mul-stamps Inv-loop2 μ-loop2 Inv-loop μ-loop
-mul-stamps c = omega (arith, small (c .before .before .before))
+mul-stamps c = omega (arith, small (c .before .before .before .before))
 
 array-write-stamps : tie.Need-array-write-stamps Inv-loop2 μ-loop2 Inv-loop μ-loop
-array-write-stamps c = omega (arith, small (c .before .before .before))
+array-write-stamps c = omega (arith, small (c .before .before .before .before))
 
 mul-states : tie.Need-mul-states Inv-loop2 μ-loop2 Inv-loop μ-loop
-mul-states c = omega (arith, small (c .before .before .before))
+mul-states c = omega (arith, small (c .before .before .before .before))
 
 array-set-from-states : tie.Need-array-set-from-states Inv-loop2 μ-loop2 Inv-loop μ-loop
-array-set-from-states c = omega (arith, small (c .before .before .before))
+array-set-from-states c = omega (arith, small (c .before .before .before .before))
 
 add-a : tie.Need-add-a Inv-loop2 μ-loop2 Inv-loop μ-loop
-add-a c = omega (arith, small (c .before .before .before))
+add-a c = omega (arith, small (c .before .before .before .before))
 
 loop2-less : tie.Need-loop2-less Inv-loop2 μ-loop2 Inv-loop μ-loop
 loop2-less c = omega arith
 
 loop2-again : tie.Need-loop2-again Inv-loop2 μ-loop2 Inv-loop μ-loop
 loop2-again c =
-    let t = c .before .before .before in
+    let t = c .before .before .before .before in
     let inv = t .before .loop2 .inv in
-    let next = c .before .relabel .result in
-    let is = subst (λ (w : State). whole next ≡ relabelledAt (file (begun t)) (a t) (q (served t) .vertex .result) w) (same t) (c .before .relabel .ensures) in (
+    let next = c .relabel .result in
+    let r = c .relabel .ensures in
+    let file = file (begun t) in
+    let before = subst (λ (d : Carried). Carries (callers (arrayOf file (a t))) (state t) d (rowOf (t .before .loop2 .others) (a t))) (sym (c .before .before .with-stamp .ensures)) (carries t) in
+    let is = subst (λ (w : State). Carries (callers (arrayOf file (a t))) w next (rowOf (c .relabel .last .1 .1 .1 .1 .1 .1 .1 .0) (a t))) (next-is t) (r .rule (state t) (ready t) before) in (
       omega arith,
-      hold-more (next .state) (next .stamp) (inv .1) (small t) is,
-      untouched-more (next .state) (next .stamp) (inv .2),
+      hold-more next (inv .1) (small t) (r .sized ∙ inv .1 .others-sized) (r .other-rows) is,
+      untouched-more next (inv .2) (r .other-rows),
     )
 
 -- ---- the next vertex
@@ -234,9 +268,7 @@ loop-again c =
     let short = along t .short in
     let all : m .a ≡ arrays (file t) = omega (arith, s t .pre .0 .heads .arrays-are, m .inv .0) in
     steps-on (file t) (path t) well accepted (in-i t) short (g .inv) (referred r)
-    (held-labelled (file t) (path t) well accepted (in-i t) short (g .inv .held) (referred r)
-    (subst (λ (v : ℕ). Held (relabelledFrom (file t) v (g .states) (after r)) (arrays (file t)) (m .states) (m .versions) (m .stamps)) (q r .vertex .ensures)
-    (subst (λ (k : ℕ). Held (relabelledFrom (file t) (q r .vertex .result) (g .states) (after r)) k (m .states) (m .versions) (m .stamps)) all (m .inv .1))))
+    (subst (λ (k : ℕ). Held (file t) (λ b. stateAfter (file t) (path t) b (g .i + 1)) k (m .states) (m .versions) (m .stamps) (m .others)) all (m .inv .1))
 
 loop-less-2 : tie.Need-loop-less-2 Inv-loop2 μ-loop2 Inv-loop μ-loop
 loop-less-2 c = omega arith
@@ -261,11 +293,7 @@ module _ (c : tie.After-loop Inv-loop2 μ-loop2 Inv-loop μ-loop) where
   over = omega (arith, c .before .before .count .ensures)
 
 settle-all-requires : tie.Need-settle-all-requires Inv-loop2 μ-loop2 Inv-loop μ-loop
-settle-all-requires c κs =
-    let w = c .before .loop .inv in
-    let heads = first c .pre .0 .heads in
-    let well = first c .pre .0 .well in
-    (omega (arith, heads .arrays-are, well .laid .limits .few-arrays), λ b in-b. last-current w (over c) well (first c .pre .1 .0) b (omega (arith, heads .arrays-are)))
+settle-all-requires c κs = omega (arith, first c .pre .0 .heads .arrays-are, first c .pre .0 .well .laid .limits .few-arrays)
 
 same-length : tie.Need-same-length Inv-loop2 μ-loop2 Inv-loop μ-loop
 same-length c = buffer-length (c .before .before .loop .inv .filled)
@@ -274,8 +302,12 @@ returns : tie.Need-returns Inv-loop2 μ-loop2 Inv-loop μ-loop
 returns c =
     let w = c .before .before .loop .inv in
     let e = over (c .before) in
-    let heads = first (c .before) .pre .0 .heads in
-    (λ a in-a. ap (λ (l : List State). stateOf l a) (c .settle-all .ensures) ∙ replaced-at _ 0 _ _ _ a (omega arith) (omega (arith, heads .arrays-are)) (omega (arith, w .held .states-sized, heads .arrays-are, first (c .before) .pre .0 .well .laid .limits .few-arrays)) ∙ last-states w e a in-a, all-written w e)
+    let heads = first (c .before) .pre .0 .heads in (
+      λ a in-a. subst (Reported (stateAfter (first (c .before) .args .file .now) (first (c .before) .args .path .now) a (steps (first (c .before) .args .path .now))))
+          (sym (ap (λ (l : List Carried). carriedOf l a) (c .settle-all .ensures) ∙ replaced-at _ 0 _ _ _ a (omega arith) (omega (arith, heads .arrays-are)) (omega (arith, w .held .states-sized, heads .arrays-are, first (c .before) .pre .0 .well .laid .limits .few-arrays))))
+          (last-states w e a in-a),
+      all-written w e,
+    )
 
 pub follow-spec : {M : Type 1} → statement M
 follow-spec =
@@ -303,6 +335,7 @@ follow-spec =
     array-copy-out-s
     mul-stamp
     array-read-stamp
+    with-stamp-requires
     relabel-requires
     array-write-versions
     mul-stamps

@@ -11,7 +11,7 @@ use Rattle.routine.specs.Layout.{arrays}
 use Rattle.routine.specs.declared.action.Action.{Action}
 use Rattle.report.specs.Bytes.{recordsBytes}
 use Rattle.report.specs.Records.{recordsAt}
-use Rattle.state.specs.Current.{stampBy}
+use Rattle.state.specs.Stamps.{stampBy}
 use Rattle.walk.specs.Walks.{cellBytes, rowBytes, stampAt}
 use Rattle.passes.proofs.Cells.{in-eight}
 use Rattle.words.specs.Tables.{rows, wrote}

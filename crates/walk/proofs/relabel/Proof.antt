@@ -7,17 +7,13 @@ use native.Mathlib.Omega.{arith}
 use borrow.Author.Needs.{needs}
 use lib.Dec.{eqb}
 use lib.ListN.{length}
-use Rattle.labels.proofs.Rules.Proper.{proper}
-use Rattle.passes.proofs.Cells.{few-cells, in-table}
+use Rattle.passes.proofs.Cells.{few-cells, in-eight, in-table}
 use Rattle.routine.specs.Layout.{vertices}
 use Rattle.routine.specs.declared.action.Action.{Action}
-use Rattle.routine.specs.declared.array.ArrayRecord.{ArrayRecord}
-use Rattle.state.specs.Carrying.{whole}
-use Rattle.state.specs.Vertex.{Visits}
+use Rattle.state.specs.Carrying.{Visits}
 use Rattle.walk.proofs.Walking.{relabelled-is}
 use Rattle.walk.proofs.relabel.Statement.{statement}
 use Rattle.walk.proofs.relabel.Tie as tie
-use Rattle.sets.specs.Sets.{width}
 
 -- the array's place in the tables
 module _ (s : tie.Start) where
@@ -44,28 +40,28 @@ add-place c = omega (arith, few-places (c .before .before .before .before .befor
 
 shared-slice-read-relabelled : tie.Need-shared-slice-read-relabelled
 shared-slice-read-relabelled c =
-    let s = c .before .before .before .before .before .before in
+    let s = c .before .before .before .before .before .before .before in
     inside s (s .args .letters .now) (s .pre .1 .1 .0 .letters-are .size)
 
 mul-relabelled : tie.Need-mul-relabelled
-mul-relabelled c = omega (arith, few-places (c .before .before .before .before .before .before))
+mul-relabelled c = omega (arith, few-places (c .before .before .before .before .before .before .before))
 
 shared-slice-read-relabelled-2 : tie.Need-shared-slice-read-relabelled-2
 shared-slice-read-relabelled-2 c =
-    let s = c .before .before .before .before .before .before .before in
+    let s = c .before .before .before .before .before .before .before .before in
     inside s (s .args .kept .now) (s .pre .1 .1 .0 .kept-are .size)
 
 relabelled-requires : tie.Need-relabelled-requires
 relabelled-requires c κs =
-    let q = c .before .before in
+    let q = c .before .before .before in
     let s = q .before .before .before .before .before in (
-      subst (λ (r : ArrayRecord). r .initial < width) (sym (q .before .record-of .ensures)) (proper _ (s .pre .0 .well) _ (s .pre .1 .0 .0) .initial-fits),
-      subst (λ (x : Action). Visits x (whole (s .args .c))) (sym (q .at .ensures)) (s .pre .1 .1 .1),
+      (in-eight (s .pre .0 .well) (s .pre .1 .0 .0), s .pre .1 .1 .1 .0),
+      subst (λ (x : Action). Visits x (s .args .c)) (sym (q .at .ensures)) (s .pre .1 .1 .1 .1),
     )
 
 sub-leave : tie.Need-sub-leave
 sub-leave c =
-    let s = c .before .before .before .before .before .before .before .before .before in
+    let s = c .before .before .before .before .before .before .before .before .before .before in
     omega (arith, s .pre .0 .heads .vertices-are, s .pre .0 .well .laid .limits .two-vertices)
 
 leave-requires : tie.Need-leave-requires
@@ -73,13 +69,13 @@ leave-requires c κs = search needs
 
 returns : tie.Need-returns
 returns c =
-    let q = c .before .before .before .before .before in
+    let q = c .before .before .before .before .before .before in
     let s = q .before .before .before .before .before in
     let g = s .args in
     let letter = s .pre .1 .1 .0 .letters-are .cells (g .a) (g .v) (s .pre .1 .0 .0) (s .pre .1 .0 .1) in
     let keep = s .pre .1 .1 .0 .kept-are .cells (g .a) (g .v) (s .pre .1 .0 .0) (s .pre .1 .0 .1) in
     let ends = ap (λ (n : ℕ). eqb (g .v) (n - 1)) (s .pre .0 .heads .vertices-are) in
-    relabelled-is (g .file .now) (g .a) (g .v) (whole (g .c)) (q .before .record-of .ensures) (q .at .ensures) letter keep ends (c .before .before .relabelled .ensures) (c .leave .ensures)
+    relabelled-is (g .file .now) (g .a) (g .v) (q .before .record-of .ensures) (q .at .ensures) letter keep ends (c .before .before .relabelled .ensures) (c .leave .ensures)
 
 pub relabel-spec : {M : Type 1} → statement M
 relabel-spec =

@@ -5,7 +5,8 @@ use mathlib.Core.List.{List, _++_}
 use Prim.Native.Nat.{ℕ, _+_, _*_, _≤_}
 use native.Mathlib.Omega.{arith}
 use lib.ListN.{length}
-use Rattle.report.specs.Bytes.{stateOf, entriesOf, recordsBytes}
+use Rattle.report.specs.Bytes.{carriedOf, entriesOf, recordsBytes}
+use Rattle.state.specs.Carrying.{bare}
 use Rattle.walk.specs.Report.{reportBytes}
 use Rattle.demand.specs.Run.{runRecords}
 use Rattle.report.proofs.Bytes.{entries-length}
@@ -53,7 +54,7 @@ returns c =
     let path = s .args .path .now in
     let m = s .pre .0 .heads .arrays-are in
     let front = ap (entriesOf (c .before .before .before .before .before .before .follow .result)) m ∙ entries-of file path (c .before .before .before .before .before .before .follow .result) (f .0) in
-    let long : 6 * s .args .h .arrays ≡ length (entriesOf (c .before .before .before .before .before .before .follow .result) (s .args .h .arrays)) = sym (entries-length (stateOf (c .before .before .before .before .before .before .follow .result)) (s .args .h .arrays)) in
+    let long : 6 * s .args .h .arrays ≡ length (entriesOf (c .before .before .before .before .before .before .follow .result) (s .args .h .arrays)) = sym (entries-length (λ b. bare (carriedOf (c .before .before .before .before .before .before .follow .result) b)) (s .args .h .arrays)) in
     c .before .before .write-entries .ensures
     ∙ write-front (s .args .out .now) (entriesOf (c .before .before .before .before .before .before .follow .result) (s .args .h .arrays)) (recordsBytes (runRecords file path)) _ (6 * s .args .h .arrays) long (omega (arith, parts s)) (f .1)
     ∙ ap (λ (e : List ℕ). wrote (s .args .out .now) (e ++ recordsBytes (runRecords file path))) front

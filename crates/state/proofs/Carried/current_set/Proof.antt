@@ -1,11 +1,12 @@
--- `State::current_set` meets its contract: a current copy is a version.
+-- `Carried::current_set` meets its contract: a current copy is a version.
 -- Assumes nothing.
 use mathlib.Core.Path.{sym, _∙_}
 use borrow.Author.Needs.{needs}
+use Rattle.state.specs.Carrying.{bare}
 use Rattle.state.specs.Cleaning.{currentSet}
 use Rattle.state.proofs.States.{current-below}
-use Rattle.state.proofs.State.current_set.Statement.{statement}
-use Rattle.state.proofs.State.current_set.Tie as tie
+use Rattle.state.proofs.Carried.current_set.Statement.{statement}
+use Rattle.state.proofs.Carried.current_set.Tie as tie
 
 has-current-requires : tie.Need-has-current-requires
 has-current-requires c κs = search needs
@@ -13,7 +14,7 @@ has-current-requires c κs = search needs
 single-requires : tie.Need-single-requires
 single-requires c κs =
     let s = c .before .before in
-    current-below (s .args .self) (s .pre) (sym (c .before .has-current .ensures) ∙ c .if1 .taken)
+    current-below (bare (s .args .self)) (s .pre) (sym (c .before .has-current .ensures) ∙ c .if1 .taken)
 
 returns : tie.Need-returns
 returns c = c .single .ensures ∙ simp (currentSet, sym (c .before .before .has-current .ensures) ∙ c .before .if1 .taken)

@@ -1,8 +1,8 @@
--- `State::takes_up` meets its contract.
+-- `Carried::takes_up` meets its contract.
 -- Assumes nothing.
 use borrow.Author.Needs.{needs}
-use Rattle.state.proofs.State.takes_up.Statement.{statement}
-use Rattle.state.proofs.State.takes_up.Tie as tie
+use Rattle.state.proofs.Carried.takes_up.Statement.{statement}
+use Rattle.state.proofs.Carried.takes_up.Tie as tie
 
 is-kept-requires : tie.Need-is-kept-requires
 is-kept-requires c κs = search needs

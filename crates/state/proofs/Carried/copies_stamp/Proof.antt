@@ -1,9 +1,9 @@
--- `State::copies_stamp` meets its contract.
+-- `Carried::copies_stamp` meets its contract.
 -- Assumes nothing.
 use borrow.Author.Needs.{needs}
 use Rattle.state.specs.Moves.{copiesStamp}
-use Rattle.state.proofs.State.copies_stamp.Statement.{statement}
-use Rattle.state.proofs.State.copies_stamp.Tie as tie
+use Rattle.state.proofs.Carried.copies_stamp.Statement.{statement}
+use Rattle.state.proofs.Carried.copies_stamp.Tie as tie
 
 takes-up-requires : tie.Need-takes-up-requires
 takes-up-requires c κs = search needs
