@@ -1,4 +1,4 @@
--- An array's state as it is carried along the path: small, with the stamp of its current copy; the stamps of its other versions stand in a row beside it.
+-- How the code keeps it: an array's state as it is carried along the path, small, with the stamp of its current copy; the stamps of its other versions stand in a row beside it.
 -- Assumes nothing.
 use mathlib.Core.Path.{_≡_}
 use mathlib.Core.Bool.{true, _||_, cond}

@@ -1,4 +1,4 @@
--- What the functions over a carried state compute.
+-- How the code keeps it: what the functions over a carried state compute.
 -- Assumes nothing.
 use mathlib.Core.Bool.{Bool, cond}
 use mathlib.Core.List.{List}

@@ -1,4 +1,4 @@
--- The fields of a state fit their types, and index only what is there.
+-- How the code keeps it: the fields of a state fit their types, and index only what is there.
 -- Assumes nothing.
 use mathlib.Core.Path.{_≡_}
 use mathlib.Core.List.{List}

@@ -36,7 +36,7 @@ abbrev pub takenUp : Use → ℕ → State → State
 unfolding copiesStamp
 takenUp u t s = record { current = t; live = bitOr (s .live) (2 ^ t); stamps = s .stamps; copies = s .copies + cond (copiesStamp u t s) 1 0 }
 
--- the move: the target is taken up and gets its stamp
+-- the move: the target is taken up and gets its stamp; where nothing is current none is copied, and the one handed over, 0, is not used
 unfoldable pub moved : Use → ℕ → State → State
 unfolding copiesStamp has
 moved u t s = cond (moves u t s) (stamped (targetStamp u t (stampOf s (s .current)) s) (takenUp u t s)) s

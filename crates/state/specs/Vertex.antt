@@ -34,7 +34,7 @@ relabelled r (Reference x) u keep s = s
 relabelled r (Remap t) u keep s = labelled r u t keep s
 relabelled r Unknown u keep s = s
 
--- an array's state before a label: a version or none is current, a stamp for each version, and a copy more can be counted
+-- how the code keeps it: an array's state before a label: a version or none is current, a stamp for each version, and a copy more can be counted
 pub record Ready (s : State) : Type 0 where
   pub current : Current s
   pub wide : length (s .stamps) ≡ width
