@@ -30,10 +30,10 @@ use Rattle.state.specs.Cleaning.{currentSet, dying, callers, cleaned}
 use Rattle.state.specs.Exit.{left}
 use Rattle.state.specs.Moves.{moves, copiesStamp, targetStamp, takenUp, moved}
 use Rattle.state.specs.References.{referenced}
-use Rattle.state.specs.Computed.{noCopies, targetStampBy, taken, shifted, cleanedBy, storedAt}
+use Rattle.state.specs.Computed.{noCopies, singleCopy, targetStampBy, taken, shifted, cleanedBy, storedAt}
 use Rattle.state.specs.Stamps.{stampAfter, stampBy}
 use Rattle.state.specs.Start.{started}
-use Rattle.state.specs.States.{State, nothing, hasCurrent, stampOf, stamped, emptied, Current}
+use Rattle.state.specs.States.{State, nothing, hasCurrent, stampOf, stamped, emptied, oneCopy, Current}
 use Rattle.state.specs.Vertex.{Ready, labelled, visited, relabelled}
 use Rattle.state.proofs.Labels.{current-has, cleared-keeps}
 use Rattle.state.proofs.States.{current-below, below-current, copies-current}
@@ -240,21 +240,23 @@ emptied-carries own copies row zeros = record {
   row-is = λ k in-k counts ne. zeros k (ap (λ (b : Bool). b || has own k) (sym (has-zero k)) ∙ counts) ∙ sym (zeros-at width k);
 }
 
+one-carries : (own k stamp copies : ℕ) (row : ℕ → ℕ) → k < width → ((j : ℕ) → has own j ≡ true → k ≡ j)
+    → Carries own (oneCopy k stamp copies) (singleCopy k stamp copies) row
+one-carries own k stamp copies row below alone = record {
+  is = refl;
+  stamp-is = λ _. sym (getD-set-same (replicate width 0) k stamp 0 below);
+  row-is = λ j in-j counts ne. absurd (ne (or-cases (has (2 ^ k) j) (has own j) (λ h. eqb-true k j (sym (has-single k j) ∙ h)) (alone j) counts));
+}
+
 module _ (r : ArrayRecord) (row : ℕ → ℕ) where
   pub started-out : {c : Carried} → isInOrInout (r .kind) ≡ false → c ≡ noCopies 0 → row (r .initial) ≡ 0 → Carries (callers r) (started r) c row
   started-out {c} e f z =
       subst (λ (c : Carried). Carries (callers r) (started r) c row) (sym f)
       (rw e (emptied-carries (callers r) 0 row (λ k h. ap row (sym (callers-has r k h)) ∙ z)))
 
-  pub started-in : {one : ℕ} → isInOrInout (r .kind) ≡ true → r .initial < width → one ≡ 2 ^ r .initial
-      → Carries (callers r) (started r) (record { current = r .initial; live = one; copies = 0; stamp = 65535 }) row
-  started-in {one} e below f =
-      subst (λ (o : ℕ). Carries (callers r) (started r) (record { current = r .initial; live = o; copies = 0; stamp = 65535 }) row) (sym f)
-      (rw e (record {
-        is = refl;
-        stamp-is = λ _. sym (getD-set-same (replicate width 0) (r .initial) 65535 0 below);
-        row-is = λ k in-k counts ne. absurd (or-cases (has (2 ^ r .initial) k) (has (callers r) k) (λ h. ne (eqb-true (r .initial) k (sym (has-single (r .initial) k) ∙ h))) (λ h. ne (callers-has r k h)) counts);
-      }))
+  pub started-in : {c : Carried} → isInOrInout (r .kind) ≡ true → r .initial < width → c ≡ singleCopy (r .initial) 65535 0 → Carries (callers r) (started r) c row
+  started-in e below f =
+      subst (λ (c : Carried). Carries (callers r) (started r) c row) (sym f) (rw e (one-carries (callers r) (r .initial) 65535 0 row below (callers-has r)))
 
 pub left-argument : (r : ArrayRecord) (b : Bool) {s : State} {c : Carried} {row : ℕ → ℕ} → isArgument (r .kind) ≡ true → Carries (callers r) s c row
     → Carries (callers r) (left r b s) c row

@@ -17,6 +17,10 @@ use Rattle.state.specs.States.{nothing, hasCurrent}
 abbrev pub noCopies : ℕ → Carried
 noCopies copies = record { current = nothing; live = 0; copies = copies; stamp = 0 }
 
+-- one copy: version k, live and current
+abbrev pub singleCopy : ℕ → ℕ → ℕ → Carried
+singleCopy k stamp copies = record { current = k; live = 2 ^ k; copies = copies; stamp = stamp }
+
 -- the target's stamp, where the row has `held` for it: copied; or its own if it is live; or 0
 abbrev pub targetStampBy : ℕ → Bool → ℕ → Carried → ℕ
 targetStampBy t copied held c = cond copied (c .stamp) (cond (has (c .live) t) held 0)

@@ -4,7 +4,7 @@ use mathlib.Core.Path.{_≡_}
 use mathlib.Core.Bool.{Bool, not}
 use mathlib.Core.List.{List}
 use mathlib.Core.Logic.{_⊎_}
-use Prim.Native.Nat.{ℕ, _<_}
+use Prim.Native.Nat.{ℕ, _<_, _^_}
 use lib.Dec.{eqb}
 use lib.ListN.{getD, set, replicate}
 use Rattle.sets.specs.Sets.{width}
@@ -35,6 +35,10 @@ stamped stamp s = record { current = s .current; live = s .live; stamps = set (s
 -- no copies: none current, none live
 abbrev pub emptied : ℕ → State
 emptied copies = record { current = nothing; live = 0; stamps = replicate width 0; copies = copies }
+
+-- one copy: version k, live and current
+abbrev pub oneCopy : ℕ → ℕ → ℕ → State
+oneCopy k stamp copies = record { current = k; live = 2 ^ k; stamps = set (replicate width 0) k stamp; copies = copies }
 
 -- a version or none is current
 abbrev pub Current : State → Type 0

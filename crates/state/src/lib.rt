@@ -15,7 +15,7 @@ ghost use Rattle.labels.specs.Letters.{useOfByte};
 ghost use Rattle.sets.specs.Sets.{width};
 ghost use Rattle.state.specs.Carrying.{bare, carrying, Carries, Sound, Visits, Labelled, Relabelled};
 ghost use Rattle.state.specs.Cleaning.{currentSet, callers};
-ghost use Rattle.state.specs.Computed.{noCopies, targetStampBy, taken, shifted, cleanedBy, storedAt};
+ghost use Rattle.state.specs.Computed.{noCopies, singleCopy, targetStampBy, taken, shifted, cleanedBy, storedAt};
 ghost use Rattle.state.specs.Exit.{left};
 ghost use Rattle.state.specs.Moves.{moves, isD, copiesStamp};
 ghost use Rattle.state.specs.Stamps.{stampBy};
@@ -49,6 +49,19 @@ pub fn empty(copies: u16) -> Carried
     }
 }
 
+// One copy: version k, live and current.
+fn one_copy(k: u8, stamp: u16, copies: u16) -> Carried
+    requires { ⌜ k < width ⌝ }
+    ensures { λ r. ⌜ r ≡ singleCopy k stamp copies ⌝ }
+{
+    Carried {
+        current: k,
+        live: sets::single(k),
+        copies,
+        stamp,
+    }
+}
+
 // Before the first step, beside a row of stamps that has 0 for the caller's version.
 pub fn start(r: ArrayRecord) -> Carried
     requires { ⌜ r .initial < width ⌝ }
@@ -58,13 +71,7 @@ pub fn start(r: ArrayRecord) -> Carried
     if !own {
         return empty(0);
     }
-    let initial = r.initial;
-    Carried {
-        current: initial,
-        live: sets::single(initial),
-        copies: 0,
-        stamp: 65535,
-    }
+    one_copy(r.initial, 65535, 0)
 }
 
 // The same with another stamp of the current copy.

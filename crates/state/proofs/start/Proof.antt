@@ -17,12 +17,12 @@ returns : tie.Need-returns
 returns c = λ row z.
     started-out (c .before .before .before .args .r) row (sym (c .before .before .is-in-or-inout .ensures) ∙ not-true _ (c .before .if1 .taken)) (c .empty .ensures) z
 
-single-requires : tie.Need-single-requires
-single-requires c κs = search needs
+one-copy-requires : tie.Need-one-copy-requires
+one-copy-requires c κs = search needs
 
 returns-2 : tie.Need-returns-2
 returns-2 c = λ row z.
-    started-in (c .before .before .before .args .r) row (sym (c .before .before .is-in-or-inout .ensures) ∙ not-false _ (c .before .if1 .left)) (c .before .before .before .pre) (c .single .ensures)
+    started-in (c .before .before .before .args .r) row (sym (c .before .before .is-in-or-inout .ensures) ∙ not-false _ (c .before .if1 .left)) (c .before .before .before .pre) (c .one-copy .ensures)
 
 pub start-spec : {M : Type 1} → statement M
-start-spec = tie.close (tie.spec is-in-or-inout-requires empty-requires returns single-requires returns-2)
+start-spec = tie.close (tie.spec is-in-or-inout-requires empty-requires returns one-copy-requires returns-2)
