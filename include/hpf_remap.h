@@ -7,7 +7,7 @@
  *           must overlap neither the routine nor the path; these two may overlap.
  * Numbers   In all formats 16-bit numbers are unsigned, low byte first. Bytes, arrays, versions, vertices and
  *           indices count from 0, the steps of a path from 1. A set of versions has 16 bits, bit k for version k.
- * Linking   C and C++ programs link libremap.a, which is for x86-64 Linux and needs only memcpy and memset.
+ * Linking   C and C++ programs link libremap.a, which is for x86-64 Linux and needs at most memcpy and memset.
  *
  * What a call answers; a number with two reasons has a line for each.
  *
