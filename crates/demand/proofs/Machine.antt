@@ -9,7 +9,6 @@ use lib.Dec.{eqb}
 use Rattle.labels.specs.Events.{event}
 use Rattle.path.specs.Paths.{steps, vertexAt}
 use Rattle.report.specs.Records.{recordsAt, byStep}
-use Rattle.report.specs.declared.record.Record.{Record}
 use Rattle.routine.specs.Actions.{actionOf, actionByte, action}
 use Rattle.routine.specs.Arrays.{arrayOf, isArgument}
 use Rattle.routine.specs.Layout.{arrays, vertices, entry}

@@ -3,7 +3,6 @@
 use mathlib.Core.Path.{ap}
 use Prim.Native.Nat.{ℕ}
 use borrow.Author.Needs.{needs}
-use Rattle.state.specs.declared.Carried.{Carried}
 use Rattle.state.proofs.one_copy.Statement.{statement}
 use Rattle.state.proofs.one_copy.Tie as tie
 
