@@ -101,12 +101,12 @@ typedef struct {
  *     + 4, 6       2, 2   reaching set; kept set
  *
  * A label is a remapping: each action 40+k, and one to the initial version of every array at the entry and of every
- * argument at the exit. Its segments are the paths from it that go no further than the array's next label.
+ * out and inout argument at the exit. Its segments are the paths from it that go no further than the array's next label.
  *
  *   N         no segment meets a reference: the label is dropped, and nothing is copied there;
  *   D         not N, and none meets a read, a modify or the next label without a define before it: no value is copied;
  *   R         some segment meets a read, none a define or modify: other copies keep the same value;
- *   W         all else. At the exit the letter is R for in, W for out and inout.
+ *   W         all else, and at the exit.
  *   leaving   the label's version, in which the array goes on from there; none for N.
  *   reaching  the leaving versions of the last kept labels (those not N) before the vertex on paths from the entry, and
  *             for in and inout the initial version where a path has none; empty if no path reaches the vertex.
@@ -126,8 +126,10 @@ hpf_outcome hpf_plan(const uint8_t *routine, size_t routine_len, uint8_t *plan, 
  *              may be freed. An argument's initial version is the caller's: only its flag changes.
  *   reference  The current version is used, which is that of the array's last label on every path there (else 21). No
  *              flag changes, at a write either: the label before it left no other version live.
- *   exit       The labels of the arguments are served as any others, so that out and inout end in the caller's copy.
- *              Of a local array no version is then current and none live.
+ *   exit       The labels of out and inout arguments are served as any others, so that these end in the caller's copy.
+ *              An in argument has no label there: it loses every copy but the caller's, which is live and current, and
+ *              nothing is copied. It holds what the caller gave: its stamp is 65,535. Of a local array no version is
+ *              then current and none live.
  *
  * Routine Q, for example: one inout argument, 2 versions, initial 0; vertices 1 remap 1, 2 define, 3 remap 0, 4 read,
  * 5 exit; edges 0-1, 1-2, 1-3, 2-3, 3-4, 4-5. Its labels:

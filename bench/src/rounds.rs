@@ -194,7 +194,7 @@ impl Array {
         let (facts, rounds) = self.solve(edges, true, |v| use_facts(self.events[v]));
         let mut letters: Vec<Use> = facts.into_iter().map(letter).collect();
         let exit = letters.len() - 1;
-        letters[exit] = Use::at_exit(self.kind);
+        letters[exit] = Use::AT_EXIT;
         (letters, rounds)
     }
 

@@ -167,6 +167,15 @@ U =
     ∷ 4 ∷ 0 ∷ 5 ∷ 0 ∷ 5 ∷ 0 ∷ 6 ∷ 0 ∷ 6 ∷ 0 ∷ 7 ∷ 0
     ∷ []
 
+-- X, of document 02, request 1: in, 2 versions, initial 0, a chain: 1 remap 1, 2 read, 3 exit
+abbrev pub X : List ℕ
+X =
+    72 ∷ 80 ∷ 70 ∷ 82 ∷ 1 ∷ 0 ∷ 18 ∷ 0 ∷ 1 ∷ 0 ∷ 22 ∷ 0 ∷ 4 ∷ 0 ∷ 26 ∷ 0 ∷ 3 ∷ 0
+    ∷ 1 ∷ 2 ∷ 0 ∷ 0
+    ∷ 0x00 ∷ 0x41 ∷ 0x10 ∷ 0x00
+    ∷ 0 ∷ 0 ∷ 1 ∷ 0 ∷ 1 ∷ 0 ∷ 2 ∷ 0 ∷ 2 ∷ 0 ∷ 3 ∷ 0
+    ∷ []
+
 -- ---- paths: 16-bit vertices
 
 -- 0 1 2 3 4 5 6 2 3
@@ -184,6 +193,13 @@ path5 = 0 ∷ 0 ∷ 1 ∷ 0 ∷ 2 ∷ 0 ∷ 3 ∷ 0 ∷ 4 ∷ 0 ∷ []
 -- 0 1 2 3 4 5 6
 abbrev pub pathU : List ℕ
 pathU = 0 ∷ 0 ∷ 1 ∷ 0 ∷ 2 ∷ 0 ∷ 3 ∷ 0 ∷ 4 ∷ 0 ∷ 5 ∷ 0 ∷ 6 ∷ 0 ∷ []
+
+-- 0 1 2, and on to the exit
+abbrev pub pathX : List ℕ
+pathX = 0 ∷ 0 ∷ 1 ∷ 0 ∷ 2 ∷ 0 ∷ []
+
+abbrev pub fullX : List ℕ
+fullX = 0 ∷ 0 ∷ 1 ∷ 0 ∷ 2 ∷ 0 ∷ 3 ∷ 0 ∷ []
 
 -- ---- the table
 
@@ -385,6 +401,56 @@ runU =
           ∷ [];
     })
 
--- cases 1 to 8 as starred, and three more
+-- request 1: X's labels: none at the exit, and no kept set has the caller's version for it
+abbrev pub caseX : Case
+caseX =
+    plans
+    (record {
+      file = X;
+      lines =
+          line 0 0 N none 0x0001 0x0002
+          ∷ line 1 0 R (some 1) 0x0001 0x0002
+          ∷ [];
+      plan =
+          72 ∷ 80 ∷ 70 ∷ 80 ∷ 4 ∷ 0 ∷ 2 ∷ 0
+          ∷ 0 ∷ 0 ∷ 1 ∷ 0 ∷ 1 ∷ 0 ∷ 1 ∷ 0 ∷ 2 ∷ 0 ∷ 0 ∷ 0 ∷ 2 ∷ 0 ∷ 0 ∷ 0
+          ∷ 0 ∷ 78 ∷ 255 ∷ 0 ∷ 1 ∷ 0 ∷ 2 ∷ 0
+          ∷ 0 ∷ 82 ∷ 1 ∷ 0 ∷ 1 ∷ 0 ∷ 2 ∷ 0
+          ∷ [];
+    })
+
+-- request 1: X, path 0 1 2: the caller's copy is dead, `1 2 1`
+abbrev pub runX : Case
+runX =
+    runs
+    (record {
+      file = X;
+      path = pathX;
+      copies = 1;
+      against = 1;
+      reads = seen 65535 1 ∷ [];
+      report =
+          1 ∷ 0 ∷ 2 ∷ 0 ∷ 1 ∷ 0
+          ∷ 3 ∷ 0 ∷ 0 ∷ 1 ∷ 1 ∷ 0 ∷ 255 ∷ 255 ∷ 0 ∷ 0
+          ∷ [];
+    })
+
+-- request 1: X, path 0 1 2 3: the caller's copy alone is live, and current, and no copy more is counted, `1 1 0`
+abbrev pub fullRunX : Case
+fullRunX =
+    runs
+    (record {
+      file = X;
+      path = fullX;
+      copies = 1;
+      against = 1;
+      reads = seen 65535 1 ∷ [];
+      report =
+          1 ∷ 0 ∷ 1 ∷ 0 ∷ 0 ∷ 0
+          ∷ 3 ∷ 0 ∷ 0 ∷ 1 ∷ 1 ∷ 0 ∷ 255 ∷ 255 ∷ 0 ∷ 0
+          ∷ [];
+    })
+
+-- cases 1 to 8 as starred; labels of S and U, and U's run; request 1
 abbrev pub cases : List Case
-cases = case1 ∷ case2 ∷ case3 ∷ case4 ∷ case5 ∷ case6 ∷ case7 ∷ case8 ∷ caseS ∷ caseU ∷ runU ∷ []
+cases = case1 ∷ case2 ∷ case3 ∷ case4 ∷ case5 ∷ case6 ∷ case7 ∷ case8 ∷ caseS ∷ caseU ∷ runU ∷ caseX ∷ runX ∷ fullRunX ∷ []

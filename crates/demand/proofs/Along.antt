@@ -1,23 +1,23 @@
 -- One array along a whole path, for any sound plan: the run's records are the machine's, out and inout end home, and copies are no more
 -- than the machine counts.
 -- Assumes nothing.
-use mathlib.Core.Path.{_≡_, refl, sym, ap, subst, _∙_}
-use mathlib.Core.Bool.{Bool, true, not, _&&_, false≢true}
+use mathlib.Core.Path.{_≡_, refl, ap, subst, _∙_}
+use mathlib.Core.Bool.{Bool, true, false≢true}
 use Prim.Native.Nat.{ℕ, zero, suc, _+_, _≤_, _<_}
 use native.Mathlib.Omega.{arith}
-use borrow.Author.Tests.{eqb-true, eq-eqb, not-true, not-false}
+use borrow.Author.Tests.{eqb-true, eq-eqb, ne-eqb, not-false}
 use lib.Dec.{T, eqb, lit≤}
 use lib.ListN.{getD, set, replicate, length-set}
 use lib.Seq.{getD-set-same}
 use Rattle.flow.specs.Paths.{Edge}
-use Rattle.routine.specs.Arrays.{isArgument, isInOrInout, isOutOrInout}
+use Rattle.routine.specs.Arrays.{isInOrInout, isOutOrInout}
 use Rattle.labels.specs.Uses.{isN}
 use Rattle.labels.specs.declared.Use.{Use}
 use Rattle.labels.specs.declared.Use.the-variants.{W}
 use Rattle.routine.specs.Actions.{isReference}
 use Rattle.routine.specs.declared.action.Action.the-variants.{Remap}
 use Rattle.routine.specs.declared.array.ArrayRecord.{ArrayRecord}
-use Rattle.words.proofs.Tests.{at-cond, and-left, and-right}
+use Rattle.words.proofs.Tests.{at-cond}
 use Rattle.sets.specs.Sets.{has, width}
 use Rattle.sets.proofs.Laws.{has-single, single-is, has-zero}
 use Rattle.state.specs.States.{State, stampOf}
@@ -29,6 +29,7 @@ use Rattle.state.specs.Moves.{isD}
 use Rattle.state.specs.References.{referenced}
 use Rattle.state.specs.Start.{started}
 use Rattle.state.specs.Vertex.{labelled, visited}
+use Rattle.state.proofs.Exit.{left-stays, left-copies}
 use Rattle.state.proofs.Fits.{started-fits, step-fits}
 use Rattle.state.proofs.States.{below-current}
 use Rattle.demand.proofs.Labels.{Matches, Labelled, labelled-does}
@@ -68,16 +69,6 @@ started-matches r below =
       cheap = record { few = lit≤ tt; fewer = λ h. absurd (false≢true h) };
     })
 
-pub left-copies : (r : ArrayRecord) (b : Bool) (s : State) → left r b s .copies ≡ s .copies
-left-copies r b s = at-cond (λ (s' : State). s' .copies ≡ s .copies) (b && not (isArgument (r .kind))) (λ _. refl) (λ _. refl)
-
--- out and inout stay as they are
-left-stays : (r : ArrayRecord) (b : Bool) (s : State) → isOutOrInout (r .kind) ≡ true → left r b s ≡ s
-left-stays r b s k =
-    at-cond (λ (s' : State). s' ≡ s) (b && not (isArgument (r .kind)))
-    (λ e. absurd (false≢true (ap isOutOrInout (sym (eqb-true (r .kind) 0 (not-false _ (not-true _ (and-right b _ e))))) ∙ k)))
-    (λ _. refl)
-
 -- a W label leaves its version current, with the machine's stamp
 labelled-home : {u : Use} {t keep : ℕ} {s : State} {m : Machine} → t < width → u ≡ W → Labelled u t keep s m
     → (s .current ≡ t) × (stampOf s t ≡ m .stamp)
@@ -87,7 +78,7 @@ labelled-home {t} {s} below e g =
     (c, g .agree (ap isD e) t (subst (λ (k : ℕ). has (s .live) k ≡ true) c (g .sits .lives h)))
 
 module _ {p : ArrayPlan} (sound : Sound p) {at : ℕ → ℕ} {n : ℕ} {run : ℕ → State} {machine : ℕ → Machine} (f : Follows p at n run machine) where
-  initial-below : p .array .initial < width
+  pub initial-below : p .array .initial < width
   initial-below = sound .below (sound .entry-remaps)
 
   -- the state's fields fit their types
@@ -95,7 +86,7 @@ module _ {p : ArrayPlan} (sound : Sound p) {at : ℕ → ℕ} {n : ℕ} {run : �
   fits-at zero h = rw (f .run-start) (started-fits (p .array) initial-below)
   fits-at (suc i) h =
       rw (f .run-step i)
-      (step-fits (p .array) (p .letter (at i)) (p .keep (at i)) (omega (arith, f .short)) (fits-at i (omega arith))
+      (step-fits (p .array) (p .letter (at i)) (p .keep (at i)) (omega (arith, f .short)) (fits-at i (omega arith)) initial-below
       (eqb (at i) (p .exit)) (p .event (at i)) (λ k. sound .below))
 
   pub first-remaps : p .event (at 0) ≡ Remap (p .array .initial)
@@ -115,9 +106,8 @@ module _ {p : ArrayPlan} (sound : Sound p) {at : ℕ → ℕ} {n : ℕ} {run : �
   stays : (i : ℕ) → suc i < n → run (suc i) ≡ after i
   stays i h =
       f .run-step i
-      ∙ at-cond (λ (s : State). s ≡ after i) (eqb (at i) (p .exit) && not (isArgument (p .array .kind)))
-      (λ b. absurd (sound .exit-ends (subst (λ (v : ℕ). Edge (p .edges) v (at (suc i))) (eqb-true (at i) (p .exit) (and-left _ _ b)) (f .joined i h))))
-      (λ b. refl)
+      ∙ ap (λ (b : Bool). left (p .array) b (after i))
+      (ne-eqb (at i) (p .exit) (λ e. sound .exit-ends (subst (λ (v : ℕ). Edge (p .edges) v (at (suc i))) e (f .joined i h))))
 
   before : (i : ℕ) → suc i < n → After i → Before p (at (suc i)) (run (suc i)) (machine (suc i))
   before i h y =
@@ -159,7 +149,7 @@ module _ {p : ArrayPlan} (sound : Sound p) {at : ℕ → ℕ} {n : ℕ} {run : �
   few-at (suc i) h = rw (f .run-step i) (rw left-copies (along i h .1 .cheap .few))
 
   -- a label finds every live version with the machine's stamp
-  matches-at : (i t : ℕ) → i < n → p .event (at i) ≡ Remap t → Matches (run i) (machine i)
+  pub matches-at : (i t : ℕ) → i < n → p .event (at i) ≡ Remap t → Matches (run i) (machine i)
   matches-at zero t h e = start
   matches-at (suc i) t h e = matches sound (next i h) (rw e tt)
 

@@ -1,29 +1,34 @@
 -- Demand 3 for every accepted file and path: all arrays at once, along the whole path.
 -- Assumes nothing.
-use mathlib.Core.Path.{_≡_, refl, sym, ap, _∙_}
+use mathlib.Core.Path.{_≡_, refl, sym, ap, subst, _∙_}
 use mathlib.Core.Bool.{Bool, true, cond}
 use mathlib.Core.List.{List, [], _∷_, _++_}
 use mathlib.Core.Option.{Option, none, some}
-use Prim.Native.Nat.{ℕ, zero, suc, _+_, _-_, _≤_, _<_}
+use Prim.Native.Nat.{ℕ, zero, suc, _+_, _-_, _≤_, _<_, _^_}
 use native.Mathlib.Nat.{add-zero}
 use native.Mathlib.Omega.{arith}
 use lib.Dec.{T}
 use lib.Ieee.Bits.{is-true}
-use Rattle.labels.specs.Events.{event, isLabel, version, versionOf}
-use Rattle.routine.specs.Arrays.{kind, initial, isInOrInout, isOutOrInout}
+use mathlib.Core.Logic.{Iff·rfl, ⊎-elim}
+use Rattle.labels.specs.Checks.{writesIn, check20}
+use Rattle.labels.specs.Events.{event, isLabel, version, versionOf, isWrite}
+use Rattle.labels.specs.Uses.{useOf}
+use Rattle.labels.proofs.Rules.Checks.{check20-passed}
+use Rattle.labels.proofs.Rules.Uses.{unwritten-d}
+use Rattle.routine.specs.Arrays.{kind, initial, isIn, isInOrInout, isOutOrInout}
 use Rattle.labels.specs.Reaching.{orLast, lastVersion}
 use Rattle.labels.specs.declared.Use.{Use}
-use Rattle.words.proofs.Tests.{at-cond}
+use Rattle.words.proofs.Tests.{at-cond, and-iff}
 use Rattle.labels.proofs.Rules.Proper.{proper}
 use Rattle.routine.specs.Actions.{isReference, isRemap}
-use Rattle.routine.specs.Layout.{arrays, exit}
+use Rattle.routine.specs.Layout.{arrays, vertices, exit}
 use Rattle.routine.specs.Reader.{WellFormed}
 use Rattle.refusal.specs.declared.Verdict.the-variants.{Passed}
 use Rattle.routine.specs.declared.action.Action.{Action}
 use Rattle.routine.specs.declared.action.Action.the-variants.{Nothing, Reference, Remap, Unknown}
 use Rattle.routine.specs.declared.array.ArrayRecord.{ArrayRecord}
-use Rattle.state.specs.States.{State}
-use Rattle.demand.specs.Demand.{IsHome, Demand3}
+use Rattle.state.specs.States.{State, stampOf}
+use Rattle.demand.specs.Demand.{IsHome, IsCallers, Demand3}
 use Rattle.state.specs.Fits.{Fits}
 use Rattle.demand.specs.Machine.{Machine, machineStep, machineAfter, machineRecords}
 use Rattle.path.specs.Paths.{steps, vertexAt, pathCheck}
@@ -31,10 +36,12 @@ use Rattle.state.specs.Moves.{moves, copiesStamp}
 use Rattle.state.specs.References.{referenced}
 use Rattle.state.specs.Vertex.{labelled, visited}
 use Rattle.demand.specs.Run.{stateAfter, runRecords, copiedBy, copiedAt, stampsCopied}
-use Rattle.demand.proofs.Along.{Follows, left-copies, fits-at, first-remaps, used-at, below-at, alike-at, few-at, home-at}
-use Rattle.demand.proofs.Invariant.{Sound}
-use Rattle.path.proofs.Paths.{Walk, walk}
-use Rattle.demand.proofs.Sound.{computedPlan, sound}
+use Rattle.state.proofs.Exit.{left-copies}
+use Rattle.demand.proofs.Along.{Follows, fits-at, first-remaps, used-at, below-at, alike-at, few-at, home-at}
+use Rattle.demand.proofs.Caller.{callers-at}
+use Rattle.demand.proofs.Invariant.{Sound, D-or-not}
+use Rattle.path.proofs.Paths.{Walk, walk, within-vertices}
+use Rattle.demand.proofs.Sound.{computedPlan, exit-quiet, sound}
 use Rattle.words.specs.Tables.{table, rows}
 use Rattle.words.proofs.Tables.{rows-same}
 use Rattle.sets.specs.Sets.{width}
@@ -126,13 +133,29 @@ module _ (file path : List ℕ) (w : WellFormed file) (accepted : pathCheck file
   plans : (a : ℕ) → a < arrays file → Sound (computedPlan file a)
   plans a l = sound (proper file w a l)
 
-  pub demand3 : Demand3 file path
+  -- the caller's copy of an in argument, which no vertex writes
+  callers : check20 file ≡ Passed → (a : ℕ) → a < arrays file → vertexAt path (steps path - 1) ≡ exit file → T (isIn (kind file a)) → IsCallers file path a
+  unfolding writesIn event
+  callers unwritten a l e own =
+      let none : (v : ℕ) → v < vertices file → T (isWrite (event file a v)) → ⊥ =
+      λ v in-v h. check20-passed file .0 unwritten v a in-v l (and-iff (isIn (kind file a)) _ Iff·rfl Iff·rfl .1 (own, h)) in
+      let n : suc (steps path - 1) ≡ steps path = omega (arith, walks .some) in
+      let k = initial file a in
+      subst (λ (m : ℕ). let s = stateAfter file path a m in
+      (s .current ≡ k) × (s .live ≡ 2 ^ k) × (stampOf s k ≡ 65535) × (s .copies ≡ stateAfter file path a (steps path - 1) .copies)) n
+      (callers-at (plans a l) (follows walks a) (is-true _ own)
+      (λ i h. none (vertexAt path i) (within-vertices w walks i h))
+      (λ i h. ⊎-elim (λ d. absurd (unwritten-d file a (proper file w a l) (vertexAt path i) none d)) (λ d. d) (D-or-not (useOf file a (vertexAt path i))))
+      (exit-quiet (proper file w a l) w l (is-true _ own)) (steps path - 1) (omega arith) e)
+
+  pub demand3 : check20 file ≡ Passed → Demand3 file path
   unfolding runRecords machineRecords
-  demand3 =
+  demand3 unwritten =
       record {
         reads-alike = rows-same _ _ (steps path) (λ i h. rows-same _ _ (arrays file) (λ a l. alike-at (plans a l) (follows walks a) i a h));
         source-names = λ i a h l. names walks a (plans a l) i h;
         ends-home = λ a l e k. home walks a (plans a l) e (is-true _ k);
+        ends-callers = λ a l. callers unwritten a l;
         copies-counted = λ a l. counted walks a (steps path);
         copies-fewer = λ a l. few-at (plans a l) (follows walks a) (steps path) (omega arith);
       }

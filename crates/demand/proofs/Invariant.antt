@@ -90,7 +90,7 @@ pub record Before (p : ArrayPlan) (w : ℕ) (s : State) (m : Machine) : Type 0 w
 
 -- ---- letters
 
-D-or-not : (u : Use) → (u ≡ D) ⊎ (isD u ≡ false)
+pub D-or-not : (u : Use) → (u ≡ D) ⊎ (isD u ≡ false)
 D-or-not N = inr refl
 D-or-not D = inl refl
 D-or-not R = inr refl

@@ -1,4 +1,5 @@
 pub mod Along
+pub mod Caller
 pub mod Demand
 pub mod Invariant
 pub mod Labels

@@ -10,7 +10,7 @@ use Rattle.labels.specs.Events.{event}
 use Rattle.path.specs.Paths.{steps, vertexAt}
 use Rattle.report.specs.Records.{recordsAt, byStep}
 use Rattle.routine.specs.Actions.{actionOf, actionByte, action}
-use Rattle.routine.specs.Arrays.{arrayOf, isArgument}
+use Rattle.routine.specs.Arrays.{arrayOf, isOutOrInout}
 use Rattle.routine.specs.Layout.{arrays, vertices, entry}
 use Rattle.routine.specs.declared.action.Action.{Action}
 use Rattle.routine.specs.declared.action.Action.the-variants.{Remap}
@@ -23,9 +23,9 @@ module _ {file other path : List ℕ} (alike : FedAlike file other path) where
   event-alike : (a v : ℕ) → a < arrays file → v < vertices file → event file a v ≡ event other a v
   unfolding event action
   event-alike a v in-a in-v =
-      ap₂ (λ (n : ℕ) (r : ArrayRecord). cond (eqb v entry || (eqb v (n - 1) && isArgument (r .kind))) (Remap (r .initial)) (actionOf (actionByte file a v)))
+      ap₂ (λ (n : ℕ) (r : ArrayRecord). cond (eqb v entry || (eqb v (n - 1) && isOutOrInout (r .kind))) (Remap (r .initial)) (actionOf (actionByte file a v)))
       (alike .same-vertices) (alike .same-records a in-a)
-      ∙ ap (λ (b : ℕ). cond (eqb v entry || (eqb v (vertices other - 1) && isArgument (arrayOf other a .kind))) (Remap (arrayOf other a .initial)) (actionOf b))
+      ∙ ap (λ (b : ℕ). cond (eqb v entry || (eqb v (vertices other - 1) && isOutOrInout (arrayOf other a .kind))) (Remap (arrayOf other a .initial)) (actionOf b))
       (alike .same-actions a v in-a in-v)
 
   -- the machine of array a is the same after each step

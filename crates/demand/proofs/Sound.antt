@@ -1,13 +1,15 @@
 -- The computed plan of each array of a well-formed file is sound.
 -- Assumes nothing.
 use mathlib.Core.Path.{_≡_, refl, sym, ap, _∙_}
-use mathlib.Core.Bool.{Bool, true, false, cond, or-true, false≢true}
+use mathlib.Core.Bool.{true, false, or-true, and-false}
 use mathlib.Core.List.{List}
-use Prim.Native.Nat.{ℕ}
+use Prim.Native.Nat.{ℕ, _<_}
 use native.Mathlib.Omega.{arith}
-use borrow.Author.Tests.{eq-eqb, ne-eqb}
+use borrow.Author.Tests.{eq-eqb, ne-eqb, eqb-true}
 use Rattle.labels.specs.Events.{edgeBytes, event, versionOf, version}
-use Rattle.routine.specs.Layout.{exit}
+use Rattle.routine.specs.Layout.{arrays, entry, exit}
+use Rattle.routine.specs.Reader.{WellFormed}
+use Rattle.routine.proofs.WellFormed.{exit-nothing}
 use Rattle.labels.specs.Kept.{isNOrR, keptOf}
 use Rattle.labels.proofs.Rules.Proper.{Proper}
 use Rattle.labels.specs.Uses.{isN, useOf}
@@ -16,8 +18,8 @@ use Rattle.labels.specs.declared.Use.the-variants.{N, D, R, W}
 use Rattle.labels.proofs.Rules.Events.{version-fits, entry-remaps}
 use Rattle.labels.proofs.Rules.Kept.{kept-alone}
 use Rattle.labels.proofs.Rules.Uses.{exit-letter, n-segment, d-segment, r-segment}
-use Rattle.routine.specs.Arrays.{arrayOf, kind, initial, isOutOrInout}
-use Rattle.routine.specs.declared.action.Action.the-variants.{Remap}
+use Rattle.routine.specs.Arrays.{arrayOf, kind, initial, isIn, isOutOrInout}
+use Rattle.routine.specs.declared.action.Action.the-variants.{Nothing, Remap}
 use Rattle.sets.specs.Sets.{has}
 use Rattle.sets.proofs.Laws.{single-is}
 use Rattle.demand.proofs.Invariant.{ArrayPlan, Sound}
@@ -41,7 +43,13 @@ module _ {file : List ℕ} {a : ℕ} (proper : Proper file a) where
 
   exit-remaps : isOutOrInout (kind file a) ≡ true → event file a (exit file) ≡ Remap (initial file a)
   unfolding event
-  exit-remaps k = rw (eq-eqb (exit file) (exit file) refl, ne-eqb (kind file a) 0 (λ e. false≢true (ap isOutOrInout (sym e) ∙ k)), or-true)
+  exit-remaps k = rw (eq-eqb (exit file) (exit file) refl, k, or-true)
+
+  -- the exit does nothing with an in argument
+  pub exit-quiet : WellFormed file → a < arrays file → isIn (kind file a) ≡ true → event file a (exit file) ≡ Nothing
+  unfolding event
+  exit-quiet w l e =
+      rw (ne-eqb (exit file) entry (λ q. omega (arith, w .laid .limits .two-vertices)), ap (λ (k : ℕ). isOutOrInout k) (eqb-true (kind file a) 1 e), and-false) (exit-nothing w l)
 
   pub sound : Sound (computedPlan file a)
   sound =
@@ -55,6 +63,6 @@ module _ {file : List ℕ} {a : ℕ} (proper : Proper file a) where
         below = λ {v} {k} e. omega (arith, version-fits file a proper v, version-is v k e);
         entry-remaps = entry-remaps file a;
         exit-remaps = exit-remaps;
-        exit-letter = λ k. exit-letter file a proper (exit file) refl ∙ ap (λ (b : Bool). cond b R W) (ne-eqb (kind file a) 1 (λ e. false≢true (ap isOutOrInout (sym e) ∙ k)));
+        exit-letter = λ k. exit-letter file a proper (exit file) refl;
         exit-ends = λ {w}. proper .none-leaves w;
       }

@@ -9,7 +9,7 @@ use Rattle.routine.specs.declared.action.Access.the-variants.{Read, Define, Mod
 use Rattle.routine.specs.declared.action.Action.{Action}
 use Rattle.routine.specs.declared.action.Action.the-variants.{Nothing, Reference, Remap, Unknown}
 use Rattle.routine.specs.Actions.{action, isRemap}
-use Rattle.routine.specs.Arrays.{arrayOf, kind, initial, isArgument}
+use Rattle.routine.specs.Arrays.{arrayOf, kind, initial, isOutOrInout}
 use Rattle.routine.specs.Layout.{vertices, entry, exit, edgesAt}
 use Rattle.flow.specs.Solver.{solution}
 use Rattle.words.specs.Tables.{table}
@@ -23,13 +23,13 @@ abbrev pub solvedSets : List ℕ → Bool → (ℕ → ℕ) → (ℕ → ℕ) �
 solvedSets file along gives passes =
     solution (edgeBytes file) along (table gives (vertices file)) (table passes (vertices file)) (vertices file)
 
--- ---- events: entry labels every array as a remapping to its initial version; exit labels every argument so
+-- ---- events: entry labels every array as a remapping to its initial version; exit labels every out and inout argument so
 
 -- what vertex v does with array a
 unfoldable pub event : List ℕ → ℕ → ℕ → Action
 unfolding arrayOf action
 event file a v =
-    cond (eqb v entry || (eqb v (exit file) && isArgument (kind file a))) (Remap (initial file a)) (action file a v)
+    cond (eqb v entry || (eqb v (exit file) && isOutOrInout (kind file a))) (Remap (initial file a)) (action file a v)
 
 -- a label is a remapping; a remap action is a label even if that version already reaches it
 abbrev pub isLabel : List ℕ → ℕ → ℕ → Bool

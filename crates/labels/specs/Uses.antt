@@ -17,7 +17,6 @@ use Rattle.sets.specs.Sets.{has}
 use Rattle.labels.specs.declared.Use.{Use}
 use Rattle.labels.specs.declared.Use.the-variants.{N, D, R, W}
 use Rattle.labels.specs.Events.{edgeBytes, solvedSets, event, isLabel, version, isRead, isDefine, isWrite, needsValue}
-use Rattle.routine.specs.Arrays.{kind, isIn}
 
 -- ---- segments
 
@@ -58,13 +57,9 @@ Rule file a v D = Defined file a v
 Rule file a v R = OnlyRead file a v
 Rule file a v W = (Unused file a v → ⊥) × (Defined file a v → ⊥) × (OnlyRead file a v → ⊥)
 
--- at the exit: R for in, W for out and inout
-abbrev pub exitUse : ℕ → Use
-exitUse kind = cond (isIn kind) R W
-
--- the letter of the label at v
+-- the letter of the label at v; at the exit W for out and inout, which alone have a label there (document 02, request 1)
 pub record IsUse (file : List ℕ) (a v : ℕ) (u : Use) : Type 0 where
-  pub at-exit : v ≡ exit file → u ≡ exitUse (kind file a)
+  pub at-exit : v ≡ exit file → u ≡ W
   pub elsewhere : (v ≡ exit file → ⊥) → Rule file a v u
 
 -- ---- use, computed: bit 0 a reference met; bit 1 a read, a modify or a label met with no define before; bit 2 a read; bit 3 a write.
@@ -104,7 +99,7 @@ letterOf m = cond (not (has m 0)) N (cond (not (has m 1)) D (cond (has m 2 && no
 -- the letter of the label at v
 unfoldable pub useOf : List ℕ → ℕ → ℕ → Use
 unfolding useSets has
-useOf file a v = cond (eqb v (exit file)) (exitUse (kind file a)) (letterOf (getD (useSets file a) v 0))
+useOf file a v = cond (eqb v (exit file)) W (letterOf (getD (useSets file a) v 0))
 
 -- ---- leaving: the label's version, or none for N; a label is kept if it is not N
 

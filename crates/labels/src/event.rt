@@ -22,7 +22,7 @@ pub fn at(file: &[u8], h: Header, r: ArrayRecord, a: usize, v: usize) -> Action
     requires { ⌜ v < vertices (now file) ⌝ }
     ensures { λ x. ⌜ x ≡ event (now (file .entry)) a v ⌝ }
 {
-    let label = (v == 0) | ((v == h.vertices - 1) & r.is_argument());
+    let label = (v == 0) | ((v == h.vertices - 1) & r.is_out_or_inout());
     if label {
         return Action::Remap(r.initial);
     }

@@ -1,12 +1,11 @@
-// The letter of a label: from its set of use, or at the exit; and tests of its byte (document 01, "Labels").
+// The letter of a label, from its set of use; and tests of its byte (document 01, "Labels").
 use crate::Use;
-use routine::array::ArrayRecord;
 use sets::Set;
 ghost use mathlib.Core.Path.{_≡_};
 ghost use mathlib.Core.Bool.{not};
 ghost use Rattle.labels.specs.Kept.{isNOrR};
 ghost use Rattle.labels.specs.Letters.{useOfByte};
-ghost use Rattle.labels.specs.Uses.{letterOf, exitUse, isN};
+ghost use Rattle.labels.specs.Uses.{letterOf, isN};
 
 // The letter that a set of use says.
 pub fn of_set(set: Set) -> Use
@@ -22,17 +21,6 @@ pub fn of_set(set: Set) -> Use
     }
     let only_read = sets::member(set, 2) & !sets::member(set, 3);
     if only_read {
-        return Use::R;
-    }
-    Use::W
-}
-
-// The letter at the exit.
-pub fn at_exit(r: ArrayRecord) -> Use
-    ensures { λ u. ⌜ u ≡ exitUse (r .kind) ⌝ }
-{
-    let read_only = r.is_in();
-    if read_only {
         return Use::R;
     }
     Use::W

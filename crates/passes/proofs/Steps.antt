@@ -21,7 +21,8 @@ use Rattle.labels.specs.Kept.{isNOrR, passesKept, leavingSet, keptSets, keptOf}
 use Rattle.labels.specs.Letters.{letterByte, useOfByte}
 use Rattle.labels.specs.Reaching.{reachedSets, isReached, reachGives, reachPasses, reachSets, reachingOf}
 use Rattle.passes.specs.Tables.{Cells, reachedCell, Versions, UseGives, Reached, Letters, Pass}
-use Rattle.labels.specs.Uses.{useGives, usePasses, passesBy, useSets, letterOf, exitUse, useOf, isN, isKept}
+use Rattle.labels.specs.declared.Use.the-variants.{W}
+use Rattle.labels.specs.Uses.{useGives, usePasses, passesBy, useSets, letterOf, useOf, isN, isKept}
 use Rattle.labels.specs.declared.Use.{Use}
 use Rattle.labels.proofs.Rules.Events.{by-event}
 use Rattle.words.proofs.Tests.{cond-not}
@@ -86,19 +87,19 @@ module _ {file : List ℕ} (well : WellFormed file) where
 
   -- away from the exit, and at it
   letter-at : (a v : ℕ) {last : Bool} → eqb v (exit file) ≡ last
-      → letterByte (cond last (exitUse (kind file a)) (letterOf (getD (useSets file a) v 0))) ≡ letterByte (useOf file a v)
+      → letterByte (cond last W (letterOf (getD (useSets file a) v 0))) ≡ letterByte (useOf file a v)
   unfolding useOf
-  letter-at a v e = ap (λ (b : Bool). letterByte (cond b (exitUse (kind file a)) (letterOf (getD (useSets file a) v 0)))) (sym e)
+  letter-at a v e = ap (λ (b : Bool). letterByte (cond b W (letterOf (getD (useSets file a) v 0)))) (sym e)
 
   pub letters-are : {gives passes sets mid s : List ℕ} → UseGives file gives → Cells file (λ a v. usePasses (event file a v)) passes → Pass file true gives passes sets
       → mid ≡ table (λ i. letterByte (letterOf (getD sets i 0))) (length sets)
-      → s ≡ withRow mid (exit file) (λ a. letterByte (exitUse (kind file a))) (arrays file) → Letters file s
+      → s ≡ withRow mid (exit file) (λ a. letterByte W) (arrays file) → Letters file s
   letters-are {gives} {passes} {sets} {mid} {s} g p h e f =
       let found = letter-sets g p h in
       let first : Cells file (λ a v. letterByte (letterOf (getD (useSets file a) v 0))) mid =
       cells-table well (λ i. letterByte (letterOf (getD sets i 0))) (found .size) e (λ a v in-a in-v. ap (λ (m : ℕ). letterByte (letterOf m)) (found .cells a v in-a in-v)) in
       subst (Letters file) (sym f)
-      (cells-row well (λ a. letterByte (exitUse (kind file a))) (exit file) (omega (arith, well .laid .limits .two-vertices)) first
+      (cells-row well (λ a. letterByte W) (exit file) (omega (arith, well .laid .limits .two-vertices)) first
       (λ a in-a. letter-at a (exit file) (eq-eqb (exit file) (exit file) refl)) (λ a v in-a away. letter-at a v (ne-eqb v (exit file) away)))
 
   -- ---- kept labels

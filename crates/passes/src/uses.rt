@@ -1,16 +1,15 @@
 // Use, one letter for each label (document 01, "Labels").
 use labels::event;
 use labels::letter;
-use routine::array;
 use routine::header::Header;
 use sets::Set;
 ghost use mathlib.Core.Path.{_≡_};
 ghost use Prim.Native.Nat.{_*_};
 ghost use lib.ListN.{length, getD};
-ghost use Rattle.routine.specs.Arrays.{kind};
 ghost use Rattle.labels.specs.Letters.{letterByte};
 ghost use Rattle.labels.specs.Routines.{ReadAs};
-ghost use Rattle.labels.specs.Uses.{passesBy, letterOf, exitUse};
+ghost use Rattle.labels.specs.Uses.{passesBy, letterOf};
+ghost use Rattle.labels.specs.declared.Use.the-variants.{W};
 ghost use Rattle.routine.specs.Layout.{arrays, vertices, exit};
 ghost use Rattle.words.specs.Tables.{table, withRow};
 
@@ -45,13 +44,13 @@ pub fn leave(file: &[u8], h: Header, letters: &mut [u8])
     requires { ⌜ ReadAs (now file) h ⌝ }
     requires { ⌜ length (now letters) ≡ 8 * vertices (now file) ⌝ }
     ensures { λ _. ⌜ now (letters .exit)
-        ≡ withRow (now (letters .entry)) (exit (now (file .entry))) (λ a. letterByte (exitUse (kind (now (file .entry)) a))) (arrays (now (file .entry))) ⌝ }
+        ≡ withRow (now (letters .entry)) (exit (now (file .entry))) (λ a. letterByte W) (arrays (now (file .entry))) ⌝ }
 {
     let m = h.arrays;
     let row = flow::COLUMNS * (h.vertices - 1);
     let mut a = 0;
     while a < m {
-        letters[row + a] = letter::at_exit(array::record_of(file, a)).letter();
+        letters[row + a] = b'W';
         a += 1;
     }
 }

@@ -4,7 +4,7 @@ use refusal::Refusal;
 use refusal::Verdict;
 ghost use mathlib.Core.Path.{_≡_};
 ghost use Prim.Native.Nat.{_+_, _*_, _<_};
-ghost use Rattle.routine.specs.Arrays.{arrayRecordOf, arrayOf, isArgument, isIn, isInOrInout, recordCheck, arrayCheck, check14};
+ghost use Rattle.routine.specs.Arrays.{arrayRecordOf, arrayOf, isArgument, isIn, isInOrInout, isOutOrInout, recordCheck, arrayCheck, check14};
 ghost use Rattle.routine.specs.Layout.{arrays};
 ghost use Rattle.routine.specs.Reader.{Laid, Heads};
 
@@ -27,6 +27,8 @@ impl ArrayRecord {
     pub const LOCAL: u8 = 0;
 
     pub const IN: u8 = 1;
+
+    pub const OUT: u8 = 2;
 
     pub const INOUT: u8 = 3;
 
@@ -61,6 +63,12 @@ impl ArrayRecord {
         ensures { λ r. ⌜ r ≡ isInOrInout (self .kind) ⌝ }
     {
         (self.kind == ArrayRecord::IN) | (self.kind == ArrayRecord::INOUT)
+    }
+
+    pub fn is_out_or_inout(self) -> bool
+        ensures { λ r. ⌜ r ≡ isOutOrInout (self .kind) ⌝ }
+    {
+        (self.kind == ArrayRecord::OUT) | (self.kind == ArrayRecord::INOUT)
     }
 
     // The first byte outside its limits, for a record that starts at `at`.

@@ -8,7 +8,7 @@ use borrow.Author.Tests.{le-leb, lt-leb, leb-true}
 use lib.Dec.{leb}
 use lib.ListN.{length}
 use Rattle.demand.proofs.Demand.{demand3}
-use Rattle.labels.specs.Checks.{programmerCheck}
+use Rattle.labels.specs.Checks.{check20, programmerCheck}
 use Rattle.refusal.specs.Checks.{_andThen_, holds}
 use Rattle.routine.specs.Reader.{WellFormed, deniedOf}
 use Rattle.refusal.specs.Replies.{written}
@@ -68,6 +68,10 @@ module _ (file path before : List ℕ) {reply : Reply} (is : reply ≡ written (
     unfolding runnerCheck
     run-passed = passed-left (programmerCheck file) _ all-passed
 
+    run-unwritten : check20 file ≡ Passed
+    unfolding programmerCheck
+    run-unwritten = passed-left (check20 file) _ run-passed
+
     after-21 : (pathCheck file path andThen holds (leb (reportLength file path) (length before)) (ShortReportBuffer (reportLength file path))) ≡ Passed
     unfolding runnerCheck
     after-21 = passed-right (programmerCheck file) _ all-passed
@@ -81,4 +85,4 @@ module _ (file path before : List ℕ) {reply : Reply} (is : reply ≡ written (
         omega (arith, report-length file path, leb-true (reportLength file path) (length before) (holds-true _ _ (passed-right (pathCheck file path) _ after-21)))
 
     pub written-ran : {after : List ℕ} → WellFormed file → after ≡ wrote before (reportBytes file path) → RanRead file path before reply after
-    written-ran well w = record { answer = is; buffer = rw e w; demand = rw e (demand3 file path well run-follows) }
+    written-ran well w = record { answer = is; buffer = rw e w; demand = rw e (demand3 file path well run-follows run-unwritten) }

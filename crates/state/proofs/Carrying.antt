@@ -14,7 +14,7 @@ use lib.Seq.{getD-set-same, getD-set-other}
 use Rattle.labels.specs.declared.Use.{Use}
 use Rattle.labels.specs.Uses.{isN}
 use Rattle.routine.specs.Actions.{isReference, isRemap}
-use Rattle.routine.specs.Arrays.{isArgument, isInOrInout}
+use Rattle.routine.specs.Arrays.{isArgument, isIn, isInOrInout}
 use Rattle.routine.specs.declared.action.Access.{Access}
 use Rattle.routine.specs.declared.action.Action.{Action}
 use Rattle.routine.specs.declared.action.Action.the-variants.{Nothing, Reference, Remap, Unknown}
@@ -35,6 +35,7 @@ use Rattle.state.specs.Stamps.{stampAfter, stampBy}
 use Rattle.state.specs.Start.{started}
 use Rattle.state.specs.States.{State, nothing, hasCurrent, stampOf, stamped, emptied, oneCopy, Current}
 use Rattle.state.specs.Vertex.{Ready, labelled, visited, relabelled}
+use Rattle.state.proofs.Exit.{callers-own, left-callers}
 use Rattle.state.proofs.Labels.{current-has, cleared-keeps}
 use Rattle.state.proofs.States.{current-below, below-current, copies-current}
 
@@ -73,6 +74,17 @@ module _ (own keep : ℕ) (c : Carried) (row : ℕ → ℕ) (stamps : List ℕ) 
         ∙ sym (cleared-keeps (minus dead own) stamps width k (has-minus dead own k ∙ spares-stamp (has (c .live) k) (has dead k) (has own k) kept));
   }
 
+-- ---- a version's stamp, by what is carried and the row
+
+stored-same : {own : ℕ} {c : Carried} {row : ℕ → ℕ} {stamps : List ℕ} → Carries own (whole c stamps) c row
+    → (k : ℕ) → k < width → (has (c .live) k || has own k) ≡ true → stored c row k ≡ getD stamps k 0
+stored-same {own} {c} {row} {stamps} h k in-k counts =
+    at-cond (λ (x : ℕ). x ≡ getD stamps k 0) (eqb (c .current) k)
+    (λ e.
+    let same = eqb-true (c .current) k e in
+    h .stamp-is (below-current (bare c) (omega arith)) ∙ ap (λ (j : ℕ). getD stamps j 0) same)
+    (λ e. h .row-is k in-k counts (eqb-false (c .current) k e))
+
 -- ---- the move
 
 module _ (own : ℕ) (u : Use) (t held : ℕ) (c : Carried) (row : ℕ → ℕ) (stamps : List ℕ) (h : Carries own (whole c stamps) c row)
@@ -96,15 +108,6 @@ module _ (own : ℕ) (u : Use) (t held : ℕ) (c : Carried) (row : ℕ → ℕ) 
       (λ l. rw l (is-held ∙ h .row-is t below (ap (λ (b : Bool). b || has own t) l) (other m)))
       (λ l. rw l)))
 
-  -- the row, with the old copy's stamp in its place
-  stored-same : (k : ℕ) → k < width → (has (c .live) k || has own k) ≡ true → stored c row k ≡ getD stamps k 0
-  stored-same k in-k counts =
-      at-cond (λ (x : ℕ). x ≡ getD stamps k 0) (eqb (c .current) k)
-      (λ e.
-      let same = eqb-true (c .current) k e in
-      h .stamp-is (below-current (bare c) (omega arith)) ∙ ap (λ (j : ℕ). getD stamps j 0) same)
-      (λ e. h .row-is k in-k counts (eqb-false (c .current) k e))
-
   -- what counts once the target is taken up counted before
   counted-then : (k : ℕ) → (has (bitOr (c .live) (2 ^ t)) k || has own k) ≡ true → (t ≡ k → ⊥) → (has (c .live) k || has own k) ≡ true
   counted-then k counts ne =
@@ -115,11 +118,11 @@ module _ (own : ℕ) (u : Use) (t held : ℕ) (c : Carried) (row : ℕ → ℕ) 
   taken-carries m = record {
     is = refl;
     stamp-is = λ _. target-same m ∙ sym (getD-set-same stamps t y 0 (omega (arith, wide)));
-    row-is = λ k in-k counts ne. stored-same k in-k (counted-then k counts ne) ∙ sym (getD-set-other stamps t k y 0 (λ e. ne (sym e)));
+    row-is = λ k in-k counts ne. stored-same h k in-k (counted-then k counts ne) ∙ sym (getD-set-other stamps t k y 0 (λ e. ne (sym e)));
   }
 
   still-carries : Carries own s c (stored c row)
-  still-carries = record { is = refl; stamp-is = h .stamp-is; row-is = λ k in-k counts ne. stored-same k in-k counts }
+  still-carries = record { is = refl; stamp-is = h .stamp-is; row-is = λ k in-k counts ne. stored-same h k in-k counts }
 
   moved-carries : Carries own (moved u t s) (shifted u t held c) (stored c row)
   unfolding moved shifted
@@ -258,18 +261,26 @@ module _ (r : ArrayRecord) (row : ℕ → ℕ) where
   started-in e below f =
       subst (λ (c : Carried). Carries (callers r) (started r) c row) (sym f) (rw e (one-carries (callers r) (r .initial) 65535 0 row below (callers-has r)))
 
-pub left-argument : (r : ArrayRecord) (b : Bool) {s : State} {c : Carried} {row : ℕ → ℕ} → isArgument (r .kind) ≡ true → Carries (callers r) s c row
-    → Carries (callers r) (left r b s) c row
-left-argument r b {s} {c} {row} e h =
-    subst (λ (t : Bool). Carries (callers r) (cond (b && not t) (emptied (s .copies)) s) c row) (sym e)
-    (subst (λ (t : Bool). Carries (callers r) (cond t (emptied (s .copies)) s) c row) (sym (and-false b)) h)
+module _ (r : ArrayRecord) {s : State} {c : Carried} {row : ℕ → ℕ} (h : Carries (callers r) s c row) where
+  pub left-argument : isIn (r .kind) ≡ false → isArgument (r .kind) ≡ true → Carries (callers r) (left r true s) c row
+  left-argument e f =
+      subst (λ (b : Bool). Carries (callers r) (cond b (oneCopy (r .initial) (stampOf s (r .initial)) (s .copies)) (cond (isArgument (r .kind)) s (emptied (s .copies)))) c row) (sym e)
+      (subst (λ (b : Bool). Carries (callers r) (cond b s (emptied (s .copies))) c row) (sym f) h)
 
-pub left-none : (r : ArrayRecord) {s : State} {c n : Carried} {row : ℕ → ℕ} → isArgument (r .kind) ≡ false → n ≡ noCopies (c .copies) → Carries (callers r) s c row
-    → Carries (callers r) (left r true s) n row
-left-none r {s} {c} {n} {row} e f h =
-    subst (λ (n : Carried). Carries (callers r) (left r true s) n row) (sym f)
-    (rw e (subst (λ (k : ℕ). Carries (cond false (2 ^ r .initial) 0) (emptied k) (noCopies (c .copies)) row) (sym (ap (λ (s : State). s .copies) (h .is)))
-    (emptied-carries 0 (c .copies) row (λ k g. absurd (true≢false (sym g ∙ has-zero k))))))
+  pub left-own : {n : Carried} → r .initial < width → isIn (r .kind) ≡ true → n ≡ singleCopy (r .initial) (stored c row (r .initial)) (c .copies) → Carries (callers r) (left r true s) n row
+  left-own {n} below e f =
+      let own : has (callers r) (r .initial) ≡ true = callers-own r e in
+      let stamp : stored c row (r .initial) ≡ stampOf s (r .initial) = stored-same (whole-carries h) (r .initial) below (ap (λ (b : Bool). has (c .live) (r .initial) || b) own ∙ or-true (has (c .live) (r .initial))) in
+      let copies : c .copies ≡ s .copies = sym (ap (λ (s : State). s .copies) (h .is)) in
+      subst (λ (s' : State). Carries (callers r) s' n row) (sym (left-callers r e s))
+      (subst (λ (n : Carried). Carries (callers r) (oneCopy (r .initial) (stampOf s (r .initial)) (s .copies)) n row) (sym (f ∙ ap₂ (singleCopy (r .initial)) stamp copies))
+      (one-carries (callers r) (r .initial) (stampOf s (r .initial)) (s .copies) row below (callers-has r)))
+
+  pub left-none : {n : Carried} → isIn (r .kind) ≡ false → isArgument (r .kind) ≡ false → n ≡ noCopies (c .copies) → Carries (callers r) (left r true s) n row
+  left-none e f g =
+      subst (λ (n : Carried). Carries (callers r) (left r true s) n row) (sym g)
+      (rw (e, f) (subst (λ (k : ℕ). Carries (cond false (2 ^ r .initial) 0) (emptied k) (noCopies (c .copies)) row) (sym (ap (λ (s : State). s .copies) (h .is)))
+      (emptied-carries 0 (c .copies) row (λ k g. absurd (true≢false (sym g ∙ has-zero k))))))
 
 -- ---- the table of all rows
 

@@ -1,7 +1,7 @@
 -- A state fits its types at the start, and one vertex keeps that.
 -- Assumes nothing.
 use mathlib.Core.Path.{_≡_, refl, _∙_}
-use mathlib.Core.Bool.{Bool, not, _&&_}
+use mathlib.Core.Bool.{Bool}
 use mathlib.Core.List.{List}
 use mathlib.Core.Logic.{inl, inr}
 use Prim.Native.Nat.{ℕ, zero, suc, _+_, _≤_, _<_, _^_}
@@ -10,7 +10,7 @@ use lib.Bits.{or-lt}
 use lib.Dec.{lit<, lit≤}
 use lib.ListN.{set, replicate, length-set}
 use lib.Pow.{pow-lt}
-use Rattle.routine.specs.Arrays.{isArgument, isInOrInout}
+use Rattle.routine.specs.Arrays.{isInOrInout}
 use Rattle.labels.specs.declared.Use.{Use}
 use Rattle.routine.specs.declared.action.Access.{Access}
 use Rattle.routine.specs.declared.action.Access.the-variants.{Read, Define, Modify}
@@ -25,10 +25,11 @@ use Rattle.state.specs.Exit.{left}
 use Rattle.state.specs.Moves.{moves, copiesStamp, targetStamp, moved}
 use Rattle.state.specs.References.{referenced}
 use Rattle.state.specs.Start.{started}
-use Rattle.state.specs.States.{State, stampOf, emptied}
+use Rattle.state.specs.States.{State, stampOf, emptied, oneCopy}
 use Rattle.state.specs.Vertex.{labelled, visited}
 use Rattle.words.proofs.Tables.{at-set, zeros-at}
 use Rattle.words.proofs.Tests.{at-cond}
+use Rattle.state.proofs.Exit.{at-left}
 
 -- ---- lists of stamps
 
@@ -50,17 +51,21 @@ cleared-stamps dead l (suc n) h =
 emptied-fits : (copies n : ℕ) → copies ≤ n → Fits (emptied copies) n
 emptied-fits copies n h = record { current = inr refl; live = lit< tt; stamps = zeros; copies = h }
 
+one-fits : {k stamp copies n : ℕ} → k < width → stamp ≤ 65535 → copies ≤ n → Fits (oneCopy k stamp copies) n
+one-fits {k} {stamp} h g e = record { current = inl h; live = pow-lt h; stamps = set-stamps (replicate width 0) k stamp zeros g; copies = e }
+
 pub started-fits : (r : ArrayRecord) → r .initial < width → Fits (started r) 0
 started-fits r h =
     at-cond (λ (s : State). Fits s 0) (isInOrInout (r .kind))
-    (λ _. record { current = inl h; live = pow-lt h; stamps = set-stamps (replicate width 0) (r .initial) 65535 zeros (lit≤ tt); copies = lit≤ tt })
+    (λ _. one-fits h (lit≤ tt) (lit≤ tt))
     (λ _. emptied-fits 0 0 (lit≤ tt))
 
 longer : {s : State} {n : ℕ} → Fits s n → Fits s (suc n)
 longer f = record { current = f .current; live = f .live; stamps = f .stamps; copies = omega arith }
 
-left-fits : (r : ArrayRecord) (b : Bool) {s : State} {n : ℕ} → Fits s n → Fits (left r b s) n
-left-fits r b {s} {n} f = at-cond (λ (s' : State). Fits s' n) (b && not (isArgument (r .kind))) (λ _. emptied-fits (s .copies) n (f .copies)) (λ _. f)
+left-fits : (r : ArrayRecord) → r .initial < width → (b : Bool) {s : State} {n : ℕ} → Fits s n → Fits (left r b s) n
+left-fits r h b {s} {n} f =
+    at-left r b s (λ (s' : State). Fits s' n) (λ _ _. one-fits h (f .stamps .small (r .initial)) (f .copies)) (λ _ _. emptied-fits (s .copies) n (f .copies)) f
 
 cleaned-fits : (own keep : ℕ) {s : State} {n : ℕ} → Fits s n → Fits (cleaned own keep s) n
 unfolding cleaned
@@ -114,6 +119,6 @@ module _ (r : ArrayRecord) (u : Use) (keep : ℕ) {s : State} {n : ℕ} (short :
   visited-fits Unknown below = longer f
 
   -- one vertex
-  pub step-fits : (b : Bool) (x : Action) → ((k : ℕ) → x ≡ Remap k → k < width) → Fits (left r b (visited r x u keep (n + 1) s)) (suc n)
+  pub step-fits : r .initial < width → (b : Bool) (x : Action) → ((k : ℕ) → x ≡ Remap k → k < width) → Fits (left r b (visited r x u keep (n + 1) s)) (suc n)
   unfolding referenced labelled
-  step-fits b x below = left-fits r b (visited-fits x below)
+  step-fits h b x below = left-fits r h b (visited-fits x below)

@@ -1,7 +1,7 @@
 -- What a label does to the live versions and their stamps.
 -- Assumes nothing.
 use mathlib.Core.Path.{_≡_, refl, sym, ap, subst, _∙_}
-use mathlib.Core.Bool.{Bool, true, false, not, _&&_, _||_, true≢false, or-true, or-false}
+use mathlib.Core.Bool.{Bool, true, false, not, _&&_, _||_, true≢false, or-true, or-false, and-false}
 use mathlib.Core.List.{List}
 use Prim.Native.Nat.{ℕ, zero, suc, _<_, _^_}
 use native.Mathlib.Omega.{arith}
@@ -70,6 +70,11 @@ module _ (own keep : ℕ) (s : State) where
       cleared-keeps (minus (dying keep s) own) (s .stamps) width k
       (simp (has-minus, has-or, current-has) (spared (has (s .live) k) (spares keep s k) (has own k) (sym (cleaned-has k) ∙ h)))
 
+  -- the caller's version keeps its stamp
+  pub cleaned-own : (k : ℕ) → has own k ≡ true → stampOf (cleaned own keep s) k ≡ stampOf s k
+  unfolding cleaned
+  cleaned-own k h = cleared-keeps (minus (dying keep s) own) (s .stamps) width k (simp (has-minus, h, and-false))
+
   pub cleaned-agree : {x : ℕ} → Agree s x → Agree (cleaned own keep s) x
   cleaned-agree a k h = cleaned-stamp k h ∙ a k (and-left _ _ (sym (cleaned-has k) ∙ h))
 
@@ -97,6 +102,18 @@ module _ (u : Use) (t : ℕ) (s : State) where
       (λ e. subst (λ (j : ℕ). getD (set (s .stamps) t y) j 0 ≡ x) (eqb-true t k e) (getD-set-same (s .stamps) t y 0 f ∙ taken-stamp d m a c))
       (λ e. getD-set-other (s .stamps) t k y 0 (λ g. eqb-false t k e (sym g)) ∙ a k (cc (has-with (s .live) t k, or-false (has (s .live) k)))))
       (λ m. a)
+
+  -- a version's stamp stays, or is what is handed on
+  pub moved-stamp : {x : ℕ} (k : ℕ) → t < length (s .stamps) → isD u ≡ false → Agree s x → Sits s x → stampOf s k ≡ x → stampOf (moved u t s) k ≡ x
+  unfolding moved
+  moved-stamp {x} k f d a c g =
+      at-cond (λ (s' : State). stampOf s' k ≡ x) (moves u t s)
+      (λ m.
+      let y = targetStamp u t (stampOf s (s .current)) s in
+      by-test (eqb t k)
+      (λ e. subst (λ (j : ℕ). getD (set (s .stamps) t y) j 0 ≡ x) (eqb-true t k e) (getD-set-same (s .stamps) t y 0 f ∙ taken-stamp d m a c))
+      (λ e. getD-set-other (s .stamps) t k y 0 (λ g. eqb-false t k e (sym g)) ∙ g))
+      (λ m. g)
 
   pub moved-sits : {x : ℕ} → t < width → Sits s x → Sits (moved u t s) x
   unfolding moved

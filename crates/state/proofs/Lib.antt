@@ -1,4 +1,5 @@
 pub mod Carrying
+pub mod Exit
 pub mod Fits
 pub mod Labels
 pub mod Lent

@@ -10,6 +10,7 @@ use sets::WIDTH;
 ghost use mathlib.Core.Path.{_≡_};
 ghost use mathlib.Core.Bool.{cond};
 ghost use Prim.Native.Nat.{ℕ, _+_, _*_, _<_};
+ghost use lib.Dec.{eqb};
 ghost use lib.ListN.{length};
 ghost use Rattle.labels.specs.Letters.{useOfByte};
 ghost use Rattle.sets.specs.Sets.{width};
@@ -178,6 +179,16 @@ impl Carried {
         self.taken(t, copied, held)
     }
 
+    // The stamp of version k, where the row has `held` for it.
+    fn stamp_of(self, k: u8, held: u16) -> u16
+        ensures { λ r. ⌜ r ≡ cond (eqb (self .current) k) (self .stamp) held ⌝ }
+    {
+        if self.current == k {
+            return self.stamp;
+        }
+        held
+    }
+
     // The current copy as a set.
     fn current_set(self) -> Set
         requires { ⌜ Current (bare self) ⌝ }
@@ -293,12 +304,18 @@ pub fn relabelled(
     }
 }
 
-// At the exit local arrays lose all copies.
-pub fn leave(c: Carried, r: ArrayRecord, at_exit: bool) -> Carried
-    ensures { λ n. ⌜ ((s : State) (row : ℕ → ℕ) → Carries (callers r) s c row → Carries (callers r) (left r «at_exit» s) n row) ⌝ }
+// At the exit an in argument loses all copies but the caller's, for which the row has `held`; local arrays lose all.
+pub fn leave(c: Carried, r: ArrayRecord, held: u16, at_exit: bool) -> Carried
+    requires { ⌜ r .initial < width ⌝ }
+    ensures { λ n. ⌜ ((s : State) (row : ℕ → ℕ) → Carries (callers r) s c row → held ≡ row (r .initial) → Carries (callers r) (left r «at_exit» s) n row) ⌝ }
 {
     if !at_exit {
         return c;
+    }
+    let read_only = r.is_in();
+    if read_only {
+        let stamp = c.stamp_of(r.initial, held);
+        return one_copy(r.initial, stamp, c.copies);
     }
     let argument = r.is_argument();
     if argument {

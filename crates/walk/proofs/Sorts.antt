@@ -8,7 +8,7 @@ use borrow.Author.Tests.{eqb-true}
 use lib.Dec.{eqb}
 use Rattle.labels.specs.Events.{event}
 use Rattle.routine.specs.Actions.{action, isReference, isRemap}
-use Rattle.routine.specs.Arrays.{kind, isArgument}
+use Rattle.routine.specs.Arrays.{kind, isOutOrInout}
 use Rattle.routine.specs.Layout.{arrays, vertices, exit}
 use Rattle.routine.specs.Reader.{WellFormed}
 use Rattle.routine.specs.declared.action.Action.{Action}
@@ -45,7 +45,7 @@ module _ {file : List ℕ} (well : WellFormed file) (v : ℕ) where
   pub at-terminal : (eqb v 0 || eqb v (exit file)) ≡ true → Labels file v true
   unfolding event
   at-terminal t b in-b =
-      at-cond (λ (x : Action). isReference x ≡ false) (eqb v 0 || (eqb v (exit file) && isArgument (kind file b))) (λ _. refl)
+      at-cond (λ (x : Action). isReference x ≡ false) (eqb v 0 || (eqb v (exit file) && isOutOrInout (kind file b))) (λ _. refl)
       (λ _. ap isReference (or-cases (eqb v 0) (eqb v (exit file))
       (λ e. ap (λ (w : ℕ). action file b w) (eqb-true v 0 e) ∙ entry-nothing well in-b)
       (λ e. ap (λ (w : ℕ). action file b w) (eqb-true v (exit file) e) ∙ exit-nothing well in-b) t))

@@ -67,18 +67,19 @@ begins file path old fits h = record {
 -- ---- one vertex
 
 -- an array's next state, from what the code has
-pub relabelled-is : (file : List ℕ) (a v : ℕ) {letter keep : ℕ} {r : ArrayRecord} {x : Action} {c t n : Carried} {ends : Bool} {old new : List ℕ} → r ≡ arrayOf file a
+pub relabelled-is : (file : List ℕ) (a v : ℕ) {letter keep : ℕ} {r : ArrayRecord} {x : Action} {c t n : Carried} {held : ℕ} {ends : Bool} {old new : List ℕ} → r ≡ arrayOf file a
     → x ≡ event file a v → letter ≡ letterByte (useOf file a v) → keep ≡ keptOf file a v → ends ≡ eqb v (exit file)
     → Relabelled x (useOfByte letter) keep a c old t new
-    → ((s : State) (row : ℕ → ℕ) → Carries (callers r) s t row → Carries (callers r) (left r ends s) n row) → RelabelledAt file a v c old n new
+    → held ≡ rowOf new a (r .initial)
+    → ((s : State) (row : ℕ → ℕ) → Carries (callers r) s t row → held ≡ row (r .initial) → Carries (callers r) (left r ends s) n row) → RelabelledAt file a v c old n new
 unfolding relabelledAt
-relabelled-is file a v {letter} {keep} {r} {x} {c} {t} {n} {ends} {old} {new} e1 e2 e3 e4 e5 l leaves = record {
+relabelled-is file a v {letter} {keep} {r} {x} {c} {t} {n} {held} {ends} {old} {new} e1 e2 e3 e4 e5 l is-held leaves = record {
   sized = l .sized;
   other-rows = l .other-rows;
   rule = λ s ready h.
       let r' = arrayOf file a in
       let before = subst (λ (r : ArrayRecord). Carries (callers r) s c (rowOf old a)) (sym e1) h in
-      let after = leaves (relabelled r x (useOfByte letter) keep s) (rowOf new a) (l .rule r s ready before) in
+      let after = leaves (relabelled r x (useOfByte letter) keep s) (rowOf new a) (l .rule r s ready before) is-held in
       let same : left r ends (relabelled r x (useOfByte letter) keep s) ≡ left r' (eqb v (exit file)) (relabelled r' (event file a v) (useOf file a v) (keptOf file a v) s) = rw (e1, e2, e3, letter-use, e4, e5) in
       subst (λ (w : State). Carries (callers r') w n (rowOf new a)) same (subst (λ (r'' : ArrayRecord). Carries (callers r'') (left r ends (relabelled r x (useOfByte letter) keep s)) n (rowOf new a)) e1 after);
 }

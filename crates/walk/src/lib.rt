@@ -7,6 +7,7 @@ use routine::array;
 use routine::array::ArrayRecord;
 use routine::header::Header;
 use sets::Set;
+use sets::WIDTH;
 use state::Carried;
 ghost use mathlib.Core.Path.{_≡_};
 ghost use Prim.Native.Nat.{ℕ, _*_, _≤_, _<_};
@@ -202,7 +203,8 @@ fn relabel(
     let x = event::at(file, h, r, a, v);
     let place = flow::COLUMNS * v + a;
     let labelled = state::relabelled(c, others, a, x, letters[place], kept[place]);
-    state::leave(labelled, r, v == h.vertices - 1)
+    let own = WIDTH * a + r.initial as usize;
+    state::leave(labelled, r, others[own], v == h.vertices - 1)
 }
 
 // The states with the stamps of their current copies in them.

@@ -28,6 +28,8 @@ pub struct Drawn {
     plans_of_every_kind: u64,
     /// N, D, R and W in accepted plans.
     letters: [u64; 4],
+    /// Labels of in arguments in accepted plans.
+    of_in: u64,
     runs: u64,
     accepted_runs: u64,
     runs_of_every_kind: u64,
@@ -36,6 +38,12 @@ pub struct Drawn {
     /// With fewer copies than the machine that copies at every remapping.
     with_fewer: u64,
     without_record: u64,
+    /// To the exit, with an in argument.
+    in_to_exit: u64,
+    /// With one whose last label names another version than the caller's.
+    in_away: u64,
+    /// With one that was copied.
+    in_copied: u64,
 }
 
 impl Drawn {
@@ -66,25 +74,36 @@ impl Drawn {
             if let Some(letter) = b"NDRW".iter().position(|&letter| letter == label[1]) {
                 self.letters[letter] += 1;
             }
+            let kind = routine.array(usize::from(label[0])).kind;
+            self.of_in += u64::from(kind == Kind::In);
         }
     }
 
     fn count_run(&mut self, routine: &Routine, path: &[u8], report: &[u8]) {
         let (heads, records) = report.split_at(6 * routine.array_count());
-        let copies = heads
+        let each = heads
             .chunks_exact(6)
             .map(|head| usize::from(u16::from_le_bytes([head[0], head[1]])));
-        let copies: usize = copies.sum();
+        let each: Vec<usize> = each.collect();
+        let copies: usize = each.iter().sum();
         let arrays: Vec<_> = routine.arrays().collect();
         let path: Vec<usize> = vertices(path).collect();
         let (machines, _) = machine::run(&arrays, routine.action_bytes(), &path);
         let all: usize = machines.iter().map(|machine| machine.count).sum();
+        let at_exit = path.last() == Some(&routine.exit());
         self.accepted_runs += 1;
         self.runs_of_every_kind += u64::from(has_two_of_each_kind(routine));
-        self.at_exit += u64::from(path.last() == Some(&routine.exit()));
+        self.at_exit += u64::from(at_exit);
         self.with_copy += u64::from(copies > 0);
         self.with_fewer += u64::from(copies < all);
         self.without_record += u64::from(records.is_empty());
+        let some_in = |test: &dyn Fn(usize) -> bool| {
+            let mut ins = (0..arrays.len()).filter(|&array| arrays[array].kind == Kind::In);
+            u64::from(at_exit && ins.any(test))
+        };
+        self.in_to_exit += some_in(&|_| true);
+        self.in_away += some_in(&|array| machines[array].held != arrays[array].initial);
+        self.in_copied += some_in(&|array| each[array] > 0);
     }
 
     pub fn add(&mut self, other: &Drawn) {
@@ -94,6 +113,7 @@ impl Drawn {
         for (count, more) in self.letters.iter_mut().zip(other.letters) {
             *count += more;
         }
+        self.of_in += other.of_in;
         self.runs += other.runs;
         self.accepted_runs += other.accepted_runs;
         self.runs_of_every_kind += other.runs_of_every_kind;
@@ -101,6 +121,9 @@ impl Drawn {
         self.with_copy += other.with_copy;
         self.with_fewer += other.with_fewer;
         self.without_record += other.without_record;
+        self.in_to_exit += other.in_to_exit;
+        self.in_away += other.in_away;
+        self.in_copied += other.in_copied;
     }
 
     fn shares(&self) -> Vec<Share> {
@@ -125,6 +148,7 @@ impl Drawn {
             share("labels of accepted plans: D", d, labels, 4),
             share("labels of accepted plans: R", r, labels, 10),
             share("labels of accepted plans: W", w, labels, 10),
+            share("labels of accepted plans: in", self.of_in, labels, 20),
             share("runs drawn: accepted", runs, self.runs, 60),
             share(
                 "runs drawn: two arrays of each kind",
@@ -152,6 +176,14 @@ impl Drawn {
                 runs,
                 1,
             ),
+            share(
+                "accepted runs: to the exit, in argument",
+                self.in_to_exit,
+                runs,
+                30,
+            ),
+            share("  its last label not home", self.in_away, runs, 20),
+            share("  with a copy of it", self.in_copied, runs, 15),
         ]
     }
 

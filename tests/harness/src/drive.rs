@@ -117,6 +117,10 @@ pub fn named() -> Vec<(Draft, Vec<Vec<u16>>)> {
             builder::u(),
             vec![vec![0, 1, 2, 3, 4, 5, 6], vec![0, 1, 2, 3, 4, 5, 6, 7]],
         ),
+        (
+            builder::read_only(),
+            vec![vec![0, 1, 2], vec![0, 1, 2, 3], vec![0]],
+        ),
     ]
 }
 
@@ -252,7 +256,11 @@ impl Driver<'_> {
                     let draft = routines::every_kind(&mut rng, 80);
                     ("plan, two arrays of each kind", draft.bytes())
                 }
-                1 | 2 => {
+                1 => {
+                    let draft = routines::read_only(&mut rng, size);
+                    ("plan, in arguments", draft.bytes())
+                }
+                2 => {
                     let mut draft = routines::program(&mut rng, size);
                     routines::make_acceptable(&mut rng, &mut draft);
                     ("plan, program made acceptable", draft.bytes())
@@ -373,7 +381,12 @@ impl Driver<'_> {
                     let path = path_bytes(&paths::any(&mut rng, &draft));
                     ("run, two arrays of each kind", draft.bytes(), path)
                 }
-                1..=6 => {
+                1 => {
+                    let draft = routines::read_only(&mut rng, size);
+                    let path = path_bytes(&paths::to_exit(&mut rng, &draft));
+                    ("run, in arguments to the exit", draft.bytes(), path)
+                }
+                2..=6 => {
                     let draft = routines::accepted(&mut rng, size);
                     let path = path_bytes(&paths::any(&mut rng, &draft));
                     ("run, path along edges", draft.bytes(), path)

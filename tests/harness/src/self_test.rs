@@ -45,6 +45,18 @@ fn in_parts(mismatch: Box<Mismatch>) -> (Box<Mismatch>, Option<Draft>) {
     (mismatch, draft)
 }
 
+/// A file with its in arguments made inout: the rules label them at the exit, as they did in
+/// arguments before request 1, but with W and not R.
+fn labelled_home(file: &[u8]) -> Vec<u8> {
+    let mut draft = Draft::from_bytes(file).unwrap();
+    for record in &mut draft.arrays {
+        if record[0] == builder::IN {
+            record[0] = builder::INOUT;
+        }
+    }
+    draft.bytes()
+}
+
 fn outcome(number: u64, first: u64, second: u64) -> Outcome {
     Outcome {
         number,
@@ -59,34 +71,36 @@ fn the_oracle_agrees_with_itself() {
     let tally = compare(&ORACLE, FEW).unwrap();
     assert_eq!(tally.missing(), [""; 0], "{tally}");
     // 255 values for each byte, and every length up to eight more but its own: P, Q, S, T, T
-    // without its read and U have 62, 52, 48, 42, 42 and 58 bytes, and paths of 18, 8, 10, 8, 6
-    // and 14; the four further routines that are drawn have 280.
-    let (files, paths, drawn) = (304, 64, 280);
+    // without its read, U and the read-only argument have 62, 52, 48, 42, 42, 58 and 38 bytes, and
+    // paths of 18, 8, 10, 8, 6, 14 and 6; the four further routines that are drawn have 280.
+    let (files, paths, drawn) = (342, 70, 280);
     let four_vertices = 4 * 6 * 6 * (1 << 9);
     let expected = [
         ("plan, all of four vertices", four_vertices),
         ("plan, every byte damaged", 255 * (files + drawn)),
-        ("plan, every length", files + drawn + 10 * 8),
+        ("plan, every length", files + drawn + 11 * 8),
         ("plan, far too long", 3),
         ("plan, graph as drawn", 200),
         ("plan, graph made acceptable", 200),
+        ("plan, in arguments", 200),
         ("plan, limits", 31 + 7),
-        ("plan, named", 6),
+        ("plan, named", 7),
         ("plan, program as drawn", 400),
-        ("plan, program made acceptable", 400),
+        ("plan, program made acceptable", 200),
         ("plan, refused by number", 400),
         ("plan, several faults", 200),
         ("plan, two arrays of each kind", 200),
         ("run, all of four vertices", four_vertices),
         ("run, damaged path", 200),
         ("run, every byte damaged", 255 * files),
-        ("run, every length", files + 6 * 8),
+        ("run, every length", files + 7 * 8),
         ("run, every path byte damaged", 255 * paths),
-        ("run, every path length", paths + 6 * 8),
+        ("run, every path length", paths + 7 * 8),
         ("run, far too long", 6),
+        ("run, in arguments to the exit", 100),
         ("run, limits", 7 + 31),
-        ("run, named", 14),
-        ("run, path along edges", 600),
+        ("run, named", 17),
+        ("run, path along edges", 500),
         ("run, refused routine", 100),
         ("run, two arrays of each kind", 100),
     ];
@@ -111,10 +125,14 @@ fn a_poor_generator() {
             "labels of accepted plans: D",
             "labels of accepted plans: R",
             "labels of accepted plans: W",
+            "labels of accepted plans: in",
             "runs drawn: two arrays of each kind",
             "accepted runs: with a copy",
             "accepted runs: fewer copies than remaps",
             "accepted runs: with a record",
+            "accepted runs: to the exit, in argument",
+            "  its last label not home",
+            "  with a copy of it",
         ]
     );
 }

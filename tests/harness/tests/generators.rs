@@ -69,6 +69,24 @@ fn routines_are_well_formed() {
 }
 
 #[test]
+fn read_only_routines_have_in_arguments() {
+    let seed = SEED + 2;
+    for index in 0..500 {
+        let mut rng = Rng::for_input(seed, index);
+        let size = Size::any(&mut rng);
+        let draft = routines::read_only(&mut rng, size);
+        let input = Input::plan(draft.bytes());
+        let drawn = format!("seed {seed}, index {index}\n{input}");
+        assert_eq!(answer(&input), 1, "{drawn}");
+        let routine = Routine::parse(&input.routine).unwrap();
+        assert!(
+            routine.arrays().any(|array| array.kind == Kind::In),
+            "{drawn}"
+        );
+    }
+}
+
+#[test]
 fn routines_of_four_vertices_differ() {
     let files: HashSet<Vec<u8>> = routines::all_of_four_vertices()
         .map(|draft| draft.bytes())

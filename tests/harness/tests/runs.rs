@@ -58,6 +58,22 @@ fn random_paths() {
     }
 }
 
+/// Full paths with in arguments, whose caller's copy has stamp 65,535 then.
+#[test]
+fn in_arguments_to_the_exit() {
+    let seed = SEED + 2;
+    let mut full = 0;
+    for index in 0..4000 {
+        let mut rng = Rng::for_input(seed, index);
+        let size = Size::any(&mut rng);
+        let draft = routines::read_only(&mut rng, size);
+        let path = paths::to_exit(&mut rng, &draft);
+        full += u64::from(path.last() == Some(&(draft.rows.len() as u16 - 1)));
+        demand_3(&format!("seed {seed}, index {index}"), &draft, &path);
+    }
+    assert!(full > 3000, "{full} full paths");
+}
+
 /// Demand 3 needs neither 20 nor 21.
 #[test]
 fn paths_through_refused_routines() {
@@ -113,4 +129,22 @@ fn invented_records_are_found() {
         assert!(demand3::of_report(&routine, &path, &wrong).is_err());
     }
     assert!(demand3::of_report(&routine, &path, &report[..16]).is_err());
+}
+
+/// A full path's report in which the caller's copy of an in argument is not live, not alone or not
+/// current, or was copied home, is found.
+#[test]
+fn a_lost_callers_copy_is_found() {
+    let file = builder::read_only().bytes();
+    let path = path_bytes(&[0, 1, 2, 3]);
+    let routine = Routine::parse(&file).unwrap();
+    let mut report = [0; 16];
+    assert_eq!(run(&file, &path, &mut report).number, 0);
+    assert_eq!(report[..6], [1, 0, 1, 0, 0, 0]);
+    assert_eq!(demand3::of_report(&routine, &path, &report), Ok(()));
+    for (place, byte) in [(0, 2), (2, 0), (2, 2), (2, 3), (3, 1), (4, 1), (4, 255)] {
+        let mut wrong = report;
+        wrong[place] = byte;
+        assert!(demand3::of_report(&routine, &path, &wrong).is_err());
+    }
 }

@@ -174,6 +174,12 @@ pub fn t_without_read() -> Draft {
     draft
 }
 
+/// The smallest case of request 1: an in argument that is remapped and read, and not remapped
+/// home.
+pub fn read_only() -> Draft {
+    Draft::chain(IN, 2, 0, &[remap(1), READ])
+}
+
 /// Routine U: a define, then a read, under one label.
 pub fn u() -> Draft {
     Draft::chain(

@@ -1,31 +1,43 @@
 //! Demand 3 ("Run", last part): a run held against the machine that copies at every
-//! remapping, over a whole accepted path.
+//! remapping, over a whole accepted path. After a full path also what request 1 promises of the
+//! caller's copy of an in argument.
 
-use crate::labels::Labels;
+use crate::labels::{Labels, refusal_20};
 use crate::machine;
 use crate::record::Record;
 use crate::routine::{Array, Event, Kind, Reference, Routine};
-use crate::run;
+use crate::run::{self, Copies};
 
-/// What a report shows: for each array its copies and current version, and the records.
+/// What a report shows of an array.
+struct Head {
+    copied: usize,
+    live: u16,
+    current: Option<u8>,
+}
+
+/// What a report shows.
 struct Shown {
-    copies: Vec<(usize, Option<u8>)>,
+    heads: Vec<Head>,
     records: Vec<Record>,
 }
 
 /// Demand 3 of the run by the rules, the last stamps included.
-pub fn of_run(routine: &Routine, labels: &impl Labels, path: &[u8]) -> Result<(), String> {
+pub fn of_run(routine: &Routine, labels: &impl Labels, bytes: &[u8]) -> Result<(), String> {
     let mut records = Vec::new();
-    let states = run::walk(routine, labels, path, |record| records.push(record));
+    let states = run::walk(routine, labels, bytes, |record| records.push(record));
     let states = &states[..routine.array_count()];
     let shown = Shown {
-        copies: states
+        heads: states
             .iter()
-            .map(|copies| (usize::from(copies.copied), copies.current))
+            .map(|copies| Head {
+                copied: usize::from(copies.copied),
+                live: copies.live,
+                current: copies.current,
+            })
             .collect(),
         records,
     };
-    let path: Vec<usize> = run::vertices(path).collect();
+    let path: Vec<usize> = run::vertices(bytes).collect();
     check(routine, &path, &shown)?;
 
     let arrays: Vec<Array> = routine.arrays().collect();
@@ -39,6 +51,31 @@ pub fn of_run(routine: &Routine, labels: &impl Labels, path: &[u8]) -> Result<()
             ));
         }
     }
+    if is_full(routine, &path) {
+        let before = &bytes[..2 * (path.len() - 1)];
+        let before = run::walk(routine, labels, before, |_| {});
+        callers_copies(routine, &before, states)?;
+    }
+    Ok(())
+}
+
+/// The last step of a full path counts no copy of an in argument and leaves its caller's stamp.
+/// That is 65,535 where nothing writes an in argument, which 20 asks.
+fn callers_copies(routine: &Routine, before: &[Copies], after: &[Copies]) -> Result<(), String> {
+    let written = refusal_20(routine).is_some();
+    for (array, record) in routine.arrays().enumerate() {
+        let callers = |copies: &[Copies]| copies[array].stamps[usize::from(record.initial)];
+        let (stamp, copied) = (callers(after), after[array].copied);
+        if record.kind != Kind::In {
+            continue;
+        }
+        if copied != before[array].copied {
+            return Err(format!("array {array}: copied at the exit"));
+        }
+        if stamp != callers(before) || !written && stamp != 65_535 {
+            return Err(format!("array {array}: the caller's stamp is {stamp}"));
+        }
+    }
     Ok(())
 }
 
@@ -49,8 +86,13 @@ pub fn of_report(routine: &Routine, path: &[u8], report: &[u8]) -> Result<(), St
     check(routine, &path, &shown)
 }
 
+/// Whether a path ends at the exit.
+fn is_full(routine: &Routine, path: &[usize]) -> bool {
+    path.last() == Some(&routine.exit())
+}
+
 fn comes_home(routine: &Routine, path: &[usize], array: &Array) -> bool {
-    path.last() == Some(&routine.exit()) && matches!(array.kind, Kind::Out | Kind::Inout)
+    is_full(routine, path) && array.kind.is_out_or_inout()
 }
 
 fn check(routine: &Routine, path: &[usize], shown: &Shown) -> Result<(), String> {
@@ -72,9 +114,19 @@ fn check(routine: &Routine, path: &[usize], shown: &Shown) -> Result<(), String>
         }
     }
     for (array, record) in arrays.iter().enumerate() {
-        let (copied, current) = shown.copies[array];
+        let Head {
+            copied,
+            live,
+            current,
+        } = shown.heads[array];
         if comes_home(routine, path, record) && current != Some(record.initial) {
             return Err(format!("array {array}: {current:?} is current at the exit"));
+        }
+        let callers = (1 << record.initial, Some(record.initial));
+        if is_full(routine, path) && record.kind == Kind::In && (live, current) != callers {
+            return Err(format!(
+                "array {array}: live {live:04x}, current {current:?} at the exit, not the caller's"
+            ));
         }
         if copied > machines[array].count {
             return Err(format!(
@@ -106,9 +158,10 @@ fn read(routine: &Routine, report: &[u8]) -> Result<Shown, String> {
         return Err(format!("{} bytes are no report", report.len()));
     }
     let (heads, records) = report.split_at(heads);
-    let copies = heads.as_chunks::<6>().0.iter().map(|head| {
-        let copied = usize::from(u16::from_le_bytes([head[0], head[1]]));
-        (copied, (head[4] != 255).then_some(head[4]))
+    let heads = heads.as_chunks::<6>().0.iter().map(|head| Head {
+        copied: usize::from(u16::from_le_bytes([head[0], head[1]])),
+        live: u16::from_le_bytes([head[2], head[3]]),
+        current: (head[4] != 255).then_some(head[4]),
     });
     let records = records.as_chunks::<10>().0.iter().map(|bytes| {
         let record = Record {
@@ -130,7 +183,7 @@ fn read(routine: &Routine, report: &[u8]) -> Result<Shown, String> {
         }
     });
     Ok(Shown {
-        copies: copies.collect(),
+        heads: heads.collect(),
         records: records.collect::<Result<_, _>>()?,
     })
 }

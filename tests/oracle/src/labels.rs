@@ -27,10 +27,8 @@ impl Use {
         }
     }
 
-    /// Use of an argument's label at the exit.
-    pub fn at_exit(kind: Kind) -> Use {
-        if kind == Kind::In { Use::R } else { Use::W }
-    }
+    /// Use of a label at the exit, which out and inout arguments have.
+    pub const AT_EXIT: Use = Use::W;
 }
 
 /// One label of the plan.

@@ -27,7 +27,8 @@ pub fn run(arrays: &[Array], actions: &[u8], path: &[usize]) -> (Vec<Machine>, V
     for (index, &vertex) in path.iter().enumerate() {
         let step = index as u16 + 1;
         for (array, machine) in machines.iter_mut().enumerate() {
-            let entry_or_exit = vertex == 0 || vertex == exit && arrays[array].kind.is_argument();
+            let kind = arrays[array].kind;
+            let entry_or_exit = vertex == 0 || vertex == exit && kind.is_out_or_inout();
             match Action::from_byte(actions[vertex * arrays.len() + array]) {
                 _ if entry_or_exit => machine.label(arrays[array].initial),
                 Some(Action::Remap(version)) => machine.label(version),

@@ -66,8 +66,10 @@ fn write(routine: &Routine, all: &impl Labels, out: &mut [u8]) -> Result<usize, 
 /// Remap actions, entry labels and exit labels.
 fn label_count(routine: &Routine) -> usize {
     let remaps = routine.action_bytes().iter().filter(|&&byte| byte >= 0x40);
-    let arguments = routine.arrays().filter(|array| array.kind.is_argument());
-    routine.array_count() + remaps.count() + arguments.count()
+    let home = routine
+        .arrays()
+        .filter(|array| array.kind.is_out_or_inout());
+    routine.array_count() + remaps.count() + home.count()
 }
 
 fn put_word(bytes: &mut [u8], value: usize) {

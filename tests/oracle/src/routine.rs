@@ -27,6 +27,12 @@ impl Kind {
         self != Kind::Local
     }
 
+    /// Out and inout arguments take a value out of the routine: the exit labels them, and no
+    /// other array (request 1).
+    pub fn is_out_or_inout(self) -> bool {
+        self == Kind::Out || self == Kind::Inout
+    }
+
     /// In and inout arguments bring a value into the routine.
     pub fn brings_value(self) -> bool {
         self == Kind::In || self == Kind::Inout
@@ -257,7 +263,7 @@ impl<'a> Routine<'a> {
     /// Entry and exit labels ("Labels"), elsewhere the action byte.
     pub fn event(&self, vertex: usize, array: usize) -> Event {
         let record = self.array(array);
-        if vertex == 0 || vertex == self.exit() && record.kind.is_argument() {
+        if vertex == 0 || vertex == self.exit() && record.kind.is_out_or_inout() {
             return Event::Label(record.initial);
         }
         match Action::from_byte(self.row(vertex)[array]) {

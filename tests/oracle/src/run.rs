@@ -34,9 +34,7 @@ impl Copies {
     fn start(array: Array) -> Copies {
         let mut copies = Copies::NONE;
         if array.kind.brings_value() {
-            copies.current = Some(array.initial);
-            copies.live = 1 << array.initial;
-            copies.stamps[usize::from(array.initial)] = 65_535;
+            copies.lose_all_but(array.initial, 65_535);
         }
         copies
     }
@@ -86,12 +84,32 @@ impl Copies {
         record
     }
 
-    /// Local arrays at the exit.
+    /// At the exit: a local array loses all copies, an in argument every copy but the caller's,
+    /// which is then live and current with the stamp that it had; no copy is counted.
+    fn exit(&mut self, array: Array) {
+        match array.kind {
+            Kind::Local => self.lose_all(),
+            Kind::In => {
+                let stamp = self.stamps[usize::from(array.initial)];
+                self.lose_all_but(array.initial, stamp);
+            }
+            Kind::Out | Kind::Inout => {}
+        }
+    }
+
     fn lose_all(&mut self) {
         *self = Copies {
             copied: self.copied,
             ..Copies::NONE
         };
+    }
+
+    /// One version is left, live and current with this stamp.
+    fn lose_all_but(&mut self, version: u8, stamp: u16) {
+        self.lose_all();
+        self.current = Some(version);
+        self.live = 1 << version;
+        self.stamps[usize::from(version)] = stamp;
     }
 
     /// An array's six bytes in the report.
@@ -170,9 +188,7 @@ pub fn walk(
         }
         if vertex == routine.exit() {
             for (copies, array) in all.iter_mut().zip(routine.arrays()) {
-                if array.kind == Kind::Local {
-                    copies.lose_all();
-                }
+                copies.exit(array);
             }
         }
     }

@@ -1,6 +1,6 @@
-//! The cases of document 01 by number, and routine U.
+//! The cases of document 01 by number, routine U, and request 1's smallest case.
 
-use oracle::builder::{self, Draft, LOCAL, path_bytes};
+use oracle::builder::{self, Draft, IN, LOCAL, READ, path_bytes, remap};
 use oracle::listing;
 use oracle::machine;
 use oracle::outcome::Outcome;
@@ -208,4 +208,50 @@ fn routine_u() {
         listing::report(&ran(&builder::u(), &[0, 1, 2, 3, 4, 5, 6]), 1),
         "1 1 0\n2 0 0 2 0 2\n4 0 1 2 0 4\n5 0 1 1 4 0\n7 0 0 1 4 0\n"
     );
+}
+
+/// An in argument that is not mapped home: its label at the exit is gone, and with it the caller's
+/// version in the kept sets before.
+#[test]
+fn read_only_argument() {
+    let draft = builder::read_only();
+    assert_eq!(
+        listing::plan(&planned(&draft)),
+        "vertex array use leave reach keep\n\
+         0 0 N - 0001 0002\n\
+         1 0 R 1 0001 0002\n"
+    );
+    let report = |path: &[u16]| listing::report(&ran(&draft, path), 1);
+    assert_eq!(report(&[0, 1, 2]), "1 2 1\n3 0 1 1 65535 0\n");
+    assert_eq!(report(&[0, 1, 2, 3]), "1 1 0\n3 0 1 1 65535 0\n");
+    assert_eq!(machine_count(&draft, &[0, 1, 2, 3]), 1);
+}
+
+/// The caller's copy of an in argument is live and current after a full path, whether it was live,
+/// dead or current before; other copies are lost.
+#[test]
+fn the_callers_copy() {
+    let draft = |actions: &[u8]| Draft::chain(IN, 3, 1, actions);
+    let head = |actions: &[u8], length: usize| {
+        let path: Vec<u16> = (0..length as u16).collect();
+        let report = listing::report(&ran(&draft(actions), &path), 1);
+        String::from(report.lines().next().unwrap())
+    };
+    let dead = [remap(0), READ];
+    assert_eq!(
+        (head(&dead, 3).as_str(), head(&dead, 4).as_str()),
+        ("1 1 0", "1 2 1")
+    );
+    let current = [READ];
+    assert_eq!(
+        (head(&current, 2).as_str(), head(&current, 3).as_str()),
+        ("0 2 1", "0 2 1")
+    );
+    // Version 1 is still kept at the first label: another branch remaps to it.
+    let mut live = draft(&[remap(0), READ, remap(1), READ]);
+    live.edges.push((2, 5));
+    live.edges.sort_unstable();
+    let heads = |path: &[u16]| listing::report(&ran(&live, path), 1);
+    assert_eq!(heads(&[0, 1, 2]), "1 3 0\n3 0 0 1 65535 0\n");
+    assert_eq!(heads(&[0, 1, 2, 5]), "1 2 1\n3 0 0 1 65535 0\n");
 }

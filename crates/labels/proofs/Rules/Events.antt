@@ -13,7 +13,7 @@ use Rattle.routine.specs.declared.action.Action.{Action}
 use Rattle.routine.specs.declared.action.Action.the-variants.{Nothing, Reference, Remap, Unknown}
 use Rattle.routine.specs.Actions.{actionOf, action, actionByte}
 use Rattle.labels.specs.Events.{event, versionOf, version}
-use Rattle.routine.specs.Arrays.{kind, initial, isArgument}
+use Rattle.routine.specs.Arrays.{kind, initial, isOutOrInout}
 use Rattle.routine.specs.Layout.{entry, exit}
 use Rattle.labels.proofs.Rules.Proper.{Proper}
 use Rattle.sets.specs.Sets.{width}
@@ -40,7 +40,7 @@ action-fits file a v = byte-fits (actionByte file a v)
 pub version-fits : (file : List ℕ) (a : ℕ) → Proper file a → (v : ℕ) → version file a v < width
 unfolding version event action
 version-fits file a proper v =
-    at-cond InWidth (eqb v entry || (eqb v (exit file) && isArgument (kind file a))) (λ _. proper .initial-fits) (λ _. action-fits file a v)
+    at-cond InWidth (eqb v entry || (eqb v (exit file) && isOutOrInout (kind file a))) (λ _. proper .initial-fits) (λ _. action-fits file a v)
 
 -- entry labels every array as a remapping to its initial version
 pub entry-remaps : (file : List ℕ) (a : ℕ) → event file a entry ≡ Remap (initial file a)
@@ -51,7 +51,7 @@ entry-remaps file a = refl
 pub inner-event : (file : List ℕ) (a v : ℕ) → eqb v entry ≡ false → eqb v (exit file) ≡ false → event file a v ≡ action file a v
 unfolding event
 inner-event file a v first last =
-    ap₂ (λ (p q : Bool). cond (p || (q && isArgument (kind file a))) (Remap (initial file a)) (action file a v)) first last
+    ap₂ (λ (p q : Bool). cond (p || (q && isOutOrInout (kind file a))) (Remap (initial file a)) (action file a v)) first last
 
 -- what holds of each kind of event holds of every event
 pub by-event : (P : Action → Type 0) → P Nothing → P (Reference Read) → P (Reference Define) → P (Reference Modify)

@@ -1,15 +1,15 @@
 -- Use, one letter: the computed letter is the one that the rules by segments give, and what a letter rules out on a segment.
 -- Assumes nothing.
 use mathlib.Core.Path.{_≡_, refl, sym, subst}
-use mathlib.Core.Bool.{Bool, true, false, not, _&&_, cond}
+use mathlib.Core.Bool.{Bool, true, false, not, _&&_, cond, true≢false}
 use mathlib.Core.List.{List}
 use mathlib.Core.Logic.{_↔_, Iff·rfl, _⊎_, inl, inr, ⊎-elim}
-use Prim.Native.Nat.{ℕ}
+use Prim.Native.Nat.{ℕ, _<_}
 use lib.Dec.{T, eqb}
 use lib.ListN.{getD}
 use lib.Ieee.Fits.{and-l}
 use Rattle.flow.specs.Paths.{Edge, Path, last, next, Finds}
-use Rattle.flow.proofs.Paths.{weaken, split-first}
+use Rattle.flow.proofs.Paths.{weaken, split-first, path-ends}
 use Rattle.routine.specs.Actions.{isReference, isRemap}
 use Rattle.routine.specs.Layout.{vertices, exit}
 use Rattle.routine.specs.declared.action.Action.{Action}
@@ -17,9 +17,8 @@ use Rattle.sets.specs.Sets.{has}
 use Rattle.labels.specs.declared.Use.{Use}
 use Rattle.labels.specs.declared.Use.the-variants.{N, D, R, W}
 use Rattle.labels.specs.Events.{edgeBytes, event, isRead, isDefine, isWrite, needsValue}
-use Rattle.routine.specs.Arrays.{kind}
 use Rattle.labels.proofs.Rules.Proper.{Proper}
-use Rattle.labels.specs.Uses.{Segment, UndefinedSegment, Meets, MeetsUndefined, Unused, Rule, exitUse, IsUse, useGives, usePasses, useSets, letterOf, useOf}
+use Rattle.labels.specs.Uses.{Segment, UndefinedSegment, Meets, MeetsUndefined, Unused, Rule, IsUse, useGives, usePasses, useSets, letterOf, useOf}
 use Rattle.labels.proofs.Rules.Events.{by-event}
 use Rattle.labels.proofs.Rules.Tables.{solved}
 use Rattle.words.proofs.Tests.{or-left, eqb-iff}
@@ -68,6 +67,10 @@ module _ (file : List ℕ) (a v : ℕ) where
 pub use-reference : (x : Action) → has (useGives x) 0 ≡ isReference x
 unfolding has
 use-reference = by-event (λ x. has (useGives x) 0 ≡ isReference x) refl refl refl refl (λ k. refl) refl
+
+-- a reference is a read or a write
+read-or-write : (x : Action) → T (isReference x) → T (isRead x) ⊎ T (isWrite x)
+read-or-write = by-event (λ x. T (isReference x) → T (isRead x) ⊎ T (isWrite x)) absurd inl inr inr (λ k. absurd) absurd
 
 module _ (file : List ℕ) (a : ℕ) (proper : Proper file a) (v : ℕ) where
   -- the use set of v
@@ -119,7 +122,7 @@ module _ (file : List ℕ) (a : ℕ) (proper : Proper file a) (v : ℕ) where
   unfolding useOf
   use-exact u = go (eqb v (exit file)) (eqb-iff v (exit file))
     where
-      go : (b : Bool) → T b ↔ (v ≡ exit file) → IsUse file a v u ↔ (u ≡ cond b (exitUse (kind file a)) (letterOf useSet))
+      go : (b : Bool) → T b ↔ (v ≡ exit file) → IsUse file a v u ↔ (u ≡ cond b W (letterOf useSet))
       go true f = (λ is. is .at-exit (f .0 tt), λ e. record { at-exit = λ _. e; elsewhere = λ n. absurd (n (f .0 tt)) })
       go false f = (
         λ is. only-one file a v u (letterOf useSet) (is .elsewhere (f .1)) letter-rule,
@@ -133,9 +136,25 @@ module _ (file : List ℕ) (a : ℕ) (proper : Proper file a) (v : ℕ) where
     λ n. sym (use-exact N .0 (record { at-exit = λ e. absurd (before e); elsewhere = λ _. n })),
   )
 
-  -- at the exit: R for in, W for out and inout
-  pub exit-letter : v ≡ exit file → useOf file a v ≡ exitUse (kind file a)
+  -- at the exit: W for out and inout
+  pub exit-letter : v ≡ exit file → useOf file a v ≡ W
   exit-letter = use-exact (useOf file a v) .1 refl .at-exit
+
+  -- an array that no vertex defines or modifies has no letter D
+  pub unwritten-d : ((w : ℕ) → w < vertices file → T (isWrite (event file a w)) → ⊥) → useOf file a v ≡ D → ⊥
+  unwritten-d none e =
+      let is = use-exact D .1 (sym e) in
+      let d = is .elsewhere (λ x. at-exit (is .at-exit x)) in
+      d .0 λ m. ⊎-elim
+      (λ r. ⊎-elim (d .1) never (read-first file a v (record { place = m .place; way = m .way; met = r })))
+      (λ w. never (record { place = m .place; way = m .way; met = w }))
+      (read-or-write (event file a (m .place)) (m .met))
+    where
+      at-exit : D ≡ W → ⊥
+      at-exit e = true≢false (cc)
+
+      never : Meets file a isWrite v → ⊥
+      never m = none (m .place) (path-ends (proper .ends) (m .way) .1) (m .met)
 
   -- ---- what a letter rules out on a segment
 

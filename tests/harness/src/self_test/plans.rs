@@ -1,6 +1,6 @@
 //! Faults of a planner.
 
-use super::planner;
+use super::{labelled_home, planner};
 use crate::check::Difference;
 use oracle::builder;
 use oracle::outcome::Outcome;
@@ -64,6 +64,70 @@ fn define_on_one_branch_only() {
     assert_eq!(draft.arrays.len(), 1);
     assert!(draft.rows.len() <= 4, "{mismatch}");
     assert!(draft.edges.len() <= 3, "{mismatch}");
+}
+
+/// The plan before request 1 of an accepted routine: the exit labels in arguments too, with R.
+fn plan_before_request_1(file: &[u8], out: &mut [u8]) -> Outcome {
+    let home = labelled_home(file);
+    let answer = plan::plan(&home, out);
+    if answer.number == 0 {
+        let routine = Routine::parse(file).unwrap();
+        for (vertex, label) in labels(&home, out) {
+            let kind = routine.array(usize::from(label[0])).kind;
+            if vertex == routine.exit() && kind == Kind::In {
+                label[1] = b'R';
+            }
+        }
+    }
+    answer
+}
+
+fn is_accepted(file: &[u8]) -> bool {
+    plan::plan(file, &mut []).number == 1
+}
+
+#[test]
+fn in_labelled_at_the_exit() {
+    fn faulty(file: &[u8], out: &mut [u8]) -> Outcome {
+        if is_accepted(file) {
+            plan_before_request_1(file, out)
+        } else {
+            plan::plan(file, out)
+        }
+    }
+    let (mismatch, draft) = planner(faulty);
+    assert_eq!(mismatch.fault.difference, Difference::Outcome);
+    let draft = draft.unwrap();
+    assert_eq!((draft.arrays.len(), draft.rows.len()), (1, 2), "{mismatch}");
+    assert_eq!(draft.arrays[0][0], builder::IN, "{mismatch}");
+}
+
+/// The exit's label is left out of the plan, but still brings the caller's version into the kept
+/// sets of the labels before it.
+#[test]
+fn kept_for_a_label_that_is_gone() {
+    fn faulty(file: &[u8], out: &mut [u8]) -> Outcome {
+        let answer = plan::plan(file, out);
+        if answer.number == 0 {
+            let routine = Routine::parse(file).unwrap();
+            let mut before = vec![0; plan::LONGEST_PLAN];
+            plan_before_request_1(file, &mut before);
+            let before = labels(&labelled_home(file), &mut before);
+            let left = before.iter().filter(|(vertex, label)| {
+                let kind = routine.array(usize::from(label[0])).kind;
+                *vertex != routine.exit() || kind != Kind::In
+            });
+            for ((_, label), (_, before)) in labels(file, out).into_iter().zip(left) {
+                label[6..8].copy_from_slice(&before[6..8]);
+            }
+        }
+        answer
+    }
+    let (mismatch, draft) = planner(faulty);
+    assert!(matches!(mismatch.fault.difference, Difference::Written(_)));
+    let draft = draft.unwrap();
+    assert_eq!((draft.arrays.len(), draft.rows.len()), (1, 2), "{mismatch}");
+    assert_eq!(draft.arrays[0][0], builder::IN, "{mismatch}");
 }
 
 /// S's version 0 freed at vertex 2: the kept set of a dropped label is empty.

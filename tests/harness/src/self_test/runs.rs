@@ -1,10 +1,12 @@
 //! Faults of a runner.
 
-use super::{outcome, runner};
+use super::{labelled_home, outcome, runner};
 use crate::check::Difference;
+use crate::library::Run;
+use oracle::builder;
 use oracle::outcome::Outcome;
-use oracle::routine::Routine;
-use oracle::run;
+use oracle::routine::{Kind, Routine};
+use oracle::run::{self, LONGEST_REPORT};
 
 /// One copy too many where there are two or more: more than the machine's.
 #[test]
@@ -60,6 +62,94 @@ fn a_wrong_stamp() {
     assert!(matches!(difference, Difference::Demand3(_)), "{mismatch}");
     assert!(draft.unwrap().rows.len() <= 5, "{mismatch}");
     assert!(mismatch.input.path.unwrap().len() <= 10);
+}
+
+/// Shows `change` the entry of each in argument after a full path, with its initial version and
+/// its entry one step before.
+fn change_callers(
+    file: &[u8],
+    path: &[u8],
+    out: &mut [u8],
+    change: impl Fn(&mut [u8], u8, &[u8]),
+) -> Outcome {
+    let answer = run::run(file, path, out);
+    if answer.number == 0 {
+        let routine = Routine::parse(file).unwrap();
+        let steps = run::vertices(path).len();
+        if run::vertices(path).last() == Some(routine.exit()) {
+            let mut before = vec![0; LONGEST_REPORT];
+            run::run(file, &path[..2 * (steps - 1)], &mut before);
+            let heads = out.chunks_exact_mut(6).zip(before.chunks_exact(6));
+            for (array, (head, before)) in routine.arrays().zip(heads) {
+                if array.kind == Kind::In {
+                    change(head, array.initial, before);
+                }
+            }
+        }
+    }
+    answer
+}
+
+/// The exit does nothing with an in argument, or takes its last copy too.
+#[test]
+fn the_callers_copy_left_dead() {
+    fn as_it_was(file: &[u8], path: &[u8], out: &mut [u8]) -> Outcome {
+        change_callers(file, path, out, |head, _, before| {
+            head.copy_from_slice(before);
+        })
+    }
+    fn current_and_dead(file: &[u8], path: &[u8], out: &mut [u8]) -> Outcome {
+        change_callers(file, path, out, |head, _, _| head[2..4].fill(0))
+    }
+    fn as_a_local_array(file: &[u8], path: &[u8], out: &mut [u8]) -> Outcome {
+        change_callers(file, path, out, |head, _, _| {
+            head[2..5].copy_from_slice(&[0, 0, 255]);
+        })
+    }
+    for (faulty, vertices) in [
+        (as_it_was as Run, 4),
+        (current_and_dead, 2),
+        (as_a_local_array, 2),
+    ] {
+        let (mismatch, draft) = runner(faulty);
+        let Difference::Demand3(reason) = &mismatch.fault.difference else {
+            panic!("{mismatch}");
+        };
+        assert!(reason.ends_with("not the caller's"), "{mismatch}");
+        let draft = draft.unwrap();
+        assert_eq!(draft.arrays[0][0], builder::IN, "{mismatch}");
+        assert_eq!(draft.rows.len(), vertices, "{mismatch}");
+    }
+}
+
+/// A copy home is counted where the caller's copy is not current before the exit.
+#[test]
+fn a_copy_home_counted() {
+    fn faulty(file: &[u8], path: &[u8], out: &mut [u8]) -> Outcome {
+        change_callers(file, path, out, |head, initial, before| {
+            head[0] += u8::from(before[4] != initial);
+        })
+    }
+    let (mismatch, draft) = runner(faulty);
+    let copies = String::from("array 0: 2 copies against 1");
+    assert_eq!(mismatch.fault.difference, Difference::Demand3(copies));
+    assert_eq!(draft.unwrap(), builder::read_only(), "{mismatch}");
+}
+
+/// Runs as before request 1: on an unfinished path the caller's copy stays live for a label that is
+/// gone.
+#[test]
+fn kept_live_for_a_label_that_is_gone() {
+    fn faulty(file: &[u8], path: &[u8], out: &mut [u8]) -> Outcome {
+        match run::run(file, path, &mut []).number {
+            2 => run::run(&labelled_home(file), path, out),
+            _ => run::run(file, path, out),
+        }
+    }
+    let (mismatch, draft) = runner(faulty);
+    assert_eq!(mismatch.fault.difference, Difference::Written(2));
+    assert_eq!(mismatch.fault.found.buffer[..6], [1, 0, 3, 0, 1, 0]);
+    assert_eq!(draft.unwrap(), builder::read_only(), "{mismatch}");
 }
 
 #[test]

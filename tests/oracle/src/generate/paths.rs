@@ -21,12 +21,24 @@ pub fn any(rng: &mut Rng, draft: &Draft) -> Vec<u16> {
     walk(rng, draft, wanted)
 }
 
+/// A path from the entry to the exit, if there is one: it may end elsewhere all the same, but
+/// seldom does.
+pub fn to_exit(rng: &mut Rng, draft: &Draft) -> Vec<u16> {
+    let wanted = any_length(rng);
+    follow(rng, draft, wanted, true)
+}
+
 /// A path from the entry. It keeps away from dead ends until it has the wanted length, if
 /// it can; then it stops, or takes a shortest way to the exit.
 pub fn walk(rng: &mut Rng, draft: &Draft, wanted: usize) -> Vec<u16> {
+    let homewards = rng.chance(60);
+    follow(rng, draft, wanted, homewards)
+}
+
+/// The same; `homewards` says that it is to go on to the exit.
+fn follow(rng: &mut Rng, draft: &Draft, wanted: usize, homewards: bool) -> Vec<u16> {
     let successors = draft.successors();
     let distances = distances_to_exit(draft);
-    let homewards = rng.chance(60);
     let mut path = vec![0];
     while path.len() < MAX_PATH {
         let here = usize::from(path[path.len() - 1]);
@@ -36,7 +48,7 @@ pub fn walk(rng: &mut Rng, draft: &Draft, wanted: usize) -> Vec<u16> {
             if long_enough {
                 homewards && distances[next] < distances[here]
             } else {
-                !successors[next].is_empty()
+                !successors[next].is_empty() && (!homewards || distances[next] != usize::MAX)
             }
         };
         let mut ways: Vec<u16> = successors[here].iter().filter(goes_on).copied().collect();

@@ -291,6 +291,24 @@ pub fn every_kind(rng: &mut Rng, vertices: usize) -> Draft {
     draft
 }
 
+/// A program that is accepted, with an edge into its exit and at least one in argument.
+pub fn read_only(rng: &mut Rng, size: Size) -> Draft {
+    loop {
+        let mut draft = program(rng, size);
+        let exit = draft.rows.len() as u16 - 1;
+        if draft.edges.iter().any(|&(_, to)| to == exit) {
+            let always = rng.below(draft.arrays.len());
+            for (array, record) in draft.arrays.iter_mut().enumerate() {
+                if array == always || rng.chance(30) {
+                    record[0] = IN;
+                }
+            }
+            make_acceptable(rng, &mut draft);
+            return draft;
+        }
+    }
+}
+
 /// Every routine of one array with two versions, initial 0, and four vertices.
 pub fn all_of_four_vertices() -> impl Iterator<Item = Draft> {
     const ACTIONS: [u8; 6] = [0, READ, DEFINE, MODIFY, remap(0), remap(1)];

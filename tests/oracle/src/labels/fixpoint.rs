@@ -274,13 +274,13 @@ impl Solved {
         }
         let initial = sets(routine, |array| 1 << array.initial);
         let all = arrays(routine, |_| true);
-        let arguments = arrays(routine, |array| array.kind.is_argument());
+        let home = arrays(routine, |array| array.kind.is_out_or_inout());
         self.rows[0] = Row::of_labels(all, initial);
-        self.rows[routine.exit()] = Row::of_labels(arguments, initial);
+        self.rows[routine.exit()] = Row::of_labels(home, initial);
     }
 
     /// **Use**: what the segments meet, against the edges.
-    fn find_letters(&mut self, routine: &Routine, graph: &Graph) {
+    fn find_letters(&mut self, graph: &Graph) {
         let rows = &mut self.rows[..graph.vertices];
         let mut arriving = [0; MAX_VERTICES];
         for (met, row) in arriving.iter_mut().zip(rows.iter()) {
@@ -302,9 +302,8 @@ impl Solved {
                 }
             });
         }
-        // At the exit R for in, W for out and inout.
-        let changed = arrays(routine, |array| array.kind != Kind::In);
-        rows[routine.exit()].ahead = meets(!0, changed, !0);
+        // At the exit W for out and inout, which alone have a label there.
+        rows[graph.vertices - 1].ahead = meets(!0, !0, !0);
         for row in rows {
             let [reference, change, old_value, _] = row.ahead.to_le_bytes();
             row.kept = row.labels & reference;
@@ -387,7 +386,7 @@ impl Solved {
     pub fn solve(&mut self, routine: &Routine) {
         let graph = Graph::new(routine);
         self.read_rows(routine);
-        self.find_letters(routine, &graph);
+        self.find_letters(&graph);
         self.find_arriving(routine, &graph);
         self.find_kept(&graph);
     }

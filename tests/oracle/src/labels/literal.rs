@@ -84,7 +84,7 @@ impl View {
     /// **Use** of the label at a vertex.
     fn letter(&self, label: usize) -> Use {
         if label + 1 == self.events.len() {
-            return Use::at_exit(self.array.kind);
+            return Use::AT_EXIT;
         }
         let segments = self.segments(label);
         let some_meets = |references: &[Reference]| {

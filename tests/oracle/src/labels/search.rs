@@ -78,7 +78,7 @@ impl View<'_> {
     /// **Use** of the label at a vertex.
     fn letter(&self, label: usize) -> Use {
         if label + 1 == self.events.len() {
-            return Use::at_exit(self.array.kind);
+            return Use::AT_EXIT;
         }
         let met = self.met(label);
         if !met.reference {
