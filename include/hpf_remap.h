@@ -28,12 +28,14 @@
  *                     the file does not end with its last edge                18                          0
  *     14    both      array: kind above 3, versions not 1 to 16, initial      the byte                    0
  *                     version not below them, or last byte not zero
- *     15    both      action: unknown, version not below the array's          the byte                    0
- *                     versions, not 00 at entry or exit, or a reference
- *                     where an earlier byte of its vertex is a remapping,
- *                     or the other way round
+ *     15    both      action: unknown                                         the byte                    0
  *     16    both      edge: an end not below the vertex count, into the       its first byte              0
  *                     entry, out of the exit, or not above the edge before
+ *     17    both      action: a remapping to a version not below the          the byte                    0
+ *                     array's versions
+ *     18    both      action: not 00 at entry or exit                         the byte                    0
+ *     19    both      action: a reference where an earlier byte of its        the byte                    0
+ *                     vertex is a remapping, or the other way round
  *
  *   The routine's programmer
  *     20    both      an in argument is defined or modified                   vertex                      array
@@ -46,9 +48,11 @@
  *     32    hpf_run   no such edge: none leads to the vertex from the         its index in the path       0
  *                     one before it
  *
- * Checks run from 10 up; 1 and 2 come last. Within one number the lowest byte or index wins, for 20 and 21 the lowest
- * vertex and then the lowest array. A call that answers 0 writes `first` bytes from the buffer's start and leaves the
- * others as they were; any other answer leaves the whole buffer as it was.
+ * Checks run from 10 up; 1 and 2 come last. 17, 18 and 19 are checked with 15, byte by byte and before 16: the first
+ * byte at fault by any of the four is named, by the lowest number if several faults meet in it. Within one number the
+ * lowest byte or index wins, for 20 and 21 the lowest vertex and then the lowest array. A call that answers 0 writes
+ * `first` bytes from the buffer's start and leaves the others as they were; any other answer leaves the whole buffer
+ * as it was.
  */
 #ifndef HPF_REMAP_H
 #define HPF_REMAP_H

@@ -61,12 +61,13 @@ fn idle(name: &[u8], arrays: usize, vertices: usize, edges: usize)
     case(name, file, length);
 }
 
-// Two arrays and three vertices, the middle one with these actions at bytes 28 and 29.
-fn middle_row(name: &[u8], first: u8, second: u8) {
+// Two arrays of one version and three vertices, with these actions at bytes 28 and 29, the middle row, and at 30, in the exit's.
+fn middle_row(name: &[u8], first: u8, second: u8, exit: u8) {
     let mut file = build::zeros();
     let length = build::put_idle(&mut file, 2, 3, 0);
     build::put(&mut file, 28, first);
     build::put(&mut file, 29, second);
+    build::put(&mut file, 30, exit);
     case(name, file, length);
 }
 
@@ -140,25 +141,31 @@ fn initial_versions() {
     p_with_two(b"lowest_byte_first", 21, 1, 18, 4);
 }
 
-// 15: a byte by itself.
+// 15, 17: a byte by itself; both before 16.
 fn action_bytes() {
     p_with(b"action_11", 25, 0x11);
     p_with(b"action_50", 23, 0x50);
     p_with(b"remap_2_of_3", 24, 0x42);
     p_with(b"remap_3_of_3", 24, 0x43);
+    p_with_two(b"17_before_16", 24, 0x43, 58, 7);
 }
 
-// 15: a byte in its row.
-fn rows() {
+// 18: the rows of entry and exit; there too 15 and 17 are lower numbers.
+fn end_rows() {
     p_with(b"entry_row", 22, 0x10);
     p_with(b"exit_row", 29, 0x40);
+    p_with(b"entry_row_unknown", 22, 0x11);
+    p_with(b"entry_row_remap_3_of_3", 22, 0x43);
 }
 
+// 19: a row of both sorts; a lower number in the same byte comes first, one in a later byte does not.
 fn mixed_rows() {
-    middle_row(b"row_of_references", 0x10, 0x30);
-    middle_row(b"row_of_remappings", 0x40, 0x40);
-    middle_row(b"remap_after_read", 0x10, 0x40);
-    middle_row(b"define_after_remap", 0x40, 0x20);
+    middle_row(b"row_of_references", 0x10, 0x30, 0);
+    middle_row(b"row_of_remappings", 0x40, 0x40, 0);
+    middle_row(b"remap_after_read", 0x10, 0x40, 0);
+    middle_row(b"define_after_remap", 0x40, 0x20, 0);
+    middle_row(b"remap_1_of_1_after_read", 0x10, 0x41, 0);
+    middle_row(b"19_before_a_later_15", 0x10, 0x40, 0x11);
 }
 
 // 16: ends, then order.
@@ -188,7 +195,7 @@ pub fn all() {
     versions();
     initial_versions();
     action_bytes();
-    rows();
+    end_rows();
     mixed_rows();
     edge_ends();
     edge_order();

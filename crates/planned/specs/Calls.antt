@@ -24,7 +24,7 @@ unfoldable pub plannerCheck : List ℕ → ℕ → Verdict
 unfolding programmerCheck planLength
 plannerCheck file size = programmerCheck file andThen holds (leb (planLength file) size) (ShortPlanBuffer (planLength file))
 
--- checks run 10 to 16, 20, 21, then for a plan 1
+-- checks run 10 to 19, 20, 21, then for a plan 1
 unfoldable pub planCheck : List ℕ → ℕ → Verdict
 unfolding readCheck plannerCheck
 planCheck file size = readCheck file andThen plannerCheck file size

@@ -1,7 +1,7 @@
 -- Laws of checks in a row, and of scans for the first item that fails.
 -- Assumes nothing.
-use mathlib.Core.Path.{_≡_, refl, sym, ap, _∙_}
-use mathlib.Core.Bool.{Bool, true, false, not, _||_}
+use mathlib.Core.Path.{_≡_, refl, sym, ap, ap₂, _∙_}
+use mathlib.Core.Bool.{Bool, true, false, not, _||_, cond}
 use mathlib.Core.Logic.{_↔_}
 use Prim.Native.Nat.{ℕ, zero, suc, _+_, _-_, _≤_, _<_}
 use native.Mathlib.Nat.{add-zero, zero-add}
@@ -24,23 +24,15 @@ fails rest is e = rw (← is, e)
 pub passes : {v w x rest : Verdict} → v ≡ w → v ≡ Passed → x ≡ rest → x ≡ (w andThen rest)
 passes is e next = rw (← is, e) next
 
-then-assoc : (u v w : Verdict) → ((u andThen v) andThen w) ≡ (u andThen v andThen w)
-then-assoc Passed v w = refl
-then-assoc (Failed r) v w = refl
-
-then-passed : (v : Verdict) → (v andThen Passed) ≡ v
-then-passed Passed = refl
-then-passed (Failed r) = refl
-
 -- a call that writes has passed its checks
 pub written-passed : (v : Verdict) (m : ℕ) {n : ℕ} → written v m ≡ Written n → v ≡ Passed
 written-passed Passed m e = refl
 written-passed (Failed r) m e = cc
 
--- two tests with one refusal are one test
-pub holds-or : (a b : Bool) (r : Refusal) → (holds (not a) r andThen holds (not b) r) ≡ holds (not (a || b)) r
-holds-or true b r = refl
-holds-or false b r = refl
+-- two tests are one, with the refusal of the first that fails
+pub holds-or : (a b : Bool) (r s : Refusal) → (holds (not a) r andThen holds (not b) s) ≡ holds (not (a || b)) (cond a r s)
+holds-or true b r s = refl
+holds-or false b r s = refl
 
 -- ---- what a row that passes tells of its parts
 
@@ -92,6 +84,13 @@ scan-start item n =
     let e : n ≡ n - 0 = omega arith in
     record { within = omega arith; rest = ap (firstFailed item 0) e }
 
+-- ---- scans of the same items are the same
+
+pub scan-alike : {item other : ℕ → Verdict} → ((i : ℕ) → item i ≡ other i) → (from n : ℕ) → firstFailed item from n ≡ firstFailed other from n
+unfolding firstFailed
+scan-alike same from zero = refl
+scan-alike same from (suc n) = ap₂ _andThen_ (same from) (scan-alike same (from + 1) n)
+
 -- ---- what a scan says: it passes exactly if every item passes, and fails with r exactly if the first item that fails does so with r
 
 record FirstAt (item : ℕ → Verdict) (from n : ℕ) (r : Refusal) : Type 0 where
@@ -106,15 +105,6 @@ module _ (item : ℕ → Verdict) where
   next-item from i =
       let e : from + suc i ≡ from + 1 + i = omega arith in
       ap item e
-
-  -- the last item is looked at last
-  pub first-last : (from n : ℕ) → firstFailed item from (suc n) ≡ (firstFailed item from n andThen item (from + n))
-  unfolding firstFailed
-  first-last from zero = rw add-zero (then-passed (item from))
-  first-last from (suc n) =
-      ap (λ (w : Verdict). item from andThen w) (first-last (from + 1) n)
-      ∙ sym (then-assoc (item from) _ _)
-      ∙ ap (λ (w : Verdict). firstFailed item from (suc n) andThen w) (sym (next-item from n))
 
   -- the items from the next one on, as items of their own
   pub shift : (from n : ℕ) → firstFailed item (from + 1) n ≡ firstFailed (λ i. item (i + 1)) from n

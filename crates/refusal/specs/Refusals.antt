@@ -1,9 +1,9 @@
--- Document 01, "Who can cause a refusal": the number and the two places of each reason; the second place is 0 unless said.
+-- Document 01, "Who can cause a refusal", and document 02: the number and the two places of each reason; the second place is 0 unless said.
 -- Assumes nothing.
 use Prim.Native.Nat.{ℕ}
 use Rattle.refusal.specs.declared.Outcome.{Outcome}
 use Rattle.refusal.specs.declared.Refusal.{Refusal}
-use Rattle.refusal.specs.declared.Refusal.the-variants.{TooShort, WrongMark, WrongEdition, CountOutsideLimits, WrongOffset, WrongLength, WrongArrayByte, WrongActionByte, WrongEdge, WritesInArgument, AmbiguousReference, PathLengthOutsideLimits, WrongStart, NoSuchEdge, ShortPlanBuffer, ShortReportBuffer}
+use Rattle.refusal.specs.declared.Refusal.the-variants.{TooShort, WrongMark, WrongEdition, CountOutsideLimits, WrongOffset, WrongLength, WrongArrayByte, UnknownAction, VersionTooLarge, ActionAtEntryOrExit, MixedActions, WrongEdge, WritesInArgument, AmbiguousReference, PathLengthOutsideLimits, WrongStart, NoSuchEdge, ShortPlanBuffer, ShortReportBuffer}
 
 -- a number and two places
 abbrev pub refused : ℕ → ℕ → ℕ → Outcome
@@ -18,7 +18,10 @@ outcomeOf (CountOutsideLimits byte) = refused 12 byte 0
 outcomeOf (WrongOffset byte) = refused 13 byte 0
 outcomeOf WrongLength = refused 13 18 0
 outcomeOf (WrongArrayByte byte) = refused 14 byte 0
-outcomeOf (WrongActionByte byte) = refused 15 byte 0
+outcomeOf (UnknownAction byte) = refused 15 byte 0
+outcomeOf (VersionTooLarge byte) = refused 17 byte 0
+outcomeOf (ActionAtEntryOrExit byte) = refused 18 byte 0
+outcomeOf (MixedActions byte) = refused 19 byte 0
 outcomeOf (WrongEdge byte) = refused 16 byte 0
 outcomeOf (WritesInArgument vertex array) = refused 20 vertex array
 outcomeOf (AmbiguousReference vertex array) = refused 21 vertex array

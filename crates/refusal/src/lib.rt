@@ -1,4 +1,4 @@
-// Refusals: a case for each reason, named for what it says (document 01, "Who can cause a refusal").
+// Refusals: a case for each reason, named for what it says (document 01, "Who can cause a refusal"; document 02, request 2).
 ghost use mathlib.Core.Path.{_≡_};
 ghost use Rattle.refusal.specs.Refusals.{outcomeOf};
 ghost use Rattle.refusal.specs.Replies.{replyOutcome};
@@ -12,7 +12,10 @@ pub enum Refusal {
     WrongOffset { byte: usize },
     WrongLength,
     WrongArrayByte { byte: usize },
-    WrongActionByte { byte: usize },
+    UnknownAction { byte: usize },
+    VersionTooLarge { byte: usize },
+    ActionAtEntryOrExit { byte: usize },
+    MixedActions { byte: usize },
     WrongEdge { byte: usize },
     // The routine's programmer.
     WritesInArgument { vertex: usize, array: usize },
@@ -46,7 +49,7 @@ pub struct Outcome {
     pub second: u64,
 }
 
-// Document 01's number and places of a refusal.
+// The number and the places of a refusal.
 pub fn outcome_of(r: Refusal) -> Outcome
     ensures { λ o. ⌜ o ≡ outcomeOf r ⌝ }
 {
@@ -86,8 +89,23 @@ pub fn outcome_of(r: Refusal) -> Outcome
             first: byte as u64,
             second: 0,
         },
-        Refusal::WrongActionByte { byte } => Outcome {
+        Refusal::UnknownAction { byte } => Outcome {
             number: 15,
+            first: byte as u64,
+            second: 0,
+        },
+        Refusal::VersionTooLarge { byte } => Outcome {
+            number: 17,
+            first: byte as u64,
+            second: 0,
+        },
+        Refusal::ActionAtEntryOrExit { byte } => Outcome {
+            number: 18,
+            first: byte as u64,
+            second: 0,
+        },
+        Refusal::MixedActions { byte } => Outcome {
+            number: 19,
             first: byte as u64,
             second: 0,
         },

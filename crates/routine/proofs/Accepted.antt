@@ -11,7 +11,7 @@ use Rattle.refusal.specs.declared.Reply.{Reply}
 use Rattle.refusal.specs.declared.Reply.the-variants.{Denied}
 use Rattle.refusal.specs.declared.Verdict.{Verdict}
 use Rattle.refusal.specs.declared.Verdict.the-variants.{Passed, Failed}
-use Rattle.routine.specs.Actions.{actionCheck, rowCheck, check15}
+use Rattle.routine.specs.Actions.{actionCheck, rowCheck, actionsCheck}
 use Rattle.routine.specs.Arrays.{arrayCheck, check14}
 use Rattle.refusal.specs.Checks.{_andThen_}
 use Rattle.routine.specs.Edges.{edgeCheck, check16}
@@ -21,10 +21,10 @@ use Rattle.routine.specs.Reader.{Laid, formCheck, bodyCheck, readCheck, 
 use Rattle.routine.proofs.Form.{laid, heads}
 use Rattle.refusal.proofs.Checks.{parts, each-passed, all-passed}
 
--- ---- checks 14 to 16
+-- ---- checks 14 to 19
 
 bodies-passed : (file : List ℕ) → Laid file → bodyCheck file ≡ Passed → WellFormed file
-unfolding bodyCheck check14 check15 check16
+unfolding bodyCheck check14 actionsCheck check16
 bodies-passed file l e =
     record {
       laid = l;
@@ -34,7 +34,7 @@ bodies-passed file l e =
     }
 
 passed-bodies : (file : List ℕ) → WellFormed file → bodyCheck file ≡ Passed
-unfolding bodyCheck check14 check15 check16
+unfolding bodyCheck check14 actionsCheck check16
 passed-bodies file w =
     rw (
       all-passed (arrayCheck file) (arrays file) (w .arrays-pass),
@@ -47,7 +47,7 @@ answered-passed : (v : Verdict) (h g : Header) → answered v h ≡ Routine g �
 answered-passed Passed h g e = (refl, cc)
 answered-passed (Failed r) h g e = (cc, cc)
 
--- a file that passes 10 to 16
+-- a file that passes 10 to 19
 pub passed-read : (file : List ℕ) → readCheck file ≡ Passed → WellFormed file
 unfolding readCheck
 passed-read file e = bodies-passed file (laid file (search parts)) (search parts)

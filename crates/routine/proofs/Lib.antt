@@ -2,3 +2,4 @@ pub mod Form
 pub mod Accepted
 pub mod WellFormed
 pub mod Rows
+pub mod Faults

@@ -1,21 +1,20 @@
--- Check 15 of a byte is one test: the earlier actions of its row count only by whether one is a reference, and whether one is a remapping.
+-- An action byte's faults are one test: the earlier actions of its row count only by whether one is a reference, and whether one is a remapping.
 -- Assumes nothing.
 use mathlib.Core.Path.{_≡_, refl, sym, ap, ap₂, _∙_}
-use mathlib.Core.Bool.{Bool, true, false, not, _||_, cond, and-false, and-comm, or-false}
+use mathlib.Core.Bool.{Bool, true, false, not, _&&_, _||_, cond, and-false, and-comm, or-false}
 use mathlib.Core.List.{List}
 use Prim.Native.Nat.{ℕ, zero, suc}
-use native.Mathlib.Nat.{zero-add}
 use lib.Dec.{eqb}
 use Rattle.words.specs.Sums.{anyBelow}
 use Rattle.routine.specs.declared.action.Action.{Action}
 use Rattle.routine.specs.declared.action.Action.the-variants.{Nothing, Reference, Remap, Unknown}
-use Rattle.refusal.specs.declared.Refusal.the-variants.{WrongActionByte}
-use Rattle.routine.specs.Actions.{action, actionByte, isReference, isRemap, isEntryOrExit, isMixed, wrong, mixedCheck, actionCheck}
+use Rattle.routine.specs.Actions.{action, actionByte, isReference, isRemap, isEntryOrExit, isMixed, isAtEntryOrExit, actionCheck}
 use Rattle.routine.specs.Arrays.{arrayOf}
-use Rattle.refusal.specs.Checks.{_andThen_, firstFailed}
+use Rattle.routine.specs.Faults.{isFaulty, reasonAt}
+use Rattle.refusal.specs.Checks.{holds}
 use Rattle.routine.specs.Layout.{actionAt}
-use Rattle.routine.specs.Rows.{isNothing, isWrong}
-use Rattle.refusal.proofs.Checks.{holds-or, first-last}
+use Rattle.routine.specs.Rows.{isNothing, isWrong, reasonOf}
+use Rattle.refusal.proofs.Checks.{holds-or}
 
 -- one of the first n actions of vertex v passes the test
 abbrev pub among : (Action → Bool) → List ℕ → ℕ → ℕ → Bool
@@ -51,21 +50,31 @@ mixed-more (Reference r) y references remaps = ap₂ _||_ (or-false remaps) (or-
 mixed-more (Remap k) y references remaps = refl
 mixed-more Unknown y references remaps = refl
 
+-- ---- four tests in the order of their numbers
+
 module _ (file : List ℕ) (a v : ℕ) where
-  mixed-among : (n : ℕ) → firstFailed (mixedCheck file a v) 0 n ≡ wrong file a v (isMixed (action file a v) (among isReference file v n) (among isRemap file v n))
-  unfolding firstFailed mixedCheck anyBelow
-  mixed-among zero = rw (mixed-none (action file a v))
+  -- are one test, and the reason is that of the lowest number
+  pub in-order : actionCheck file a v ≡ holds (not (isFaulty file a v)) (reasonAt file a v)
+  unfolding actionCheck
+  in-order = simp holds-or
+
+  mixed-among : (n : ℕ) →
+      anyBelow (λ b. isMixed (action file a v) (isReference (action file b v)) (isRemap (action file b v))) n
+      ≡ isMixed (action file a v) (among isReference file v n) (among isRemap file v n)
+  unfolding anyBelow
+  mixed-among zero = sym (mixed-none (action file a v))
   mixed-among (suc n) =
       let x = action file a v in
       let y = action file n v in
-      let references = among isReference file v n in
-      let remaps = among isRemap file v n in
-      first-last (mixedCheck file a v) 0 n
-      ∙ ap₂ _andThen_ (mixed-among n) (ap (mixedCheck file a v) (zero-add n))
-      ∙ holds-or (isMixed x references remaps) (isMixed x (isReference y) (isRemap y)) (WrongActionByte (actionAt file a v))
-      ∙ ap (wrong file a v) (mixed-more x y references remaps)
+      ap (λ (earlier : Bool). earlier || isMixed x (isReference y) (isRemap y)) (mixed-among n)
+      ∙ mixed-more x y (among isReference file v n) (among isRemap file v n)
 
-  -- four faults, one refusal
+  at-ends : isAtEntryOrExit file a v ≡ (not (isNothing (action file a v)) && isEntryOrExit file v)
+  at-ends =
+      let t = isEntryOrExit file v in
+      ap (λ (z : Bool). t && not z) (sym (nothing-zero file a v)) ∙ and-comm t (not (isNothing (action file a v)))
+
+  -- are one test of the action
   pub one-test : {bad : Bool} {x : Action} {versions : ℕ} {terminal references remaps : Bool} →
       bad ≡ isWrong x versions terminal references remaps →
       x ≡ action file a v →
@@ -73,7 +82,5 @@ module _ (file : List ℕ) (a v : ℕ) where
       terminal ≡ isEntryOrExit file v →
       references ≡ among isReference file v a →
       remaps ≡ among isRemap file v a →
-      actionCheck file a v ≡ wrong file a v bad
-  unfolding actionCheck
-  one-test is e f g h i =
-      rw (is, e, f, g, h, i) (simp (mixed-among a, nothing-zero file a v, and-comm (isEntryOrExit file v) (not (eqb (actionByte file a v) 0)), holds-or))
+      actionCheck file a v ≡ holds (not bad) (reasonOf x versions terminal (actionAt file a v))
+  one-test is e f g h i = rw (is, e, f, g, h, i) (in-order ∙ simp (at-ends, mixed-among a))

@@ -14,13 +14,14 @@ use Rattle.routine.specs.declared.action.Action.the-variants.{Nothing, R
 use Rattle.routine.specs.declared.array.ArrayRecord.{ArrayRecord}
 use Rattle.routine.specs.declared.edge.Edge.{Edge}
 use Rattle.refusal.specs.declared.Verdict.the-variants.{Passed}
-use Rattle.routine.specs.Actions.{actionOf, action, actionByte, isKnown, remapsBelow, isReference, isRemap, isEntryOrExit, isMixed, mixedCheck, actionCheck}
+use Rattle.routine.specs.Actions.{actionOf, action, actionByte, isKnown, remapsBelow, isReference, isRemap, isEntryOrExit, isMixed, actionCheck}
 use Rattle.routine.specs.Arrays.{arrayOf, arrayCheck}
 use Rattle.routine.specs.Edges.{edgeOf, before, rises, edgeCheck}
 use Rattle.routine.specs.Layout.{arrays, vertices, edges}
 use Rattle.routine.specs.Reader.{WellFormed}
-use Rattle.refusal.proofs.Checks.{parts, each-passed}
+use Rattle.refusal.proofs.Checks.{parts}
 use Rattle.sets.specs.Sets.{width}
+use Rattle.words.proofs.Sums.{each-fails}
 
 pub record ArrayLimits (r : ArrayRecord) : Type 0 where
   pub kind-known : r .kind ≤ 3
@@ -51,10 +52,6 @@ zero-nothing : (file : List ℕ) (a v : ℕ) → actionByte file a v ≡ 0 → a
 unfolding action
 zero-nothing file a v e = ap actionOf e
 
-unmixed : (file : List ℕ) (a v b : ℕ) → mixedCheck file a v b ≡ Passed → isMixed (action file a v) (isReference (action file b v)) (isRemap (action file b v)) ≡ false
-unfolding mixedCheck
-unmixed file a v b e = search parts
-
 passed-action : (file : List ℕ) (a v : ℕ) → actionCheck file a v ≡ Passed → PassedAction file a v
 unfolding actionCheck
 passed-action file a v e =
@@ -62,7 +59,7 @@ passed-action file a v e =
       known = search parts;
       below = search parts;
       zero-there = λ r. zero-nothing file a v (eqb-true _ _ (placed _ _ (search parts) r));
-      alike = λ b h. unmixed file a v b (each-passed (mixedCheck file a v) a (search parts) b h);
+      alike = each-fails _ a (search parts);
     }
 
 -- ---- the laws

@@ -8,12 +8,13 @@ use lib.ListN.{getD}
 use Rattle.routine.specs.declared.action.Access.the-variants.{Read, Define, Modify}
 use Rattle.routine.specs.declared.action.Action.{Action}
 use Rattle.routine.specs.declared.action.Action.the-variants.{Nothing, Reference, Remap, Unknown}
-use Rattle.refusal.specs.declared.Refusal.the-variants.{WrongActionByte}
+use Rattle.refusal.specs.declared.Refusal.the-variants.{UnknownAction, VersionTooLarge, ActionAtEntryOrExit, MixedActions}
 use Rattle.refusal.specs.declared.Verdict.{Verdict}
 use Rattle.routine.specs.Arrays.{arrayOf}
 use Rattle.refusal.specs.Checks.{_andThen_, holds, firstFailed}
 use Rattle.routine.specs.Layout.{arrays, vertices, entry, exit, actionAt}
 use Rattle.sets.specs.Sets.{width}
+use Rattle.words.specs.Sums.{anyBelow}
 
 -- 00 nothing, 10 read, 20 define, 30 modify, 40+k remap to version k, k below 16; every other byte is unknown
 unfoldable pub actionOf : ℕ → Action
@@ -71,31 +72,41 @@ isEntryOrExit file v = eqb v entry || eqb v (exit file)
 abbrev pub isMixed : Action → Bool → Bool → Bool
 isMixed x references remaps = isReference x && remaps || isRemap x && references
 
--- refused at its byte
-abbrev pub wrong : List ℕ → ℕ → ℕ → Bool → Verdict
-wrong file a v bad = holds (not bad) (WrongActionByte (actionAt file a v))
+-- ---- the faults of the byte of array a at vertex v, each with its number (document 02, request 2)
 
--- mixed with an earlier action of its row
-unfoldable pub mixedCheck : List ℕ → ℕ → ℕ → ℕ → Verdict
-unfolding action
-mixedCheck file a v earlier =
-    wrong file a v (isMixed (action file a v) (isReference (action file earlier v)) (isRemap (action file earlier v)))
+-- 15: an unknown action
+abbrev pub isUnknown : List ℕ → ℕ → ℕ → Bool
+isUnknown file a v = not (isKnown (action file a v))
 
--- action unknown, version too large, row of entry or exit not zero, or references and remappings in one row
+-- 17: a version not below the array's count
+abbrev pub isTooLarge : List ℕ → ℕ → ℕ → Bool
+isTooLarge file a v = not (remapsBelow (action file a v) (arrayOf file a .versions))
+
+-- 18: a non-zero byte in the entry or exit row
+abbrev pub isAtEntryOrExit : List ℕ → ℕ → ℕ → Bool
+isAtEntryOrExit file a v = isEntryOrExit file v && not (eqb (actionByte file a v) 0)
+
+-- 19: a reference and a remapping in one row, at the later byte
+abbrev pub isMixedInRow : List ℕ → ℕ → ℕ → Bool
+isMixedInRow file a v = anyBelow (λ b. isMixed (action file a v) (isReference (action file b v)) (isRemap (action file b v))) a
+
+-- ---- checks 15, 17, 18 and 19, byte by byte
+
+-- of the faults that meet in a byte the lowest number
 unfoldable pub actionCheck : List ℕ → ℕ → ℕ → Verdict
-unfolding action arrayOf firstFailed mixedCheck
+unfolding action arrayOf anyBelow
 actionCheck file a v =
-    wrong file a v (not (isKnown (action file a v)))
-    andThen wrong file a v (not (remapsBelow (action file a v) (arrayOf file a .versions)))
-    andThen wrong file a v (isEntryOrExit file v && not (eqb (actionByte file a v) 0))
-    andThen firstFailed (mixedCheck file a v) 0 a
+    holds (not (isUnknown file a v)) (UnknownAction (actionAt file a v))
+    andThen holds (not (isTooLarge file a v)) (VersionTooLarge (actionAt file a v))
+    andThen holds (not (isAtEntryOrExit file a v)) (ActionAtEntryOrExit (actionAt file a v))
+    andThen holds (not (isMixedInRow file a v)) (MixedActions (actionAt file a v))
 
 -- the first wrong byte of a vertex's row
 unfoldable pub rowCheck : List ℕ → ℕ → Verdict
 unfolding actionCheck firstFailed
 rowCheck file v = firstFailed (λ a. actionCheck file a v) 0 (arrays file)
 
--- 15: action byte, first by vertex, then by array
-unfoldable pub check15 : List ℕ → Verdict
+-- the first wrong action byte, first by vertex, then by array
+unfoldable pub actionsCheck : List ℕ → Verdict
 unfolding rowCheck firstFailed
-check15 file = firstFailed (rowCheck file) 0 (vertices file)
+actionsCheck file = firstFailed (rowCheck file) 0 (vertices file)

@@ -11,7 +11,7 @@ use Rattle.refusal.specs.declared.Reply.{Reply}
 use Rattle.refusal.specs.declared.Reply.the-variants.{Written, Denied}
 use Rattle.refusal.specs.declared.Verdict.{Verdict}
 use Rattle.refusal.specs.declared.Verdict.the-variants.{Passed, Failed}
-use Rattle.routine.specs.Actions.{actionCheck, check15}
+use Rattle.routine.specs.Actions.{actionCheck, actionsCheck}
 use Rattle.routine.specs.Arrays.{arrayCheck, check14}
 use Rattle.refusal.specs.Checks.{_andThen_}
 use Rattle.routine.specs.Edges.{edgeCheck, check16}
@@ -22,12 +22,12 @@ unfoldable pub formCheck : List ℕ → Verdict
 unfolding check10 check11 check12 check13
 formCheck file = check10 file andThen check11 file andThen check12 file andThen check13 file
 
--- 14 to 16
+-- 14, then 15 with 17, 18 and 19, then 16
 unfoldable pub bodyCheck : List ℕ → Verdict
-unfolding check14 check15 check16
-bodyCheck file = check14 file andThen check15 file andThen check16 file
+unfolding check14 actionsCheck check16
+bodyCheck file = check14 file andThen actionsCheck file andThen check16 file
 
--- checks run 10 to 16
+-- 10 to 19
 unfoldable pub readCheck : List ℕ → Verdict
 unfolding formCheck bodyCheck
 readCheck file = formCheck file andThen bodyCheck file
@@ -63,7 +63,7 @@ pub record Laid (file : List ℕ) : Type 0 where
   pub limits : Limits (headerOf file)
   pub ends : length file ≡ endAt file
 
--- what checks 10 to 16 leave
+-- what checks 10 to 19 leave
 pub record WellFormed (file : List ℕ) : Type 0 where
   pub laid : Laid file
   pub arrays-pass : (a : ℕ) → a < arrays file → arrayCheck file a ≡ Passed

@@ -1,4 +1,4 @@
-// Action bytes, one for each vertex and array; check 15 (document 01, "Routine file").
+// Action bytes, one for each vertex and array (document 01, "Routine file"); checks 15, 17, 18 and 19 (document 02, request 2).
 use crate::array;
 use crate::header::Header;
 use refusal::Refusal;
@@ -8,10 +8,11 @@ ghost use mathlib.Core.Bool.{_||_};
 ghost use Prim.Native.Nat.{_<_, _-_};
 ghost use lib.Dec.{eqb};
 ghost use lib.ListN.{length};
-ghost use Rattle.routine.specs.Actions.{actionOf, action, isReference, isRemap, rowCheck, check15};
+ghost use Rattle.routine.specs.Actions.{actionOf, action, isReference, isRemap, rowCheck, actionsCheck};
+ghost use Rattle.routine.specs.Faults.{FourFaults};
 ghost use Rattle.routine.specs.Layout.{arrays, vertices, actionAt};
 ghost use Rattle.routine.specs.Reader.{Heads, Limits};
-ghost use Rattle.routine.specs.Rows.{isWrong};
+ghost use Rattle.routine.specs.Rows.{isWrong, knownReason, reasonOf};
 
 // A reference: a read, a define (all of it rewritten, nothing read) or a modify (old value needed).
 pub enum Access {
@@ -64,7 +65,7 @@ impl Action {
         }
     }
 
-    // Whether check 15 refuses it: `terminal` in the row of the entry or the exit, `references` and `remaps` if one stands earlier in the row.
+    // Whether it is at fault: `terminal` in the row of the entry or the exit, `references` and `remaps` if one stands earlier in the row.
     fn is_wrong(self, versions: u8, terminal: bool, references: bool, remaps: bool) -> bool
         ensures { λ r. ⌜ r ≡ isWrong self versions terminal references remaps ⌝ }
     {
@@ -75,6 +76,31 @@ impl Action {
             Action::Unknown => true,
         }
     }
+
+    // Why it is, at this byte: the lowest number of its faults. 00 is never at fault.
+    fn reason(self, versions: u8, terminal: bool, byte: usize) -> Refusal
+        ensures { λ r. ⌜ r ≡ reasonOf self versions terminal byte ⌝ }
+    {
+        match self {
+            Action::Unknown => Refusal::UnknownAction { byte },
+            Action::Remap(k) => known_reason(k >= versions, terminal, byte),
+            Action::Reference(_) => known_reason(false, terminal, byte),
+            Action::Nothing => known_reason(false, false, byte),
+        }
+    }
+}
+
+// The same of a known action: first whether its version is too large, then whether it stands in the row of the entry or the exit.
+fn known_reason(large: bool, terminal: bool, byte: usize) -> Refusal
+    ensures { λ r. ⌜ r ≡ knownReason large terminal byte ⌝ }
+{
+    if large {
+        return Refusal::VersionTooLarge { byte };
+    }
+    if terminal {
+        return Refusal::ActionAtEntryOrExit { byte };
+    }
+    Refusal::MixedActions { byte }
 }
 
 // Where the action byte of array a at vertex v stands.
@@ -123,9 +149,7 @@ fn check_row(file: &[u8], h: Header, v: usize) -> Verdict
         let versions = array::record_of(file, a).versions;
         let wrong = x.is_wrong(versions, terminal, references, remaps);
         if wrong {
-            return Verdict::Failed(Refusal::WrongActionByte {
-                byte: place(file, h, a, v),
-            });
+            return Verdict::Failed(x.reason(versions, terminal, place(file, h, a, v)));
         }
         references = references | x.is_reference();
         remaps = remaps | x.is_remap();
@@ -134,10 +158,11 @@ fn check_row(file: &[u8], h: Header, v: usize) -> Verdict
     Verdict::Passed
 }
 
-// Check 15.
+// All action bytes, and what request 2 claims of the answer.
 pub fn check_all(file: &[u8], h: Header) -> Verdict
     requires { ⌜ Heads h (now file) ⌝ }
-    ensures { λ r. ⌜ r ≡ check15 (now (file .entry)) ⌝ }
+    ensures { λ r. ⌜ r ≡ actionsCheck (now (file .entry)) ⌝ }
+    ensures { λ r. ⌜ FourFaults (now (file .entry)) ⌝ }
 {
     let n = h.vertices;
     let mut v = 0;

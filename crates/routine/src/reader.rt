@@ -1,4 +1,4 @@
-// The reader: checks 10 to 16 in this order (document 01, "Who can cause a refusal").
+// The reader: checks 10 to 14, then 15 with 17, 18 and 19, then 16 (document 01, "Who can cause a refusal"; document 02, request 2).
 use crate::action;
 use crate::array;
 use crate::edge;
@@ -16,7 +16,7 @@ pub enum Answer {
     Refused(Refusal),
 }
 
-// Checks 14 to 16.
+// Checks 14, 15 with 17 to 19, and 16.
 fn check_bodies(file: &[u8], h: Header) -> Verdict
     requires { ⌜ Heads h (now file) ⌝ }
     ensures { λ r. ⌜ r ≡ bodyCheck (now (file .entry)) ⌝ }

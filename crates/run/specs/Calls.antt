@@ -26,7 +26,7 @@ runnerCheck file path size =
     andThen pathCheck file path
     andThen holds (leb (reportLength file path) size) (ShortReportBuffer (reportLength file path))
 
--- checks run 10 to 16, 20, 21, for a run 30 to 32, then 2
+-- checks run 10 to 19, 20, 21, for a run 30 to 32, then 2
 unfoldable pub runCheck : List ℕ → List ℕ → ℕ → Verdict
 unfolding readCheck runnerCheck
 runCheck file path size = readCheck file andThen runnerCheck file path size

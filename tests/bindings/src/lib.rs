@@ -22,14 +22,39 @@ pub const LARGEST_REPORT: usize = 327_648;
 pub const LONGEST_PATH: usize = 4096;
 
 /// What a call answers: number 0 and the length written, or a refusal and its two places.
+///
+/// Checks run in this order, 15 and 17 to 19 together, byte by byte: of the faults that meet in the
+/// first faulty byte the lowest number is given. Elsewhere the lowest byte or index wins.
+///
+/// | number | why | first place |
+/// |---|---|---|
+/// | 10 | the routine has under 18 bytes, or a wrong mark | the length, or 0 |
+/// | 11 | its edition is not 1 | 4 |
+/// | 12 | a count is outside its limits | its byte |
+/// | 13 | an offset is wrong, or the length | its byte, or 18 |
+/// | 14 | an array's byte | it |
+/// | 15 | an unknown action | its byte |
+/// | 17 | a version is not below its array's count | its byte |
+/// | 18 | the row of entry or exit has a byte that is not zero | it |
+/// | 19 | a row has references and remappings | the first byte that differs from an earlier one |
+/// | 16 | an edge | its first byte |
+/// | 20 | an in argument is defined or modified | vertex; array |
+/// | 21 | a reference is ambiguous | vertex; array |
+/// | 1 | the plan's buffer is too short | the length that is needed |
+/// | 30 | a path of no vertex, or of more than 4,096 | how many |
+/// | 31 | a path does not start at the entry | 0 |
+/// | 32 | a step of a path is no edge | index of the vertex arrived at |
+/// | 2 | the report's buffer is too short | the length that is needed |
+///
+/// 1 is answered by [`plan`] alone, 30, 31, 32 and 2 by [`run`] alone.
 #[repr(C)]
 #[derive(Clone, Copy, Debug, PartialEq, Eq)]
 pub struct Outcome {
-    /// 0 for success; else who can cause it and why, by the header's table.
+    /// 0 for success, else a refusal.
     pub number: u64,
     /// The length written, or the refusal's first place.
     pub first: u64,
-    /// The refusal's second place, 0 unless the header says so.
+    /// The array for 20 and 21, else 0.
     pub second: u64,
 }
 

@@ -244,7 +244,8 @@ impl Driver<'_> {
             let inputs = damage::every_length(&file).map(Input::plan);
             self.try_all("plan, every length", inputs)?;
         }
-        Ok(())
+        let inputs = damage::all_of_two_rows().map(Input::plan);
+        self.try_all("plan, all of two rows", inputs)
     }
 
     fn random_plans(&mut self) -> Compared {

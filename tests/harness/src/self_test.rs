@@ -77,6 +77,7 @@ fn the_oracle_agrees_with_itself() {
     let four_vertices = 4 * 6 * 6 * (1 << 9);
     let expected = [
         ("plan, all of four vertices", four_vertices),
+        ("plan, all of two rows", 3 * 8u64.pow(4)),
         ("plan, every byte damaged", 255 * (files + drawn)),
         ("plan, every length", files + drawn + 11 * 8),
         ("plan, far too long", 3),

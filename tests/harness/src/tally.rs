@@ -8,8 +8,10 @@ use std::collections::BTreeMap;
 use std::fmt;
 
 /// Every answer of a call, 0 being success.
-const PLAN_ANSWERS: [u64; 11] = [0, 1, 10, 11, 12, 13, 14, 15, 16, 20, 21];
-const RUN_ANSWERS: [u64; 14] = [0, 2, 10, 11, 12, 13, 14, 15, 16, 20, 21, 30, 31, 32];
+const PLAN_ANSWERS: [u64; 14] = [0, 1, 10, 11, 12, 13, 14, 15, 16, 17, 18, 19, 20, 21];
+const RUN_ANSWERS: [u64; 17] = [
+    0, 2, 10, 11, 12, 13, 14, 15, 16, 17, 18, 19, 20, 21, 30, 31, 32,
+];
 
 #[derive(Clone, Debug, Default)]
 pub struct Tally {

@@ -1,6 +1,6 @@
-//! An implementation of document 01, the users' specification, with request 1 of document 02, in
-//! Rust, written from their words and from the readings in docs/DECISIONS.md, to hold the verified
-//! library against.
+//! An implementation of document 01, the users' specification, with requests 1 and 2 of document
+//! 02, in Rust, written from their words and from the readings in docs/DECISIONS.md, to hold the
+//! verified library against.
 //!
 //! `plan::plan` and `run::run` are the two calls. `labels` has the label rules three
 //! times: by listing paths, by searching explicit path states, and as fast data flow.

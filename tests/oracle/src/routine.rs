@@ -1,4 +1,4 @@
-//! The routine file ("Routine file") and refusals 10 to 16.
+//! The routine file ("Routine file") and refusals 10 to 19.
 
 use crate::outcome::Refusal;
 
@@ -113,12 +113,23 @@ pub struct Routine<'a> {
     edges: &'a [[u8; 4]],
 }
 
+/// The number of an action byte that has a fault, the lowest of those that meet in it: 15 unknown,
+/// 17 a version not below the array's count, 18 not zero in the row of entry or exit, 19 mixed.
+fn action_fault(byte: u8, versions: u8, zero_row: bool) -> u64 {
+    match Action::from_byte(byte) {
+        None => 15,
+        Some(Action::Remap(version)) if version >= versions => 17,
+        Some(_) if zero_row => 18,
+        Some(_) => 19,
+    }
+}
+
 fn word(bytes: &[u8], at: usize) -> usize {
     usize::from(u16::from_le_bytes([bytes[at], bytes[at + 1]]))
 }
 
 impl<'a> Routine<'a> {
-    /// The routine in a file, or the first refusal of 10 to 16.
+    /// The routine in a file, or the first refusal of 10 to 19: 17 to 19 are checked with 15.
     pub fn parse(file: &'a [u8]) -> Result<Routine<'a>, Refusal> {
         if file.len() < HEAD {
             return Err(Refusal::at(10, file.len()));
@@ -159,8 +170,8 @@ impl<'a> Routine<'a> {
         if let Some(byte) = routine.bad_array_byte() {
             return Err(Refusal::at(14, HEAD + byte));
         }
-        if let Some(byte) = routine.bad_action_byte() {
-            return Err(Refusal::at(15, first_row + byte));
+        if let Some((number, byte)) = routine.bad_action_byte() {
+            return Err(Refusal::at(number, first_row + byte));
         }
         if let Some(edge) = routine.bad_edge() {
             return Err(Refusal::at(16, first_edge + 4 * edge));
@@ -183,7 +194,8 @@ impl<'a> Routine<'a> {
         None
     }
 
-    fn bad_action_byte(&self) -> Option<usize> {
+    /// The first action byte with a fault, and the fault's number.
+    fn bad_action_byte(&self) -> Option<(u64, usize)> {
         let arrays = self.arrays.len();
         for (vertex, row) in self.actions.chunks_exact(arrays).enumerate() {
             let zero_row = vertex == 0 || vertex == self.exit();
@@ -193,7 +205,8 @@ impl<'a> Routine<'a> {
                 let unknown_or_mixed = kinds > REMAP;
                 let version_too_large = byte >= 0x40 + record[1];
                 if unknown_or_mixed | version_too_large | (zero_row & (byte != 0)) {
-                    return Some(vertex * arrays + array);
+                    let number = action_fault(byte, record[1], zero_row);
+                    return Some((number, vertex * arrays + array));
                 }
             }
         }

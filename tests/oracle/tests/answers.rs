@@ -1,10 +1,13 @@
 //! Refusals, places, buffers and limits.
 
 use oracle::builder::{self, DEFINE, Draft, IN, LOCAL, READ, path_bytes, remap};
-use oracle::generate::limits;
+use oracle::generate::rng::Rng;
+use oracle::generate::routines::{self, Size};
+use oracle::generate::{damage, limits};
 use oracle::outcome::Outcome;
 use oracle::plan::plan;
 use oracle::run::run;
+use std::collections::BTreeSet;
 
 fn plan_answer(file: &[u8]) -> (u64, u64, u64) {
     let mut out = vec![0x5a; 20_000];
@@ -71,19 +74,148 @@ fn array_bytes() {
 
 #[test]
 fn action_bytes() {
-    assert_eq!(p_with(|file| file[22] = 0x10), (15, 22, 0));
-    assert_eq!(p_with(|file| file[29] = 0x40), (15, 29, 0));
+    assert_eq!(p_with(|file| file[22] = 0x10), (18, 22, 0));
+    assert_eq!(p_with(|file| file[29] = 0x40), (18, 29, 0));
     assert_eq!(p_with(|file| file[23] = 0x50), (15, 23, 0));
-    assert_eq!(p_with(|file| file[24] = 0x43), (15, 24, 0));
+    assert_eq!(p_with(|file| file[24] = 0x43), (17, 24, 0));
     let mut mixed = Draft {
         arrays: vec![[LOCAL, 2, 0, 0]; 3],
         rows: vec![vec![0; 3]; 3],
         edges: vec![(0, 1), (1, 2)],
     };
     mixed.rows[1] = vec![READ, 0, remap(1)];
-    assert_eq!(plan_answer(&mixed.bytes()), (15, 18 + 12 + 3 + 2, 0));
+    assert_eq!(plan_answer(&mixed.bytes()), (19, 18 + 12 + 3 + 2, 0));
     mixed.rows[1] = vec![remap(1), DEFINE, READ];
-    assert_eq!(plan_answer(&mixed.bytes()), (15, 18 + 12 + 3 + 1, 0));
+    assert_eq!(plan_answer(&mixed.bytes()), (19, 18 + 12 + 3 + 1, 0));
+}
+
+/// The first faulty byte over 15, 17, 18 and 19; of the faults that meet in it the lowest number.
+#[test]
+fn several_faults_of_action_bytes() {
+    // Two arrays, of one version and of two: the rows start at bytes 26, 28, 30 and 32.
+    let answer = |rows: [[u8; 2]; 4]| {
+        let draft = Draft {
+            arrays: vec![[LOCAL, 1, 0, 0], [IN, 2, 0, 0]],
+            rows: rows.map(|row| row.to_vec()).to_vec(),
+            edges: vec![(0, 1), (1, 2), (2, 3), (3, 3)],
+        };
+        plan_answer(&draft.bytes())
+    };
+    let (none, mixed) = ([0, 0], [READ, remap(0)]);
+    // Unknown, or a version too large, in the rows of entry and exit.
+    assert_eq!(answer([[0, 0xff], none, none, none]), (15, 27, 0));
+    assert_eq!(answer([none, none, none, [0xff, 0]]), (15, 32, 0));
+    assert_eq!(answer([[remap(1), 0], none, none, none]), (17, 26, 0));
+    assert_eq!(answer([none, none, none, [0, remap(2)]]), (17, 33, 0));
+    assert_eq!(answer([[0, remap(1)], none, none, none]), (18, 27, 0));
+    // Mixed there: the first byte is not zero.
+    assert_eq!(answer([mixed, none, none, none]), (18, 26, 0));
+    assert_eq!(answer([none, none, none, mixed]), (18, 32, 0));
+    // Mixed and too large; too large, mixed later.
+    assert_eq!(answer([none, [READ, remap(2)], none, none]), (17, 29, 0));
+    assert_eq!(answer([none, [remap(1), READ], none, none]), (17, 28, 0));
+    // Mixed, and an unknown byte after it, before it and beside it.
+    assert_eq!(answer([none, mixed, [0xff, 0], none]), (19, 29, 0));
+    assert_eq!(answer([none, [0xff, 0], mixed, none]), (15, 28, 0));
+    assert_eq!(answer([none, [READ, 0xff], none, none]), (15, 29, 0));
+    // A row's kind is its own; the edge out of the exit is looked at last.
+    assert_eq!(answer([none, [READ, 0], [0, remap(0)], none]), (16, 46, 0));
+}
+
+/// The faults of each action byte with its place, each asked by itself in the words of request 2.
+fn faults(draft: &Draft) -> Vec<(usize, Vec<u64>)> {
+    let is_reference = |byte: u8| matches!(byte, 0x10 | 0x20 | 0x30);
+    let is_remap = |byte: u8| matches!(byte, 0x40..=0x4f);
+    let mut all = Vec::new();
+    for (vertex, row) in draft.rows.iter().enumerate() {
+        for (array, &byte) in row.iter().enumerate() {
+            let place = 18 + 4 * draft.arrays.len() + vertex * row.len() + array;
+            let unknown = byte != 0 && !is_reference(byte) && !is_remap(byte);
+            let too_large = is_remap(byte) && byte - 0x40 >= draft.arrays[array][1];
+            let at_entry_or_exit = byte != 0 && (vertex == 0 || vertex == draft.rows.len() - 1);
+            let mixed = row[..array].iter().any(|&earlier| {
+                is_reference(earlier) && is_remap(byte) || is_remap(earlier) && is_reference(byte)
+            });
+            let numbers = [
+                (15, unknown),
+                (17, too_large),
+                (18, at_entry_or_exit),
+                (19, mixed),
+            ];
+            let met = numbers.iter().filter(|(_, fault)| *fault);
+            let met: Vec<u64> = met.map(|&(number, _)| number).collect();
+            if !met.is_empty() {
+                all.push((place, met));
+            }
+        }
+    }
+    all
+}
+
+/// The answer on a routine whose fault, if there is one, is in its action bytes.
+fn is_answered_by_words(draft: &Draft) {
+    let file = draft.bytes();
+    let (number, first, second) = plan_answer(&file);
+    match faults(draft).first() {
+        Some((place, met)) => {
+            assert_eq!(
+                (number, first, second),
+                (met[0], *place as u64, 0),
+                "{draft:?}"
+            );
+        }
+        None => assert!(matches!(number, 0 | 20 | 21), "{number} {draft:?}"),
+    }
+}
+
+/// All faults of action bytes, all that meet in one byte, and all orders of two.
+#[test]
+fn action_bytes_by_words() {
+    let (mut meetings, mut orders) = (BTreeSet::new(), BTreeSet::new());
+    for file in damage::all_of_two_rows() {
+        let draft = Draft::from_bytes(&file).unwrap();
+        is_answered_by_words(&draft);
+        if let [(_, first), later @ ..] = &faults(&draft)[..] {
+            meetings.insert(first.clone());
+            orders.extend(later.iter().map(|(_, later)| (first[0], later[0])));
+        }
+    }
+    let met: [&[u64]; 7] = [&[15], &[15, 18], &[17], &[17, 18], &[17, 19], &[18], &[19]];
+    assert_eq!(meetings, met.iter().map(|met| met.to_vec()).collect());
+    let numbers = [15, 17, 18, 19];
+    for first in numbers {
+        for later in numbers {
+            assert!(orders.contains(&(first, later)), "{first} before {later}");
+        }
+    }
+}
+
+/// Rows of any bytes.
+#[test]
+fn any_action_bytes_by_words() {
+    let mut answered = BTreeSet::new();
+    for index in 0..20_000 {
+        let mut rng = Rng::for_input(7, index);
+        let size = Size {
+            vertices: rng.between(2, 8),
+            arrays: rng.between(1, 8),
+            versions: rng.between(1, 16),
+        };
+        let mut draft = routines::any_graph(&mut rng, size);
+        for _ in 0..rng.between(1, 6) {
+            let vertex = rng.below(draft.rows.len());
+            let array = rng.below(draft.arrays.len());
+            let remap = remap(rng.below(16) as u8);
+            let byte = rng.byte();
+            draft.rows[vertex][array] = rng.pick(&[byte, remap, READ, DEFINE]);
+        }
+        is_answered_by_words(&draft);
+        answered.insert(plan_answer(&draft.bytes()).0);
+    }
+    assert!(
+        answered.is_superset(&[0, 15, 17, 18, 19].into()),
+        "{answered:?}"
+    );
 }
 
 #[test]

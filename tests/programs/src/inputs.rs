@@ -74,7 +74,7 @@ fn accepted_plans(seed: u64) -> Vec<Input> {
 }
 
 fn refused_plans(seed: u64) -> Vec<Input> {
-    drawn(!seed, 180, |rng, index| {
+    drawn(!seed, 240, |rng, index| {
         let numbers = damage::FILE_REFUSALS;
         let number = numbers[index as usize % numbers.len()];
         Input::plan(damage::refused(rng, number))
@@ -195,7 +195,7 @@ fn damaged_paths(seed: u64) -> Vec<Input> {
 }
 
 fn refused_runs(seed: u64) -> Vec<Input> {
-    drawn(seed, 90, |rng, index| {
+    drawn(seed, 120, |rng, index| {
         let numbers = damage::FILE_REFUSALS;
         let number = numbers[index as usize % numbers.len()];
         let file = damage::refused(rng, number);

@@ -1,6 +1,8 @@
 -- `refusal::outcome_of` meets its contract, case by case.
 -- Assumes nothing.
+use mathlib.Core.Path.{sym, ap}
 use borrow.Author.Needs.{needs}
+use Rattle.refusal.specs.Refusals.{outcomeOf}
 use Rattle.refusal.proofs.outcome_of.Statement.{statement}
 use Rattle.refusal.proofs.outcome_of.Tie as tie
 
@@ -40,9 +42,6 @@ enum-known-r-8 c = search needs
 enum-known-r-9 : tie.Need-enum-known-r-9
 enum-known-r-9 c = search needs
 
-enum-told-4 : tie.Need-enum-told-4
-enum-told-4 c = search needs
-
 enum-known-r-10 : tie.Need-enum-known-r-10
 enum-known-r-10 c = search needs
 
@@ -52,53 +51,74 @@ enum-known-r-11 c = search needs
 enum-known-r-12 : tie.Need-enum-known-r-12
 enum-known-r-12 c = search needs
 
+enum-told-4 : tie.Need-enum-told-4
+enum-told-4 c = search needs
+
+enum-known-r-13 : tie.Need-enum-known-r-13
+enum-known-r-13 c = search needs
+
+enum-known-r-14 : tie.Need-enum-known-r-14
+enum-known-r-14 c = search needs
+
+enum-known-r-15 : tie.Need-enum-known-r-15
+enum-known-r-15 c = search needs
+
 returns : tie.Need-returns
-returns c = cc
+returns c = sym (ap outcomeOf (c .before .r .given .1))
 
 returns-2 : tie.Need-returns-2
-returns-2 c = cc
+returns-2 c = sym (ap outcomeOf (c .enum-told .given .1))
 
 returns-3 : tie.Need-returns-3
-returns-3 c = cc
+returns-3 c = sym (ap outcomeOf (c .enum-told2 .given .1))
 
 returns-4 : tie.Need-returns-4
-returns-4 c = cc
+returns-4 c = sym (ap outcomeOf (c .before .r2 .given .1))
 
 returns-5 : tie.Need-returns-5
-returns-5 c = cc
+returns-5 c = sym (ap outcomeOf (c .before .r3 .given .1))
 
 returns-6 : tie.Need-returns-6
-returns-6 c = cc
+returns-6 c = sym (ap outcomeOf (c .enum-told3 .given .1))
 
 returns-7 : tie.Need-returns-7
-returns-7 c = cc
+returns-7 c = sym (ap outcomeOf (c .before .r4 .given .1))
 
 returns-8 : tie.Need-returns-8
-returns-8 c = cc
+returns-8 c = sym (ap outcomeOf (c .before .r5 .given .1))
 
 returns-9 : tie.Need-returns-9
-returns-9 c = cc
+returns-9 c = sym (ap outcomeOf (c .before .r6 .given .1))
 
 returns-10 : tie.Need-returns-10
-returns-10 c = cc
+returns-10 c = sym (ap outcomeOf (c .before .r7 .given .1))
 
 returns-11 : tie.Need-returns-11
-returns-11 c = cc
+returns-11 c = sym (ap outcomeOf (c .before .r8 .given .1))
 
 returns-12 : tie.Need-returns-12
-returns-12 c = cc
+returns-12 c = sym (ap outcomeOf (c .before .r9 .given .1))
 
 returns-13 : tie.Need-returns-13
-returns-13 c = cc
+returns-13 c = sym (ap outcomeOf (c .before .r10 .given .1))
 
 returns-14 : tie.Need-returns-14
-returns-14 c = cc
+returns-14 c = sym (ap outcomeOf (c .before .r11 .given .1))
 
 returns-15 : tie.Need-returns-15
-returns-15 c = cc
+returns-15 c = sym (ap outcomeOf (c .before .r12 .given .1))
 
 returns-16 : tie.Need-returns-16
-returns-16 c = cc
+returns-16 c = sym (ap outcomeOf (c .enum-told4 .given .1))
+
+returns-17 : tie.Need-returns-17
+returns-17 c = sym (ap outcomeOf (c .before .r13 .given .1))
+
+returns-18 : tie.Need-returns-18
+returns-18 c = sym (ap outcomeOf (c .before .r14 .given .1))
+
+returns-19 : tie.Need-returns-19
+returns-19 c = sym (ap outcomeOf (c .before .r15 .given .1))
 
 pub outcome-of-spec : {M : Type 1} → statement M
 outcome-of-spec =
@@ -116,10 +136,13 @@ outcome-of-spec =
     enum-known-r-7
     enum-known-r-8
     enum-known-r-9
-    enum-told-4
     enum-known-r-10
     enum-known-r-11
     enum-known-r-12
+    enum-told-4
+    enum-known-r-13
+    enum-known-r-14
+    enum-known-r-15
     returns
     returns-2
     returns-3
@@ -135,4 +158,7 @@ outcome-of-spec =
     returns-13
     returns-14
     returns-15
-    returns-16)
+    returns-16
+    returns-17
+    returns-18
+    returns-19)

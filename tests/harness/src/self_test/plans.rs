@@ -1,11 +1,13 @@
 //! Faults of a planner.
 
-use super::{labelled_home, planner};
+use super::{labelled_home, outcome, planner};
 use crate::check::Difference;
-use oracle::builder;
+use crate::drive::Mismatch;
+use crate::library::Plan;
+use oracle::builder::{self, Draft};
 use oracle::outcome::Outcome;
 use oracle::plan;
-use oracle::routine::{Event, Kind, Reference, Routine};
+use oracle::routine::{Action, Event, Kind, Reference, Routine};
 use std::sync::Mutex;
 
 /// The labels of a plan that was written: vertex and record.
@@ -222,6 +224,160 @@ fn the_wrong_order_of_checks() {
     assert_eq!(mismatch.input.routine.len(), 18);
 }
 
+/// The row of an action byte, and its place there.
+fn row_of(draft: &Draft, place: u64) -> (usize, usize) {
+    let index = place as usize - 18 - 4 * draft.arrays.len();
+    (index / draft.arrays.len(), index % draft.arrays.len())
+}
+
+fn is_remap(byte: u8) -> bool {
+    (0x40..0x50).contains(&byte)
+}
+
+/// Whether a row has a reference or a remapping beside this byte, which is of the other kind.
+fn mixed_with(row: &[u8], byte: u8) -> Option<usize> {
+    let other = |&earlier: &u8| earlier != 0 && is_remap(earlier) != is_remap(byte);
+    row.iter().position(other)
+}
+
+/// The mismatch of a planner that gives another answer where it refuses with `number`, the small
+/// routine and what was answered rightly.
+fn refused_otherwise(faulty: Plan, number: u64) -> (Box<Mismatch>, Draft, Outcome) {
+    let (mismatch, draft) = planner(faulty);
+    assert_eq!(mismatch.fault.difference, Difference::Outcome);
+    let right = mismatch.fault.expected.outcome;
+    assert_eq!(right.number, number, "{mismatch}");
+    (mismatch, draft.unwrap(), right)
+}
+
+/// 18 asked before 17.
+#[test]
+fn not_zero_before_too_large() {
+    fn faulty(file: &[u8], out: &mut [u8]) -> Outcome {
+        let mut answer = plan::plan(file, out);
+        if answer.number == 17 {
+            let draft = Draft::from_bytes(file).unwrap();
+            let (vertex, _) = row_of(&draft, answer.first);
+            if vertex == 0 || vertex + 1 == draft.rows.len() {
+                answer.number = 18;
+            }
+        }
+        answer
+    }
+    let (mismatch, draft, _) = refused_otherwise(faulty, 17);
+    assert_eq!((draft.arrays.len(), draft.rows.len()), (1, 2), "{mismatch}");
+}
+
+/// 19 asked before 17: a remapping that is too large and mixed.
+#[test]
+fn mixed_before_too_large() {
+    fn faulty(file: &[u8], out: &mut [u8]) -> Outcome {
+        let mut answer = plan::plan(file, out);
+        if answer.number == 17 {
+            let draft = Draft::from_bytes(file).unwrap();
+            let (vertex, array) = row_of(&draft, answer.first);
+            let row = &draft.rows[vertex];
+            if mixed_with(&row[..array], row[array]).is_some() {
+                answer.number = 19;
+            }
+        }
+        answer
+    }
+    let (mismatch, draft, _) = refused_otherwise(faulty, 17);
+    assert_eq!((draft.arrays.len(), draft.rows.len()), (2, 3), "{mismatch}");
+}
+
+/// The whole file is searched for 15 before any 19, or any 17, or any 18.
+#[test]
+fn unknown_bytes_searched_first() {
+    fn faulty<const NUMBER: u64>(file: &[u8], out: &mut [u8]) -> Outcome {
+        let answer = plan::plan(file, out);
+        if answer.number == NUMBER {
+            let draft = Draft::from_bytes(file).unwrap();
+            let mut bytes = draft.rows.iter().flatten();
+            let unknown = bytes.position(|&byte| Action::from_byte(byte).is_none());
+            if let Some(place) = unknown {
+                let place = 18 + 4 * draft.arrays.len() + place;
+                return outcome(15, place as u64, 0);
+            }
+        }
+        answer
+    }
+    let faults: [(Plan, u64); 3] = [(faulty::<17>, 17), (faulty::<18>, 18), (faulty::<19>, 19)];
+    for (faulty, number) in faults {
+        let (mismatch, _, right) = refused_otherwise(faulty, number);
+        assert!(
+            mismatch.fault.found.outcome.first > right.first,
+            "{mismatch}"
+        );
+    }
+}
+
+/// 19 at the byte that stood first in its row.
+#[test]
+fn mixed_at_the_earlier_byte() {
+    fn faulty(file: &[u8], out: &mut [u8]) -> Outcome {
+        let mut answer = plan::plan(file, out);
+        if answer.number == 19 {
+            let draft = Draft::from_bytes(file).unwrap();
+            let (vertex, array) = row_of(&draft, answer.first);
+            let row = &draft.rows[vertex];
+            let earlier = mixed_with(&row[..array], row[array]).unwrap();
+            answer.first -= (array - earlier) as u64;
+        }
+        answer
+    }
+    let (mismatch, draft, _) = refused_otherwise(faulty, 19);
+    assert_eq!((draft.arrays.len(), draft.rows.len()), (2, 3), "{mismatch}");
+}
+
+/// 19 in the rows of entry and exit.
+#[test]
+fn mixed_at_entry_or_exit() {
+    fn faulty(file: &[u8], out: &mut [u8]) -> Outcome {
+        let answer = plan::plan(file, out);
+        if answer.number == 18 {
+            let draft = Draft::from_bytes(file).unwrap();
+            let (vertex, array) = row_of(&draft, answer.first);
+            let row = &draft.rows[vertex];
+            let later = mixed_with(&row[array + 1..], row[array]);
+            if let Some(later) = later {
+                return outcome(19, answer.first + 1 + later as u64, 0);
+            }
+        }
+        answer
+    }
+    let (mismatch, draft, _) = refused_otherwise(faulty, 18);
+    assert_eq!((draft.arrays.len(), draft.rows.len()), (2, 2), "{mismatch}");
+}
+
+/// 16 asked before 15, 17, 18 or 19.
+#[test]
+fn edges_before_action_bytes() {
+    fn faulty<const NUMBER: u64>(file: &[u8], out: &mut [u8]) -> Outcome {
+        let answer = plan::plan(file, out);
+        if answer.number == NUMBER {
+            let mut draft = Draft::from_bytes(file).unwrap();
+            draft.rows.iter_mut().for_each(|row| row.fill(0));
+            let edges = plan::plan(&draft.bytes(), &mut []);
+            if edges.number == 16 {
+                return edges;
+            }
+        }
+        answer
+    }
+    let faults: [(Plan, u64); 4] = [
+        (faulty::<15>, 15),
+        (faulty::<17>, 17),
+        (faulty::<18>, 18),
+        (faulty::<19>, 19),
+    ];
+    for (faulty, number) in faults {
+        let (mismatch, _, _) = refused_otherwise(faulty, number);
+        assert_eq!(mismatch.kind, "plan, several faults");
+    }
+}
+
 #[test]
 fn a_byte_beyond_the_length() {
     fn faulty(file: &[u8], out: &mut [u8]) -> Outcome {
@@ -296,7 +452,7 @@ fn the_last_array_of_20() {
     }
     let (mismatch, draft) = planner(faulty);
     assert_eq!(mismatch.fault.difference, Difference::Outcome);
-    assert!(mismatch.index < 200, "{mismatch}");
+    assert!(mismatch.index < 400, "{mismatch}");
     let draft = draft.unwrap();
     assert_eq!((draft.arrays.len(), draft.rows.len()), (2, 3), "{mismatch}");
 }

@@ -2,12 +2,15 @@
 
 use super::rng::Rng;
 use super::routines::{self, Size};
-use crate::builder::{DEFINE, Draft, IN, MODIFY, READ, remap};
+use crate::builder::{DEFINE, Draft, IN, INOUT, LOCAL, MODIFY, READ, remap};
 use crate::labels::fixpoint;
-use crate::routine::{HEAD, Routine};
+use crate::routine::{HEAD, MAX_VERSIONS, Routine};
 
 /// The refusals that a routine file can meet.
-pub const FILE_REFUSALS: [u64; 9] = [10, 11, 12, 13, 14, 15, 16, 20, 21];
+pub const FILE_REFUSALS: [u64; 12] = [10, 11, 12, 13, 14, 15, 16, 17, 18, 19, 20, 21];
+
+/// Action bytes that stand for nothing.
+const UNKNOWN: [u8; 7] = [0x01, 0x0f, 0x11, 0x3f, 0x50, 0x80, 0xff];
 
 const SMALL: Size = Size {
     vertices: 12,
@@ -60,7 +63,7 @@ pub fn refused(rng: &mut Rng, number: u64) -> Vec<u8> {
 fn damage_parts(rng: &mut Rng, draft: &mut Draft, number: u64) {
     match number {
         14 => damage_array(rng, draft),
-        15 => damage_action(rng, draft),
+        15 | 17 | 18 | 19 => damage_action(rng, draft, number),
         16 => damage_edge(rng, draft),
         20 => change_in_argument(rng, draft),
         _ => {}
@@ -110,17 +113,21 @@ fn damage_array(rng: &mut Rng, draft: &mut Draft) {
     }
 }
 
-fn damage_action(rng: &mut Rng, draft: &mut Draft) {
+/// An action byte with a fault of 15, 17, 18 or 19. One of 15 and 17 stands in any row.
+fn damage_action(rng: &mut Rng, draft: &mut Draft, number: u64) {
     let exit = draft.rows.len() - 1;
-    let vertex = rng.between(1, exit - 1);
     let array = rng.below(draft.arrays.len());
-    match rng.below(5) {
-        0 => draft.rows[0][array] = rng.pick(&[READ, DEFINE, MODIFY, remap(0)]),
-        1 => draft.rows[exit][array] = rng.pick(&[READ, DEFINE, MODIFY, remap(0)]),
-        2 => draft.rows[vertex][array] = rng.pick(&[0x01, 0x0f, 0x11, 0x3f, 0x50, 0x80, 0xff]),
-        3 => {
-            let version = draft.arrays[array][1];
-            draft.rows[vertex][array] = remap(version);
+    let versions = draft.arrays[array][1];
+    match number {
+        15 => draft.rows[rng.below(exit + 1)][array] = rng.pick(&UNKNOWN),
+        17 => {
+            let version = rng.between(usize::from(versions), MAX_VERSIONS - 1) as u8;
+            draft.rows[rng.below(exit + 1)][array] = remap(version);
+        }
+        18 => {
+            let version = rng.below(usize::from(versions)) as u8;
+            let action = rng.pick(&[READ, DEFINE, MODIFY, remap(version)]);
+            draft.rows[rng.pick(&[0, exit])][array] = action;
         }
         _ => {
             // Two arrays at least are needed to mix.
@@ -128,12 +135,33 @@ fn damage_action(rng: &mut Rng, draft: &mut Draft) {
             for row in &mut draft.rows {
                 row.push(0);
             }
-            draft.rows[vertex].fill(0);
+            let row = &mut draft.rows[rng.between(1, exit - 1)];
+            row.fill(0);
             let pair = rng.pick(&[[READ, remap(0)], [remap(0), DEFINE]]);
-            draft.rows[vertex][array] = pair[0];
-            draft.rows[vertex][draft.arrays.len() - 1] = pair[1];
+            row[array] = pair[0];
+            *row.last_mut().expect("there is an array") = pair[1];
         }
     }
+}
+
+/// Every file of two arrays with one and two versions and four vertices, of which two that follow
+/// each other have rows of these bytes: faults of 15, 17, 18 and 19 in every order, and several in
+/// one byte.
+pub fn all_of_two_rows() -> impl Iterator<Item = Vec<u8>> {
+    const BYTES: [u8; 8] = [0, READ, MODIFY, remap(0), remap(1), remap(2), 0x0f, 0xff];
+    (0..3 * 8usize.pow(4)).map(|index| {
+        let byte = |place: u32| BYTES[index / 8usize.pow(place) % 8];
+        let mut rows = vec![vec![0, 0]; 4];
+        let first = index / 8usize.pow(4);
+        rows[first] = vec![byte(3), byte(2)];
+        rows[first + 1] = vec![byte(1), byte(0)];
+        let draft = Draft {
+            arrays: vec![[LOCAL, 1, 0, 0], [INOUT, 2, 0, 0]],
+            rows,
+            edges: vec![(0, 1), (1, 2), (2, 3)],
+        };
+        draft.bytes()
+    })
 }
 
 fn damage_edge(rng: &mut Rng, draft: &mut Draft) {
@@ -184,10 +212,10 @@ fn ambiguous(rng: &mut Rng) -> Vec<u8> {
     }
 }
 
-/// A file with two to four faults of any numbers: the lowest number wins.
+/// A file with two to four faults of any numbers: the one that is checked first wins.
 pub fn several_faults(rng: &mut Rng) -> Vec<u8> {
     let mut numbers: Vec<u64> = (0..rng.between(2, 4))
-        .map(|_| rng.pick(&FILE_REFUSALS[..8]))
+        .map(|_| rng.pick(&FILE_REFUSALS[..11]))
         .collect();
     // Faults of the head last: they can cut the file short.
     numbers.sort_unstable_by(|one, other| other.cmp(one));

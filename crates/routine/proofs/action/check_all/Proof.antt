@@ -3,9 +3,10 @@
 use Prim.Native.Nat.{_-_}
 use native.Mathlib.Omega.{arith}
 use borrow.Author.Needs.{needs}
-use Rattle.routine.specs.Actions.{rowCheck, check15}
+use Rattle.routine.specs.Actions.{rowCheck, actionsCheck}
 use Rattle.routine.specs.Layout.{vertices}
 use Rattle.refusal.proofs.Checks.{Undecided, scan-start, scan-stop, scan-next, scan-done}
+use Rattle.routine.proofs.Faults.{four-faults}
 use Rattle.routine.proofs.action.check_all.Statement.{statement}
 use Rattle.routine.proofs.action.check_all.Tie as tie
 
@@ -25,8 +26,8 @@ enum-told : tie.Need-enum-told Inv-loop μ-loop
 enum-told c = search needs
 
 returns : tie.Need-returns Inv-loop μ-loop
-unfolding check15
-returns c = scan-stop (c .before .before .before .before .loop .inv) (omega arith) (c .before .before .check-row .ensures) (c .enum-told .given .1)
+unfolding actionsCheck
+returns c = (scan-stop (c .before .before .before .before .loop .inv) (omega arith) (c .before .before .check-row .ensures) (c .enum-told .given .1), four-faults _)
 
 enum-told-2 : tie.Need-enum-told-2 Inv-loop μ-loop
 enum-told-2 c = search needs
@@ -41,8 +42,8 @@ loop-again : tie.Need-loop-again Inv-loop μ-loop
 loop-again c = scan-next (c .before .before .before .before .loop .inv) (omega arith) (c .before .before .check-row .ensures) (c .enum-told2 .given .1)
 
 returns-2 : tie.Need-returns-2 Inv-loop μ-loop
-unfolding check15
-returns-2 c = scan-done (c .before .loop .inv) (omega arith)
+unfolding actionsCheck
+returns-2 c = (scan-done (c .before .loop .inv) (omega arith), four-faults _)
 
 pub check-all-spec : {M : Type 1} → statement M
 check-all-spec =

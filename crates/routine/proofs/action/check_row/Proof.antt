@@ -1,15 +1,17 @@
 -- `check_row` meets its contract: a scan of the arrays that keeps what sorts of action it met.
 -- Assumes nothing.
 use mathlib.Core.Path.{_≡_, refl, sym, ap, _∙_}
-use mathlib.Core.Bool.{_||_}
+use mathlib.Core.Bool.{not, _||_}
 use Prim.Native.Nat.{ℕ, _-_}
 use native.Mathlib.Omega.{arith}
 use borrow.Author.Needs.{needs}
 use lib.Dec.{eqb}
 use Rattle.words.proofs.Sums.{any-none, any-next}
 use Rattle.routine.specs.declared.array.ArrayRecord.{ArrayRecord}
-use Rattle.routine.specs.Actions.{isReference, isRemap, wrong, actionCheck, rowCheck}
-use Rattle.routine.specs.Layout.{arrays}
+use Rattle.routine.specs.Actions.{isReference, isRemap, actionCheck, rowCheck}
+use Rattle.routine.specs.Layout.{arrays, actionAt}
+use Rattle.routine.specs.Rows.{reasonOf}
+use Rattle.refusal.specs.Checks.{holds}
 use Rattle.refusal.proofs.Checks.{Undecided, scan-start, scan-stop, scan-next, scan-done}
 use Rattle.routine.proofs.Rows.{among, one-test}
 use Rattle.routine.proofs.action.check_row.Statement.{statement}
@@ -42,11 +44,16 @@ is-wrong-requires c κs = search needs
 place-requires : tie.Need-place-requires Inv-loop μ-loop
 place-requires c κs = search needs
 
+reason-requires : tie.Need-reason-requires Inv-loop μ-loop
+reason-requires c κs = search needs
+
 -- the check of a turn's byte
 turn : (c : tie.After-is-wrong Inv-loop μ-loop) →
     let l = c .before .before .before .before in
     let s = l .before .before .before in
-    actionCheck (s .args .file .now) (l .loop .a) (s .args .v) ≡ wrong (s .args .file .now) (l .loop .a) (s .args .v) (c .is-wrong .result)
+    actionCheck (s .args .file .now) (l .loop .a) (s .args .v)
+    ≡ holds (not (c .is-wrong .result))
+    (reasonOf (c .before .before .at .result) (c .before .record-of .result .versions) (l .before .is-terminal .result) (actionAt (s .args .file .now) (l .loop .a) (s .args .v)))
 turn c =
     let l = c .before .before .before .before in
     let s = l .before .before .before in
@@ -61,9 +68,9 @@ turn c =
 returns : tie.Need-returns Inv-loop μ-loop
 unfolding rowCheck
 returns c =
-    let w = c .before .before in
+    let w = c .before .before .before in
     let l = w .before .before .before .before in
-    scan-stop (l .loop .inv .0) (omega (arith, w .before .before .before .loop-test .taken, l .before .before .before .pre .0 .arrays-are)) (rw (c .place .ensures .0, turn w, c .before .if1 .taken)) refl
+    scan-stop (l .loop .inv .0) (omega (arith, w .before .before .before .loop-test .taken, l .before .before .before .pre .0 .arrays-are)) (rw (c .reason .ensures, c .before .place .ensures .0, turn w, c .before .before .if1 .taken)) refl
 
 is-reference-requires : tie.Need-is-reference-requires Inv-loop μ-loop
 is-reference-requires c κs = search needs
@@ -103,6 +110,7 @@ check-row-spec =
     record-of-requires
     is-wrong-requires
     place-requires
+    reason-requires
     returns
     is-reference-requires
     is-remap-requires

@@ -1,4 +1,4 @@
--- `check_bodies` meets its contract: checks 14 to 16 in a row.
+-- `check_bodies` meets its contract: checks of arrays, actions and edges in a row.
 -- Assumes nothing.
 use borrow.Author.Needs.{needs}
 use Rattle.routine.specs.Reader.{bodyCheck}

@@ -1,4 +1,4 @@
--- `read` meets its contract: checks 10 to 13, then 14 to 16, and a refusal as soon as one fails.
+-- `read` meets its contract: checks 10 to 13, then those of the bodies, and a refusal as soon as one fails.
 -- Assumes nothing.
 use mathlib.Core.Path.{sym, _∙_}
 use native.Mathlib.Omega.{arith}
