@@ -17,6 +17,9 @@ ghost use Rattle.words.specs.Tables.{table, withRow};
 // Columns of a table.
 pub const COLUMNS: usize = 8;
 
+// Edges at most, the calls of a routine expanded: those of its file, and two for each of 84 calls.
+pub const MAX_EDGES: usize = 1024 + 2 * 84;
+
 // Empties every set.
 pub fn clear(sets: &mut [Set])
     ensures { λ r. ⌜ now (sets .exit) ≡ replicate (length (now (sets .entry))) 0 ⌝ }

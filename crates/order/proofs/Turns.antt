@@ -9,13 +9,13 @@ use native.Mathlib.Omega.{arith}
 use lib.ListN.{length, getD, set, length-set}
 use lib.Seq.{getD-set-same, getD-set-other}
 use Rattle.words.proofs.Tables.{table-length, table-at, at-set}
-use Rattle.flow.specs.Order.{Order, natural}
+use Rattle.flow.specs.Order.{Order, maxEdges, natural}
 use Rattle.flow.proofs.Rounds.{natural-order}
 use Rattle.order.specs.Places.{Placed}
 
 -- ---- the edges by their numbers
 
-pub natural-placed : (c m : ℕ) (order place : List ℕ) → c ≤ m → m ≡ 1024 → order ≡ natural c → place ≡ natural m → Placed c order place
+pub natural-placed : (c m : ℕ) (order place : List ℕ) → c ≤ m → m ≡ maxEdges → order ≡ natural c → place ≡ natural m → Placed c order place
 natural-placed c m order place most size e f = rw (e, f) (record {
   all = table-length (λ i. i) c;
   most = omega arith;

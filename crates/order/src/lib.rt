@@ -7,12 +7,12 @@ mod search;
 ghost use mathlib.Core.Path.{_≡_};
 ghost use Prim.Native.Nat.{_≤_, _<_};
 ghost use lib.ListN.{length};
-ghost use Rattle.flow.specs.Order.{Order, natural};
+ghost use Rattle.flow.specs.Order.{Order, maxEdges, natural};
 ghost use Rattle.flow.specs.Paths.{edgeCount};
 
 // Puts each number at its own place.
 fn identity(t: &mut [u16])
-    requires { ⌜ length (now t) ≤ 1024 ⌝ }
+    requires { ⌜ length (now t) ≤ maxEdges ⌝ }
     ensures { λ r. ⌜ now (t .exit) ≡ natural (length (now (t .entry))) ⌝ }
 {
     for j in 0..t.len() {
@@ -29,19 +29,19 @@ fn index(v: u8) -> usize
 
 // Takes the edges in the order that searches find.
 pub fn by_search(edges: &[u8], order: &mut [u16])
-    requires { ⌜ edgeCount (now edges) ≤ 1024 ⌝ }
+    requires { ⌜ edgeCount (now edges) ≤ maxEdges ⌝ }
     requires { ⌜ length (now order) ≡ edgeCount (now edges) ⌝ }
     ensures { λ _. ⌜ Order (edgeCount (now (edges .entry))) (now (order .exit)) ⌝ }
 {
     identity(order);
-    let mut place = [0u16; 1024];
+    let mut place = [0u16; flow::MAX_EDGES];
     identity(&mut place);
     search::settle_all(edges, order, &mut place);
 }
 
 // An order of the edges: by number if that is good enough, else by searches.
 pub fn fill(edges: &[u8], order: &mut [u16])
-    requires { ⌜ edgeCount (now edges) ≤ 1024 ⌝ }
+    requires { ⌜ edgeCount (now edges) ≤ maxEdges ⌝ }
     requires { ⌜ length (now order) ≡ edgeCount (now edges) ⌝ }
     ensures { λ _. ⌜ Order (edgeCount (now (edges .entry))) (now (order .exit)) ⌝ }
 {

@@ -3,6 +3,7 @@ ghost use mathlib.Core.Path.{_≡_};
 ghost use mathlib.Core.Bool.{cond, _||_};
 ghost use Prim.Native.Nat.{_≤_, _<_};
 ghost use lib.Dec.{leb, ltb};
+ghost use Rattle.flow.specs.Order.{maxEdges};
 ghost use Rattle.flow.specs.Paths.{edgeCount};
 ghost use Rattle.order.specs.Falling.{isFalling};
 ghost use Rattle.words.specs.Sums.{countOf};
@@ -26,7 +27,7 @@ fn falling(edges: &[u8], i: usize) -> usize
 
 // How many edges fall.
 fn count_falling(edges: &[u8]) -> usize
-    requires { ⌜ edgeCount (now edges) ≤ 1024 ⌝ }
+    requires { ⌜ edgeCount (now edges) ≤ maxEdges ⌝ }
     ensures { λ r. ⌜ r ≡ countOf (isFalling (now (edges .entry))) (edgeCount (now (edges .entry))) ⌝ }
 {
     let n = edges.len() / 4;
@@ -41,7 +42,7 @@ fn count_falling(edges: &[u8]) -> usize
 
 // Whether few edges fall, or there are many of them.
 pub fn is_good(edges: &[u8]) -> bool
-    requires { ⌜ edgeCount (now edges) ≤ 1024 ⌝ }
+    requires { ⌜ edgeCount (now edges) ≤ maxEdges ⌝ }
     ensures { λ r. ⌜ r ≡ (ltb 768 (edgeCount (now (edges .entry))) || leb (countOf (isFalling (now (edges .entry))) (edgeCount (now (edges .entry)))) 16) ⌝ }
 {
     (edges.len() / 4 > MANY) | (count_falling(edges) <= FEW)

@@ -3,6 +3,7 @@ ghost use mathlib.Core.Bool.{true};
 ghost use mathlib.Core.Path.{_≡_};
 ghost use Prim.Native.Nat.{_≤_, _<_};
 ghost use lib.ListN.{length};
+ghost use Rattle.flow.specs.Order.{maxEdges};
 ghost use Rattle.flow.specs.Paths.{edgeCount};
 ghost use Rattle.order.specs.Places.{Placed};
 
@@ -24,7 +25,7 @@ fn at(table: &[u16; 256], v: u8) -> usize {
 
 // The first edge of each vertex that edges leave.
 fn fill_starts(edges: &[u8], start: &mut [u16; 256])
-    requires { ⌜ edgeCount (now edges) ≤ 1024 ⌝ }
+    requires { ⌜ edgeCount (now edges) ≤ maxEdges ⌝ }
 {
     let count = edges.len() / 4;
     for j in 0..count {
@@ -98,7 +99,7 @@ fn enter(entered: &mut [u16; 256], v: u8, i: u16) -> bool {
 // Goes on from a vertex at its edge `first`, always to a new vertex, and returns the one that no edge leads on from. Each step takes an
 // edge.
 fn descend(edges: &[u8], start: &[u16; 256], entered: &mut [u16; 256], from: u8, first: usize) -> u8
-    requires { ⌜ edgeCount (now edges) ≤ 1024 ⌝ }
+    requires { ⌜ edgeCount (now edges) ≤ maxEdges ⌝ }
 {
     let mut v = from;
     let mut i = first;
@@ -129,7 +130,7 @@ fn enter_root(entered: &mut [u16; 256], v: u8) -> u8 {
 
 // The vertex that is finished after v. At first v is the entry, which is new.
 fn after(edges: &[u8], start: &[u16; 256], entered: &mut [u16; 256], v: u8) -> u8
-    requires { ⌜ edgeCount (now edges) ≤ 1024 ⌝ }
+    requires { ⌜ edgeCount (now edges) ≤ maxEdges ⌝ }
 {
     let i = at(entered, v);
     if i < edges.len() / 4 {

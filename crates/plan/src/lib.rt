@@ -106,7 +106,7 @@ fn plan_large(file: &[u8], h: Header, out: &mut [u8]) -> Reply
     requires { ⌜ ReadAs (now file) h ⌝ }
     ensures { λ r. ⌜ PlannedRead (now (file .entry)) (now (out .entry)) r (now (out .exit)) ⌝ }
 {
-    let mut order = [0u16; 1024];
+    let mut order = [0u16; flow::MAX_EDGES];
     let mut versions = [0 as Set; 2048];
     let mut uses = [0 as Set; 2048];
     let mut letters = [0u8; 2048];

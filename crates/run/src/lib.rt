@@ -10,6 +10,7 @@ use sets::Set;
 ghost use mathlib.Core.Path.{_≡_};
 ghost use Prim.Native.Nat.{_*_};
 ghost use lib.ListN.{length};
+ghost use Rattle.flow.specs.Order.{maxEdges};
 ghost use Rattle.labels.specs.Checks.{programmerCheck};
 ghost use Rattle.labels.specs.Routines.{ReadAs};
 ghost use Rattle.routine.specs.Layout.{vertices, edges};
@@ -99,7 +100,7 @@ fn run_within(
     passes: &mut [Set],
 ) -> Reply
     requires { ⌜ ReadAs (now file) h ⌝ }
-    requires { ⌜ length (now order) ≡ 1024 ⌝ }
+    requires { ⌜ length (now order) ≡ maxEdges ⌝ }
     requires { ⌜ length (now versions) ≡ 2048 ⌝ }
     requires { ⌜ length (now uses) ≡ 2048 ⌝ }
     requires { ⌜ length (now letters) ≡ 2048 ⌝ }
@@ -132,7 +133,7 @@ fn run_read(file: &[u8], h: Header, path: &[u8], out: &mut [u8]) -> Reply
     requires { ⌜ ReadAs (now file) h ⌝ }
     ensures { λ r. ⌜ RanRead (now (file .entry)) (now (path .entry)) (now (out .entry)) r (now (out .exit)) ⌝ }
 {
-    let mut order = [0u16; 1024];
+    let mut order = [0u16; flow::MAX_EDGES];
     let mut versions = [0 as Set; 2048];
     let mut uses = [0 as Set; 2048];
     let mut letters = [0u8; 2048];

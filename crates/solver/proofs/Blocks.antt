@@ -5,7 +5,7 @@ use mathlib.Core.Path.{_≡_, refl, sym, ap, subst, _∙_}
 use mathlib.Core.Bool.{Bool, true, false, not, _&&_, _||_, true≢false, or-true}
 use mathlib.Core.List.{List, [], _∷_}
 use mathlib.Core.Logic.{_⊎_, inl, inr, ⊎-elim}
-use Prim.Native.Nat.{ℕ, _+_, _-_, _*_, _/_, _^_, _≤_, _<_, min}
+use Prim.Native.Nat.{ℕ, _+_, _-_, _*_, _/_, _^_, _≤_, _<_}
 use native.Mathlib.Nat.{le-refl, le-of-lt, lt-of-le-of-lt, eq-or-lt-of-le, eq-zero-or-pos}
 use native.Mathlib.Decide.{le-ind, decLt, ℕ-discrete}
 use native.Mathlib.Numerals.{add-one}
@@ -23,13 +23,13 @@ use Rattle.sets.proofs.Laws.{bit-or, has-shr, has-or, has-minus, has-zero, has-
 use Rattle.words.proofs.Replaced.{replaced-other, replaced-still}
 use Rattle.words.proofs.Tables.{rows-same, at-set}
 use Rattle.words.proofs.Tests.{neither}
-use Rattle.flow.specs.Order.{Order}
+use Rattle.flow.specs.Order.{Order, maxEdges}
 use Rattle.flow.specs.Paths.{edgeCount}
 use Rattle.flow.specs.Solver.{near, far, turn, handed, handedRow, grown, swept, noted, inAll, Tables, Altered, Advanced}
 use Rattle.flow.proofs.Exact.{or-subset}
 use Rattle.flow.proofs.Rounds.{turn-lt}
 use Rattle.flow.proofs.Rows.{grows, grown-at, Below, below-grown, squeezed, step, near-fits, swept-below, swept-length, tables, Notes, notes-none, notes-more, tells}
-use Rattle.solver.specs.Blocks.{NextPending, Marked, Closed, Took, Taken, TookBlock}
+use Rattle.solver.specs.Blocks.{blockOf, blockStart, NextPending, Marked, Closed, Took, Taken, TookBlock}
 use Rattle.solver.specs.declared.Progress.{Progress}
 
 -- a union with a part of it, and with a part of one of the two
@@ -79,22 +79,22 @@ next-some m b fits h some = record {
 
 -- one block more at the far end of its edge
 pub marked-more : (es order : List ℕ) (along : Bool) (marks : List ℕ) (j : ℕ) → far es along (turn order along j) < length marks
-    → ((k : ℕ) → k < j → has (getD marks (far es along (turn order along k)) 0) (k / 16) ≡ true)
+    → ((k : ℕ) → k < j → has (getD marks (far es along (turn order along k)) 0) (blockOf k) ≡ true)
     → (k : ℕ) → k < j + 1
-    → has (getD (set marks (far es along (turn order along j)) (bitOr (getD marks (far es along (turn order along j)) 0) (2 ^ (j / 16)))) (far es along (turn order along k)) 0) (k / 16) ≡ true
+    → has (getD (set marks (far es along (turn order along j)) (bitOr (getD marks (far es along (turn order along j)) 0) (2 ^ blockOf j))) (far es along (turn order along k)) 0) (blockOf k) ≡ true
 marked-more es order along marks j room first =
-    below-more (λ k. has (getD (set marks v m) (far es along (turn order along k)) 0) (k / 16) ≡ true) j
-    (λ k l. at-set (λ u x. u ≡ far es along (turn order along k) → has x (k / 16) ≡ true) marks v m (far es along (turn order along k))
-    (λ e. has-or (getD marks v 0) (2 ^ (j / 16)) (k / 16) ∙ ap (λ (y : Bool). y || has (2 ^ (j / 16)) (k / 16)) (ap (λ (u : ℕ). has (getD marks u 0) (k / 16)) e ∙ first k l))
+    below-more (λ k. has (getD (set marks v m) (far es along (turn order along k)) 0) (blockOf k) ≡ true) j
+    (λ k l. at-set (λ u x. u ≡ far es along (turn order along k) → has x (blockOf k) ≡ true) marks v m (far es along (turn order along k))
+    (λ e. has-or (getD marks v 0) (2 ^ blockOf j) (blockOf k) ∙ ap (λ (y : Bool). y || has (2 ^ blockOf j) (blockOf k)) (ap (λ (u : ℕ). has (getD marks u 0) (blockOf k)) e ∙ first k l))
     (λ _. first k l) refl)
-    (ap (λ (x : ℕ). has x (j / 16)) (getD-set-same marks v m 0 room) ∙ has-with (getD marks v 0) (j / 16) (j / 16)
-    ∙ ap (λ (y : Bool). has (getD marks v 0) (j / 16) || y) (eq-eqb (j / 16) (j / 16) refl) ∙ or-true (has (getD marks v 0) (j / 16)))
+    (ap (λ (x : ℕ). has x (blockOf j)) (getD-set-same marks v m 0 room) ∙ has-with (getD marks v 0) (blockOf j) (blockOf j)
+    ∙ ap (λ (y : Bool). has (getD marks v 0) (blockOf j) || y) (eq-eqb (blockOf j) (blockOf j) refl) ∙ or-true (has (getD marks v 0) (blockOf j)))
   where
     v : ℕ
     v = far es along (turn order along j)
 
     m : ℕ
-    m = bitOr (getD marks v 0) (2 ^ (j / 16))
+    m = bitOr (getD marks v 0) (2 ^ blockOf j)
 
 -- ---- edges that alter nothing
 
@@ -164,7 +164,7 @@ module _ (es : List ℕ) (along : Bool) (gives passes : List ℕ) {order : List 
 
   -- turns that alter nothing may be passed over
   pub passed : {j : ℕ} {s : List ℕ} {p : Progress} (m : ℕ) → At j j s p → j ≤ m → m ≤ length order
-      → ((k : ℕ) → j ≤ k → k < m → has (p .pending) (k / 16) ≡ false) → At m m s p
+      → ((k : ℕ) → j ≤ k → k < m → has (p .pending) (blockOf k) ≡ false) → At m m s p
   unfolding swept
   passed {j} {s} {p} m w h l none = record {
     is = le-ind (λ n. n ≤ m → s ≡ swept (step es along gives passes) order along old n) (λ _. w .is)
@@ -175,27 +175,27 @@ module _ (es : List ℕ) (along : Bool) (gives passes : List ℕ) {order : List 
   }
 
   -- and so may blocks that are not pending
-  pub skipped : {s : List ℕ} {p : Progress} {a b : ℕ} → At (min (16 * a) (length order)) (min (16 * a) (length order)) s p → NextPending (p .pending) a b
-      → At (min (16 * b) (length order)) (min (16 * b) (length order)) s p
+  pub skipped : {s : List ℕ} {p : Progress} {a b : ℕ} → At (blockStart (length order) a) (blockStart (length order) a) s p → NextPending (p .pending) a b
+      → At (blockStart (length order) b) (blockStart (length order) b) s p
   skipped {s} {p} {a} {b} w next =
-      passed (min (16 * b) (length order)) w (omega (arith, next .onward)) (omega arith)
-      (λ k from up. next .shut (k / 16) (omega arith) (omega arith))
+      passed (blockStart (length order) b) w (omega (arith, next .onward)) (omega arith)
+      (λ k from up. next .shut (blockOf k) (omega arith) (omega arith))
 
   -- a block is pending no longer once its turns come next
-  opened : {j to : ℕ} {s : List ℕ} {p q : Progress} (b : ℕ) → j ≡ min (16 * b) (length order) → to ≡ min (16 * (b + 1)) (length order)
+  opened : {j to : ℕ} {s : List ℕ} {p q : Progress} (b : ℕ) → j ≡ blockStart (length order) b → to ≡ blockStart (length order) (b + 1)
       → q ≡ record { pending = minus (p .pending) (2 ^ b); altered = p .altered } → At j j s p → At j to s q
   opened {j} {to} {s} {p} {q} b ej et eq w =
       subst (At j to s) (sym eq)
       (record {
         is = w .is;
         told = w .told;
-        closed = λ k in-k shut out. w .closed k in-k (other k in-k out (eqb b (k / 16)) refl (sym (has-minus (p .pending) (2 ^ b) (k / 16)) ∙ shut)) (side j k);
+        closed = λ k in-k shut out. w .closed k in-k (other k in-k out (eqb b (blockOf k)) refl (sym (has-minus (p .pending) (2 ^ b) (blockOf k)) ∙ shut)) (side j k);
       })
     where
-      other : (k : ℕ) → k < length order → (k < j) ⊎ (to ≤ k) → (x : Bool) → eqb b (k / 16) ≡ x → (has (p .pending) (k / 16) && not (has (2 ^ b) (k / 16))) ≡ false
-          → has (p .pending) (k / 16) ≡ false
-      other k in-k out true e h = let here : b ≡ k / 16 = eqb-true b (k / 16) e in ⊎-elim (λ l. absurd (omega (arith, ej))) (λ l. absurd (omega (arith, et))) out
-      other k in-k out false e h = but (has (p .pending) (k / 16)) (has (2 ^ b) (k / 16)) (has-single b (k / 16) ∙ e) h
+      other : (k : ℕ) → k < length order → (k < j) ⊎ (to ≤ k) → (x : Bool) → eqb b (blockOf k) ≡ x → (has (p .pending) (blockOf k) && not (has (2 ^ b) (blockOf k))) ≡ false
+          → has (p .pending) (blockOf k) ≡ false
+      other k in-k out true e h = let here : b ≡ blockOf k = eqb-true b (blockOf k) e in ⊎-elim (λ l. absurd (omega (arith, ej))) (λ l. absurd (omega (arith, et))) out
+      other k in-k out false e h = but (has (p .pending) (blockOf k)) (has (2 ^ b) (blockOf k)) (has-single b (blockOf k) ∙ e) h
 
   -- the turn that is taken, those before it, and those that come after the ones up to `to`
   parts : {j to k : ℕ} → (k < j + 1) ⊎ (to ≤ k) → (k ≡ j) ⊎ ((k < j) ⊎ (to ≤ k))
@@ -217,10 +217,10 @@ module _ (es : List ℕ) (along : Bool) (gives passes : List ℕ) {order : List 
               (x .next);
           closed = λ k in-k shut out. ⊎-elim
               (λ e. subst (λ (u : List ℕ). step es along gives passes u (turn order along k) ≡ u) (sym (e .0))
-              (same k in-k (ap (λ (r : Progress). has (r .pending) (k / 16)) (sym (e .1)) ∙ shut) (e .0) (parts out)))
+              (same k in-k (ap (λ (r : Progress). has (r .pending) (blockOf k)) (sym (e .1)) ∙ shut) (e .0) (parts out)))
               (λ e. subst (λ (u : List ℕ). step es along gives passes u (turn order along k) ≡ u) (sym (x .sets))
               (grown-still k in-k
-              (neither (has (p .pending) (k / 16)) (has (getD marks v 0) (k / 16)) (sym (has-or (p .pending) (getD marks v 0) (k / 16)) ∙ ap (λ (r : Progress). has (r .pending) (k / 16)) (sym (e .1)) ∙ shut))
+              (neither (has (p .pending) (blockOf k)) (has (getD marks v 0) (blockOf k)) (sym (has-or (p .pending) (getD marks v 0) (blockOf k)) ∙ ap (λ (r : Progress). has (r .pending) (blockOf k)) (sym (e .1)) ∙ shut))
               (parts out)))
               (x .next);
         }
@@ -243,18 +243,18 @@ module _ (es : List ℕ) (along : Bool) (gives passes : List ℕ) {order : List 
             back
 
         -- a turn that altered nothing
-        same : (k : ℕ) → k < length order → has (p .pending) (k / 16) ≡ false → t ≡ s → (k ≡ j) ⊎ ((k < j) ⊎ (to ≤ k)) → step es along gives passes s (turn order along k) ≡ s
+        same : (k : ℕ) → k < length order → has (p .pending) (blockOf k) ≡ false → t ≡ s → (k ≡ j) ⊎ ((k < j) ⊎ (to ≤ k)) → step es along gives passes s (turn order along k) ≡ s
         same k in-k shut e place = ⊎-elim
             (λ here. ap (λ (y : ℕ). step es along gives passes s (turn order along y)) here ∙ sym (x .sets) ∙ e)
             (λ out. w .closed k in-k shut out)
             place
 
         -- one that altered a row: the edges of blocks that are not pending do not have that row as their far end
-        grown-still : (k : ℕ) → k < length order → (has (p .pending) (k / 16) ≡ false) × (has (getD marks v 0) (k / 16) ≡ false) → (k ≡ j) ⊎ ((k < j) ⊎ (to ≤ k))
+        grown-still : (k : ℕ) → k < length order → (has (p .pending) (blockOf k) ≡ false) × (has (getD marks v 0) (blockOf k) ≡ false) → (k ≡ j) ⊎ ((k < j) ⊎ (to ≤ k))
             → step es along gives passes (grown s v row 8) (turn order along k) ≡ grown s v row 8
         grown-still k in-k shut place =
             let apart : far es along (turn order along k) ≡ v → ⊥ =
-            λ e. true≢false (sym (marked .each k in-k) ∙ ap (λ (y : ℕ). has (getD marks y 0) (k / 16)) e ∙ shut .1) in
+            λ e. true≢false (sym (marked .each k in-k) ∙ ap (λ (y : ℕ). has (getD marks y 0) (blockOf k)) e ∙ shut .1) in
             ⊎-elim
             (λ here. let turned = ap (turn order along) here in
             subst (λ (y : ℕ). step es along gives passes (grown s v row 8) y ≡ grown s v row 8) (sym turned)
@@ -278,8 +278,8 @@ module _ (es : List ℕ) (along : Bool) (gives passes order : List ℕ) where
   closed-next {j = j} w k in-k shut _ = w .closed k in-k shut (side j k)
 
   -- with all blocks pending
-  pub closed-all : (s : List ℕ) → length order ≤ 1024 → Closed es order along gives passes 0 0 s (2 ^ 64 - 1)
-  closed-all s few k in-k shut _ = absurd (true≢false (sym (has-full 64 (k / 16) (omega arith)) ∙ shut))
+  pub closed-all : (s : List ℕ) → length order ≤ maxEdges → Closed es order along gives passes 0 0 s (2 ^ 64 - 1)
+  closed-all s few k in-k shut _ = absurd (true≢false (sym (has-full 64 (blockOf k) (omega arith)) ∙ shut))
 
 -- ---- what the functions state
 
@@ -312,7 +312,7 @@ module _ (es : List ℕ) (along : Bool) (gives passes : List ℕ) where
 
   module _ {order : List ℕ} (ord : Order (edgeCount es) order) where
     -- the turns of a block, from its start to the next one's
-    pub block-done : {b from to j : ℕ} {before after : List ℕ} {p q₀ q : Progress} → from ≡ min (16 * b) (length order) → to ≡ min (16 * (b + 1)) (length order)
+    pub block-done : {b from to j : ℕ} {before after : List ℕ} {p q₀ q : Progress} → from ≡ blockStart (length order) b → to ≡ blockStart (length order) (b + 1)
         → q₀ ≡ record { pending = minus (p .pending) (2 ^ b); altered = p .altered } → j ≡ to → length after ≡ length before
         → ((old : List ℕ) → Taken es order along gives passes old from to before q₀ → Taken es order along gives passes old j to after q)
         → TookBlock es order along gives passes b before p after q

@@ -4,20 +4,20 @@ use flow::Carry;
 use sets::Set;
 ghost use mathlib.Core.Path.{_≡_};
 ghost use mathlib.Core.Bool.{true, false};
-ghost use Prim.Native.Nat.{_+_, _*_, _≤_, _<_, _^_, min};
+ghost use Prim.Native.Nat.{_≤_, _<_, _^_};
 ghost use lib.Bits.{bitOr};
 ghost use lib.ListN.{length, getD, set};
-ghost use Rattle.flow.specs.Order.{Order};
+ghost use Rattle.flow.specs.Order.{Order, maxEdges};
 ghost use Rattle.flow.specs.Paths.{edgeCount};
 ghost use Rattle.flow.specs.Solver.{turn, Ends, rowCount, Recent, Tables, Going, Solved};
 ghost use Rattle.sets.specs.Sets.{minus};
-ghost use Rattle.solver.specs.Blocks.{NextPending, Marked, Took, TookBlock, Taken, Closed};
+ghost use Rattle.solver.specs.Blocks.{blockStart, NextPending, Marked, Took, TookBlock, Taken, Closed};
 
 // Rounds that take every edge. Most passes end within them.
 const WHOLE: usize = 3;
 
 // Edges of a block, by their turns.
-const BLOCK: usize = 16;
+const BLOCK: usize = 19;
 
 // Blocks at most.
 const BLOCKS: usize = 64;
@@ -45,7 +45,7 @@ fn edge_at(order: &[u16], along: bool, j: usize) -> usize
 // Where block b begins, or where the turns end.
 fn start(count: usize, b: usize) -> usize
     requires { ⌜ b ≤ 64 ⌝ }
-    ensures { λ r. ⌜ r ≡ min (16 * b) count ⌝ }
+    ensures { λ r. ⌜ r ≡ blockStart count b ⌝ }
 {
     if BLOCK * b < count {
         return BLOCK * b;
@@ -96,7 +96,7 @@ fn mark(marks: &mut [u64], v: usize, b: usize)
 // For each vertex the blocks that have an edge with that far end.
 fn mark_all(edges: &[u8], order: &[u16], along: bool, marks: &mut [u64])
     requires { ⌜ Order (edgeCount (now edges)) (now order) ⌝ }
-    requires { ⌜ edgeCount (now edges) ≤ 1024 ⌝ }
+    requires { ⌜ edgeCount (now edges) ≤ maxEdges ⌝ }
     requires { ⌜ Ends (now edges) (length (now marks)) ⌝ }
     ensures { λ _. ⌜ Marked (now (edges .entry)) (now (order .entry)) along (now (marks .exit)) ⌝ }
 {
@@ -202,7 +202,7 @@ fn round(
     pending: u64,
 ) -> Progress
     requires { ⌜ Order (edgeCount (now edges)) (now order) ⌝ }
-    requires { ⌜ edgeCount (now edges) ≤ 1024 ⌝ }
+    requires { ⌜ edgeCount (now edges) ≤ maxEdges ⌝ }
     requires { ⌜ Tables (now edges) (now gives) (now passes) (now sets) ⌝ }
     requires { ⌜ rowCount (now sets) ≤ length (now marks) ⌝ }
     requires { ⌜ Marked (now edges) (now order) along (now marks) ⌝ }
@@ -235,7 +235,7 @@ fn go_on(
     r: usize,
 ) -> usize
     requires { ⌜ Order (edgeCount (now edges)) (now order) ⌝ }
-    requires { ⌜ edgeCount (now edges) ≤ 1024 ⌝ }
+    requires { ⌜ edgeCount (now edges) ≤ maxEdges ⌝ }
     requires { ⌜ Tables (now edges) (now gives) (now passes) (now sets) ⌝ }
     requires { ⌜ rowCount (now sets) ≤ length (now marks) ⌝ }
     requires { ⌜ Marked (now edges) (now order) along (now marks) ⌝ }
@@ -267,7 +267,7 @@ fn go_on_marked(
     r: usize,
 ) -> usize
     requires { ⌜ Order (edgeCount (now edges)) (now order) ⌝ }
-    requires { ⌜ edgeCount (now edges) ≤ 1024 ⌝ }
+    requires { ⌜ edgeCount (now edges) ≤ maxEdges ⌝ }
     requires { ⌜ Tables (now edges) (now gives) (now passes) (now sets) ⌝ }
     requires { ⌜ rowCount (now sets) ≤ 256 ⌝ }
     requires { ⌜ Going (now edges) (now order) along (now gives) (now passes) (rowCount (now sets)) (now sets) r ⌝ }
@@ -290,7 +290,7 @@ pub fn solve(
     sets: &mut [Set],
 ) -> usize
     requires { ⌜ Order (edgeCount (now edges)) (now order) ⌝ }
-    requires { ⌜ edgeCount (now edges) ≤ 1024 ⌝ }
+    requires { ⌜ edgeCount (now edges) ≤ maxEdges ⌝ }
     requires { ⌜ Tables (now edges) (now gives) (now passes) (now sets) ⌝ }
     requires { ⌜ rowCount (now sets) ≤ 256 ⌝ }
     ensures { λ r. ⌜ Solved

@@ -3,7 +3,7 @@
 use mathlib.Core.Path.{_≡_, refl, sym, ap, subst, _∙_}
 use mathlib.Core.Bool.{true}
 use mathlib.Core.List.{List}
-use Prim.Native.Nat.{ℕ, _-_, _/_, _^_, _≤_, _<_, zero-le}
+use Prim.Native.Nat.{ℕ, _-_, _^_, _≤_, _<_, zero-le}
 use native.Mathlib.Omega.{arith}
 use lib.Bits.{bitOr}
 use lib.ListN.{length, getD, set, length-set}
@@ -11,6 +11,7 @@ use Rattle.sets.specs.Sets.{has}
 use Rattle.flow.specs.Paths.{edgeCount}
 use Rattle.flow.specs.Solver.{far, turn}
 use Rattle.flow.proofs.Rounds.{turn-lt, far-lt}
+use Rattle.solver.specs.Blocks.{blockOf}
 use Rattle.solver.proofs.Blocks.{marked-more}
 use Rattle.solver.proofs.mark_all.Statement.{statement}
 use Rattle.solver.proofs.mark_all.Tie as tie
@@ -18,7 +19,7 @@ use Rattle.solver.proofs.mark_all.Tie as tie
 abbrev Inv-loop : tie.InvT-loop
 Inv-loop edges order along marks₀ j₀ j-end marks j =
     (length marks ≡ length marks₀) × (j ≤ length order)
-    × ((k : ℕ) → k < j → has (getD marks (far edges along (turn order along k)) 0) (k / 16) ≡ true)
+    × ((k : ℕ) → k < j → has (getD marks (far edges along (turn order along k)) 0) (blockOf k) ≡ true)
 
 abbrev μ-loop : tie.MeasureT-loop
 μ-loop edges order along marks₀ j₀ j-end marks j = j-end - j
@@ -45,7 +46,7 @@ module _ (c : tie.After-far-end Inv-loop μ-loop) where
     far-lt (s .pre .1 .1) (s .args .along) (turn (s .args .order .now) (s .args .along) (q .before .loop .j)) (turn-lt (s .pre .0) (s .args .along) (q .before .loop .j) (q .loop-test .taken)),
   )
 
-  few : q .before .loop .j / 16 < 64
+  few : blockOf (q .before .loop .j) < 64
   few = omega (arith, q .loop-test .taken, s .pre .0 .all, s .pre .1 .0)
 
 edge-at-requires : tie.Need-edge-at-requires Inv-loop μ-loop
@@ -72,10 +73,10 @@ loop-again c =
     let q = x .before .before in
     let l = q .before .before .before in
     let s = l .before .before .before .before in
-    let made : x .mark .last .0 ≡ set (l .loop .marks) (far (s .args .edges .now) (s .args .along) (turn (s .args .order .now) (s .args .along) (l .loop .j))) _ = x .mark .ensures ∙ ap (λ (v : ℕ). set (l .loop .marks) v (bitOr (getD (l .loop .marks) v 0) (2 ^ (l .loop .j / 16)))) (far-is q) in (
+    let made : x .mark .last .0 ≡ set (l .loop .marks) (far (s .args .edges .now) (s .args .along) (turn (s .args .order .now) (s .args .along) (l .loop .j))) _ = x .mark .ensures ∙ ap (λ (v : ℕ). set (l .loop .marks) v (bitOr (getD (l .loop .marks) v 0) (2 ^ blockOf (l .loop .j)))) (far-is q) in (
       ap length made ∙ simp length-set (l .loop .inv .0),
       omega (arith, q .before .before .loop-test .taken),
-      λ k h. ap (λ (m : List ℕ). has (getD m (far (s .args .edges .now) (s .args .along) (turn (s .args .order .now) (s .args .along) k)) 0) (k / 16)) made
+      λ k h. ap (λ (m : List ℕ). has (getD m (far (s .args .edges .now) (s .args .along) (turn (s .args .order .now) (s .args .along) k)) 0) (blockOf k)) made
           ∙ marked-more (s .args .edges .now) (s .args .order .now) (s .args .along) (l .loop .marks) (l .loop .j) (subst (λ (v : ℕ). v < length (l .loop .marks)) (far-is q) (far-fits q)) (l .loop .inv .2) k h,
     )
 

@@ -2,11 +2,11 @@
 -- Assumes nothing.
 use mathlib.Core.Path.{_≡_, refl, sym, subst, _∙_}
 use mathlib.Core.Bool.{false}
-use Prim.Native.Nat.{ℕ, _-_, _*_, _/_, _≤_, min}
+use Prim.Native.Nat.{ℕ, _-_, _/_, _≤_}
 use native.Mathlib.Omega.{arith}
 use lib.ListN.{length}
 use Rattle.flow.proofs.Rows.{tables}
-use Rattle.solver.specs.Blocks.{Taken}
+use Rattle.solver.specs.Blocks.{blockStart, Taken}
 use Rattle.solver.proofs.Blocks.{skipped, round-none}
 use Rattle.solver.proofs.round.Statement.{statement}
 use Rattle.solver.proofs.round.Tie as tie
@@ -14,7 +14,7 @@ use Rattle.solver.proofs.round.Tie as tie
 abbrev Inv-loop : tie.InvT-loop
 Inv-loop edges order along gives passes sets₀ marks pending p₀ b₀ sets p b =
     (b ≤ 64) × (length sets ≡ length sets₀)
-    × Taken edges order along gives passes sets₀ (min (16 * b) (length order)) (min (16 * b) (length order)) sets p
+    × Taken edges order along gives passes sets₀ (blockStart (length order) b) (blockStart (length order) b) sets p
 
 abbrev μ-loop : tie.MeasureT-loop
 μ-loop edges order along gives passes sets₀ marks pending p₀ b₀ sets p b = 64 - b
@@ -31,7 +31,7 @@ loop-holds c =
     let g = c .before .before .before .before .before .before .before in
     let a = g .args in
     let n = length (a .order .now) in
-    let none : 0 ≡ min (16 * 0) n = omega arith in (
+    let none : 0 ≡ blockStart n 0 = omega arith in (
       c .next-pending .ensures .most,
       refl,
       skipped (a .edges .now) (a .along) (a .gives .now) (a .passes .now) (g .pre .0) (a .sets .now)
@@ -78,7 +78,7 @@ returns c =
     let l = c .before in
     let a = s l .args in
     let n = length (a .order .now) in
-    let all : min (16 * l .loop .b) n ≡ n = omega (arith, c .loop-test .left, s l .pre .0 .all, s l .pre .1 .0) in
+    let all : blockStart n (l .loop .b) ≡ n = omega (arith, c .loop-test .left, s l .pre .0 .all, s l .pre .1 .0) in
     subst (λ (x : ℕ). Taken (a .edges .now) (a .order .now) (a .along) (a .gives .now) (a .passes .now) (a .sets .now) x x (l .loop .sets) (l .loop .p)) all (l .loop .inv .2)
 
 pub round-spec : {M : Type 1} → statement M
