@@ -9,7 +9,6 @@ use borrow.Author.Tests.{eq-eqb, ne-eqb, eqb-true}
 use Rattle.labels.specs.Events.{edgeBytes, event, versionOf, version}
 use Rattle.routine.specs.Layout.{arrays, entry, exit}
 use Rattle.routine.specs.Reader.{WellFormed}
-use Rattle.routine.proofs.WellFormed.{exit-nothing}
 use Rattle.labels.specs.Kept.{isNOrR, keptOf}
 use Rattle.labels.proofs.Rules.Proper.{Proper}
 use Rattle.labels.specs.Uses.{isN, useOf}
@@ -49,7 +48,7 @@ module _ {file : List ℕ} {a : ℕ} (proper : Proper file a) where
   pub exit-quiet : WellFormed file → a < arrays file → isIn (kind file a) ≡ true → event file a (exit file) ≡ Nothing
   unfolding event
   exit-quiet w l e =
-      rw (ne-eqb (exit file) entry (λ q. omega (arith, w .laid .limits .two-vertices)), ap (λ (k : ℕ). isOutOrInout k) (eqb-true (kind file a) 1 e), and-false) (exit-nothing w l)
+      rw (ne-eqb (exit file) entry (λ q. omega (arith, w .laid .limits .two-vertices)), ap (λ (k : ℕ). isOutOrInout k) (eqb-true (kind file a) 1 e), and-false) (w .exit-nothing l)
 
   pub sound : Sound (computedPlan file a)
   sound =

@@ -15,7 +15,6 @@ use Rattle.routine.specs.Edges.{edgeOf}
 use Rattle.routine.specs.Layout.{edges}
 use Rattle.routine.specs.Reader.{WellFormed}
 use Rattle.routine.specs.declared.edge.Edge.{Edge}
-use Rattle.routine.proofs.WellFormed.{edge-limits}
 use Rattle.sets.specs.Sets.{has}
 use Rattle.sets.proofs.Laws.{has-with, has-zero}
 use Rattle.path.specs.EdgeTable.{wordAt, withEdge, edgeTable, hasEdge, arrivalBy}
@@ -94,7 +93,7 @@ module _ (e : Edge) (v w : ℕ) (from-small : e .from < 256) (to-small : e .to <
 module _ {file : List ℕ} (well : WellFormed file) where
   pub edge-small : (i : ℕ) → i < edges file → (edgeOf file i .from < 256) × (edgeOf file i .to < 256)
   edge-small i h =
-      let e = edge-limits well h in
+      let e = well .edge-limits h in
       let few = well .laid .limits .few-vertices in
       (omega (arith, e .from-below), omega (arith, e .to-below))
 

@@ -15,7 +15,6 @@ use Rattle.routine.specs.Layout.{vertices, edges, entry}
 use Rattle.routine.specs.Reader.{WellFormed}
 use Rattle.refusal.specs.Checks.{firstFailed}
 use Rattle.refusal.specs.declared.Verdict.the-variants.{Passed}
-use Rattle.routine.proofs.WellFormed.{edge-limits}
 use Rattle.refusal.proofs.Checks.{holds-true, parts, shift, each-passed}
 use Rattle.words.specs.Sums.{anyBelow}
 use Rattle.words.proofs.Tests.{or-cases}
@@ -76,4 +75,4 @@ within-vertices w p zero h = omega (arith, p .begins, w .laid .limits)
 within-vertices {file} w p (suc i) h =
     let e = p .joined i h in
     let listed : e .place < edges file = omega (arith, edge-count file (w .laid), e .listed) in
-    omega (arith, edge-limits w listed, edge-to file (e .place), e .enters)
+    omega (arith, w .edge-limits listed, edge-to file (e .place), e .enters)

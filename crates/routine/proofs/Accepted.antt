@@ -1,4 +1,4 @@
--- An accepted file is well formed and laid out, and the answer is its own header; and the other way round.
+-- An accepted file is well formed and laid out, and the answer is its own header; a file that passes the checks is accepted.
 -- Assumes nothing.
 use mathlib.Core.Path.{_≡_, refl, sym, ap, _∙_}
 use mathlib.Core.List.{List}
@@ -17,13 +17,14 @@ use Rattle.refusal.specs.Checks.{_andThen_}
 use Rattle.routine.specs.Edges.{edgeCheck, check16}
 use Rattle.routine.specs.Layout.{arrays, vertices, edges, headerOf}
 use Rattle.refusal.specs.Replies.{written, filledBy}
-use Rattle.routine.specs.Reader.{Laid, formCheck, bodyCheck, readCheck, answered, readOf, deniedOf, WellFormed, Heads}
+use Rattle.routine.specs.Reader.{Laid, formCheck, bodyCheck, readCheck, answered, readOf, deniedOf, WellFormed, ChecksPassed, Heads}
 use Rattle.routine.proofs.Form.{laid, heads}
+use Rattle.routine.proofs.WellFormed.{well-formed}
 use Rattle.refusal.proofs.Checks.{parts, each-passed, all-passed}
 
 -- ---- checks 14 to 19
 
-bodies-passed : (file : List ℕ) → Laid file → bodyCheck file ≡ Passed → WellFormed file
+bodies-passed : (file : List ℕ) → Laid file → bodyCheck file ≡ Passed → ChecksPassed file
 unfolding bodyCheck check14 actionsCheck check16
 bodies-passed file l e =
     record {
@@ -33,7 +34,7 @@ bodies-passed file l e =
       edges-pass = each-passed (edgeCheck file) (edges file) (search parts);
     }
 
-passed-bodies : (file : List ℕ) → WellFormed file → bodyCheck file ≡ Passed
+passed-bodies : (file : List ℕ) → ChecksPassed file → bodyCheck file ≡ Passed
 unfolding bodyCheck check14 actionsCheck check16
 passed-bodies file w =
     rw (
@@ -50,7 +51,7 @@ answered-passed (Failed r) h g e = (cc, cc)
 -- a file that passes 10 to 19
 pub passed-read : (file : List ℕ) → readCheck file ≡ Passed → WellFormed file
 unfolding readCheck
-passed-read file e = bodies-passed file (laid file (search parts)) (search parts)
+passed-read file e = well-formed (bodies-passed file (laid file (search parts)) (search parts))
 
 pub accepted : (file : List ℕ) {h : Header} → readOf file ≡ Routine h → WellFormed file × Heads h file × (h ≡ headerOf file)
 unfolding readOf
@@ -59,7 +60,7 @@ accepted file {h} e =
     let w = passed-read file (p .0) in
     (w, rw (p .1) (heads file (w .laid)), p .1)
 
-pub accepts : (file : List ℕ) → formCheck file ≡ Passed → WellFormed file → readOf file ≡ Routine (headerOf file)
+pub accepts : (file : List ℕ) → formCheck file ≡ Passed → ChecksPassed file → readOf file ≡ Routine (headerOf file)
 unfolding readOf readCheck
 accepts file f w = rw (f, passed-bodies file w)
 

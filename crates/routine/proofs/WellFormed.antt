@@ -1,4 +1,4 @@
--- What a well-formed file has, as laws to cite: array records and edges within their limits, known actions, edges that rise.
+-- A file that passed the checks is well formed: array records and edges within their limits, known actions, edges that rise.
 -- Assumes nothing.
 use mathlib.Core.Path.{_≡_, refl, ap}
 use mathlib.Core.Bool.{Bool, true, false, not, _&&_, true≢false, false≢true, or-true}
@@ -11,30 +11,14 @@ use native.Mathlib.Omega.{arith}
 use borrow.Author.Tests.{ltb-true, eqb-true, eq-eqb, not-true, not-false}
 use Rattle.routine.specs.declared.action.Access.{Access}
 use Rattle.routine.specs.declared.action.Action.the-variants.{Nothing, Reference, Remap, Unknown}
-use Rattle.routine.specs.declared.array.ArrayRecord.{ArrayRecord}
-use Rattle.routine.specs.declared.edge.Edge.{Edge}
 use Rattle.refusal.specs.declared.Verdict.the-variants.{Passed}
 use Rattle.routine.specs.Actions.{actionOf, action, actionByte, isKnown, remapsBelow, isReference, isRemap, isEntryOrExit, isMixed, actionCheck}
 use Rattle.routine.specs.Arrays.{arrayOf, arrayCheck}
 use Rattle.routine.specs.Edges.{edgeOf, before, rises, edgeCheck}
 use Rattle.routine.specs.Layout.{arrays, vertices, edges}
-use Rattle.routine.specs.Reader.{WellFormed}
+use Rattle.routine.specs.Reader.{ArrayLimits, EdgeLimits, WellFormed, ChecksPassed}
 use Rattle.refusal.proofs.Checks.{parts}
-use Rattle.sets.specs.Sets.{width}
 use Rattle.words.proofs.Sums.{each-fails}
-
-pub record ArrayLimits (r : ArrayRecord) : Type 0 where
-  pub kind-known : r .kind ≤ 3
-  pub some-version : 1 ≤ r .versions
-  pub few-versions : r .versions ≤ width
-  pub initial-below : r .initial < r .versions
-  pub last-zero : r .zero ≡ 0
-
-pub record EdgeLimits (e : Edge) (n : ℕ) : Type 0 where
-  pub from-below : e .from < n
-  pub to-below : e .to < n
-  pub to-other : e .to ≡ 0 → ⊥
-  pub from-other : e .from ≡ n - 1 → ⊥
 
 -- ---- an action byte that passed
 
@@ -64,16 +48,16 @@ passed-action file a v e =
 
 -- ---- the laws
 
-module _ {file : List ℕ} (w : WellFormed file) where
-  pub array-limits : {a : ℕ} → a < arrays file → ArrayLimits (arrayOf file a)
+module _ {file : List ℕ} (p : ChecksPassed file) where
+  array-limits : {a : ℕ} → a < arrays file → ArrayLimits (arrayOf file a)
   unfolding arrayCheck
   array-limits {a} in-a =
-      let e = w .arrays-pass a in-a in
+      let e = p .arrays-pass a in-a in
       search parts
 
   module _ {v a : ℕ} (in-v : v < vertices file) (in-a : a < arrays file) where
     passed-here : PassedAction file a v
-    passed-here = passed-action file a v (w .actions-pass a v in-a in-v)
+    passed-here = passed-action file a v (p .actions-pass a v in-a in-v)
 
     pub action-known : action file a v ≡ Unknown → ⊥
     action-known e = false≢true (rw e at (passed-here .known))
@@ -81,16 +65,16 @@ module _ {file : List ℕ} (w : WellFormed file) where
     pub remap-below : {k : ℕ} → action file a v ≡ Remap k → k < arrayOf file a .versions
     remap-below {k} e = ltb-true k (arrayOf file a .versions) (rw e at (passed-here .below))
 
-  pub entry-nothing : {a : ℕ} → a < arrays file → action file a 0 ≡ Nothing
-  entry-nothing in-a = passed-here {v = 0} (omega (arith, w .laid .limits)) in-a .zero-there refl
+  entry-nothing : {a : ℕ} → a < arrays file → action file a 0 ≡ Nothing
+  entry-nothing in-a = passed-here {v = 0} (omega (arith, p .laid .limits)) in-a .zero-there refl
 
-  pub exit-nothing : {a : ℕ} → a < arrays file → action file a (vertices file - 1) ≡ Nothing
+  exit-nothing : {a : ℕ} → a < arrays file → action file a (vertices file - 1) ≡ Nothing
   exit-nothing in-a =
       let last = vertices file - 1 in
-      passed-here {v = last} (omega (arith, w .laid .limits)) in-a .zero-there (rw (eq-eqb last last refl, or-true))
+      passed-here {v = last} (omega (arith, p .laid .limits)) in-a .zero-there (rw (eq-eqb last last refl, or-true))
 
   -- a vertex has references or remappings, never both
-  pub never-both : {v a b : ℕ} {r : Access} {k : ℕ} → v < vertices file → a < arrays file → b < arrays file →
+  never-both : {v a b : ℕ} {r : Access} {k : ℕ} → v < vertices file → a < arrays file → b < arrays file →
       action file a v ≡ Reference r → action file b v ≡ Remap k → ⊥
   never-both {v} {a} {b} in-v in-a in-b reference remap =
       ⊎-elim
@@ -101,15 +85,26 @@ module _ {file : List ℕ} (w : WellFormed file) where
       (λ (some : 0 < b - a). true≢false (rw (remap, reference) at (passed-here in-v in-b .alike a (omega arith))))
       (eq-zero-or-pos (b - a))
 
-  pub edge-limits : {i : ℕ} → i < edges file → EdgeLimits (edgeOf file i) (vertices file)
+  edge-limits : {i : ℕ} → i < edges file → EdgeLimits (edgeOf file i) (vertices file)
   unfolding edgeCheck
   edge-limits {i} in-i =
-      let e = w .edges-pass i in-i in
+      let e = p .edges-pass i in-i in
       search parts
 
-  pub edges-rise : (i : ℕ) → i + 1 < edges file → before (edgeOf file i) (edgeOf file (i + 1)) ≡ true
+  edges-rise : (i : ℕ) → i + 1 < edges file → before (edgeOf file i) (edgeOf file (i + 1)) ≡ true
   unfolding edgeCheck rises
   edges-rise i in-i =
-      let e = w .edges-pass (i + 1) in-i in
+      let e = p .edges-pass (i + 1) in-i in
       let r : rises file (i + 1) ≡ true = search parts in
       rw add-one (rw add-one at r)
+
+  pub well-formed : WellFormed file
+  well-formed = record {
+    laid = p .laid;
+    array-limits = array-limits;
+    entry-nothing = entry-nothing;
+    exit-nothing = exit-nothing;
+    never-both = never-both;
+    edge-limits = edge-limits;
+    edges-rise = edges-rise;
+  }

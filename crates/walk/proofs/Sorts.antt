@@ -13,7 +13,6 @@ use Rattle.routine.specs.Layout.{arrays, vertices, exit}
 use Rattle.routine.specs.Reader.{WellFormed}
 use Rattle.routine.specs.declared.action.Action.{Action}
 use Rattle.routine.specs.declared.action.Action.the-variants.{Nothing, Reference, Remap, Unknown}
-use Rattle.routine.proofs.WellFormed.{entry-nothing, exit-nothing, never-both}
 use Rattle.labels.proofs.Rules.Events.{inner-event}
 use Rattle.words.proofs.Tests.{at-cond, or-cases}
 use Rattle.walk.specs.Walks.{OneSort, Labels}
@@ -26,7 +25,7 @@ module _ {file : List ℕ} (well : WellFormed file) (v : ℕ) where
     apart in-a in-b Nothing y e f = refl
     apart in-a in-b (Reference r) Nothing e f = refl
     apart in-a in-b (Reference r) (Reference s) e f = refl
-    apart in-a in-b (Reference r) (Remap k) e f = absurd (never-both well in-v in-a in-b e f)
+    apart in-a in-b (Reference r) (Remap k) e f = absurd (well .never-both in-v in-a in-b e f)
     apart in-a in-b (Reference r) Unknown e f = refl
     apart in-a in-b (Remap k) y e f = refl
     apart in-a in-b Unknown y e f = refl
@@ -47,8 +46,8 @@ module _ {file : List ℕ} (well : WellFormed file) (v : ℕ) where
   at-terminal t b in-b =
       at-cond (λ (x : Action). isReference x ≡ false) (eqb v 0 || (eqb v (exit file) && isOutOrInout (kind file b))) (λ _. refl)
       (λ _. ap isReference (or-cases (eqb v 0) (eqb v (exit file))
-      (λ e. ap (λ (w : ℕ). action file b w) (eqb-true v 0 e) ∙ entry-nothing well in-b)
-      (λ e. ap (λ (w : ℕ). action file b w) (eqb-true v (exit file) e) ∙ exit-nothing well in-b) t))
+      (λ e. ap (λ (w : ℕ). action file b w) (eqb-true v 0 e) ∙ well .entry-nothing in-b)
+      (λ e. ap (λ (w : ℕ). action file b w) (eqb-true v (exit file) e) ∙ well .exit-nothing in-b) t))
 
 -- elsewhere the row tells
 module _ (file : List ℕ) (v : ℕ) (first : eqb v 0 ≡ false) (last : eqb v (exit file) ≡ false) where

@@ -13,8 +13,7 @@ use Rattle.flow.specs.Solver.{Ends}
 use Rattle.routine.specs.Arrays.{initial}
 use Rattle.routine.specs.Edges.{edgeOf}
 use Rattle.routine.specs.Layout.{arrays, vertices, entry, exit, edges, edgesAt}
-use Rattle.routine.specs.Reader.{Laid, WellFormed}
-use Rattle.routine.proofs.WellFormed.{EdgeLimits, array-limits, edge-limits}
+use Rattle.routine.specs.Reader.{Laid, EdgeLimits, WellFormed}
 use Rattle.labels.specs.Events.{edgeBytes}
 use Rattle.sets.specs.Sets.{width}
 
@@ -44,7 +43,7 @@ edge-to file i = word-drop (edgesAt file) file (4 * i + 2) ∙ ap (word file) (o
 
 module _ (file : List ℕ) (w : WellFormed file) where
   limits : (i : ℕ) → i < edgeCount (edgeBytes file) → EdgeLimits (edgeOf file i) (vertices file)
-  limits i h = edge-limits w (omega (arith, edge-count file (w .laid)))
+  limits i h = w .edge-limits (omega (arith, edge-count file (w .laid)))
 
   -- its edges are among its vertices
   pub ends-within : Ends (edgeBytes file) (vertices file)
@@ -59,5 +58,5 @@ module _ (file : List ℕ) (w : WellFormed file) where
     ends = ends-within;
     none-enters = λ v e. limits (e .place) (e .listed) .to-other (sym (edge-to file (e .place)) ∙ e .enters);
     none-leaves = λ v e. limits (e .place) (e .listed) .from-other (sym (edge-from file (e .place)) ∙ e .leaves);
-    initial-fits = omega (arith, array-limits w in-a);
+    initial-fits = omega (arith, w .array-limits in-a);
   }
