@@ -1,8 +1,8 @@
 -- Demand 3 for every accepted file and path: all arrays at once, along the whole path.
 -- Assumes nothing.
 use mathlib.Core.Path.{_≡_, refl, sym, ap, subst, _∙_}
-use mathlib.Core.Bool.{Bool, true, cond}
-use mathlib.Core.List.{List, [], _∷_, _++_}
+use mathlib.Core.Bool.{true, cond}
+use mathlib.Core.List.{List}
 use mathlib.Core.Option.{Option, none, some}
 use Prim.Native.Nat.{ℕ, zero, suc, _+_, _-_, _≤_, _<_, _^_}
 use native.Mathlib.Nat.{add-zero}
@@ -13,6 +13,7 @@ use mathlib.Core.Logic.{Iff·rfl, ⊎-elim}
 use Rattle.labels.specs.Checks.{writesIn, check20}
 use Rattle.labels.specs.Events.{event, isLabel, version, versionOf, isWrite}
 use Rattle.labels.specs.Uses.{useOf}
+use Rattle.labels.proofs.Rules.Arrivals.{last-snoc}
 use Rattle.labels.proofs.Rules.Checks.{check20-passed}
 use Rattle.labels.proofs.Rules.Uses.{unwritten-d}
 use Rattle.routine.specs.Arrays.{kind, initial, isIn, isInOrInout, isOutOrInout}
@@ -47,19 +48,6 @@ use Rattle.words.proofs.Tables.{rows-same}
 use Rattle.sets.specs.Sets.{width}
 
 -- ---- the version of the last label before a vertex
-
-or-last-none : (o : Option ℕ) → orLast none o ≡ o
-or-last-none none = refl
-or-last-none (some k) = refl
-
-last-assoc : (a b c : Option ℕ) → orLast a (orLast b c) ≡ orLast (orLast a b) c
-last-assoc a b none = refl
-last-assoc a b (some k) = refl
-
-last-snoc : (test : ℕ → Bool) (ver : ℕ → ℕ) (us : List ℕ) (u : ℕ)
-    → lastVersion test ver (us ++ (u ∷ [])) ≡ orLast (lastVersion test ver us) (cond (test u) (some (ver u)) none)
-last-snoc test ver [] u = sym (or-last-none _)
-last-snoc test ver (x ∷ us) u = rw (last-snoc test ver us u, last-assoc)
 
 -- a label's version is held from there on
 last-step : (x : Action) (step : ℕ) (m : Machine) → orLast (some (m .held)) (cond (isRemap x) (some (versionOf x)) none) ≡ some (machineStep x step m .held)

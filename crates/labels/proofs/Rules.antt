@@ -1,5 +1,6 @@
 pub mod Ambiguity
 pub mod Arrivals
+pub mod Brought
 pub mod Checks
 pub mod Demand
 pub mod Events

@@ -1,5 +1,6 @@
 pub mod Buffers
 pub mod Filling
+pub mod Lists
 pub mod Replaced
 pub mod Sums
 pub mod Tables

@@ -3,12 +3,14 @@
 use mathlib.Core.Path.{_≡_, refl, sym, ap, ap₂, _∙_}
 use mathlib.Core.List.{List, [], _∷_, _++_}
 use Prim.Native.Nat.{ℕ, zero, suc, _+_, _*_, _≤_, _<_, zero-le}
+use native.Mathlib.Nat.{mul-comm, mul-le-mul-right}
 use native.Mathlib.Numerals.{add-one}
 use native.Mathlib.Omega.{arith}
 use borrow.Author.Count.{below-more}
 use lib.ListN.{length, getD, set, replicate, length-append, List·getD-append}
 use lib.Seq.{getD-at}
 use Rattle.words.specs.Tables.{table, rows}
+use Rattle.words.proofs.Lists.{getD-behind}
 
 -- ---- stores
 
@@ -65,6 +67,17 @@ pub rows-length : (row : ℕ → List ℕ) (w : ℕ) → ((i : ℕ) → length (
 unfolding rows
 rows-length row w wide zero = omega arith
 rows-length row w wide (suc n) = omega (arith, length-append (rows row n) (row n), wide n, rows-length row w wide n)
+
+-- and their elements
+pub rows-at : (row : ℕ → List ℕ) (w : ℕ) → ((i : ℕ) → length (row i) ≡ w) → (n i a : ℕ) → i < n → a < w → getD (rows row n) (i * w + a) 0 ≡ getD (row i) a 0
+unfolding rows
+rows-at row w wide zero i a h l = absurd (omega arith)
+rows-at row w wide (suc n) i a h l =
+    let sized : length (rows row n) ≡ n * w = rows-length row w wide n ∙ mul-comm w n in
+    below-more (λ j. getD (rows row n ++ row n) (j * w + a) 0 ≡ getD (row j) a 0) n
+    (λ j g. List·getD-append (rows row n) (row n) 0 (j * w + a) (omega (arith, mul-le-mul-right w g)) ∙ rows-at row w wide n j a g l)
+    (getD-behind (rows row n) (row n) sized a 0)
+    i (omega arith)
 
 -- ---- tables of numbers: rows of one
 

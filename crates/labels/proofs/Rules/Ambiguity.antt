@@ -76,7 +76,7 @@ module _ (file : List ℕ) (a : ℕ) (proper : Proper file a) (v : ℕ) where
         ∙ entry-label u (p .0) (lastVersion (isLabel file a) (version file a) us)
 
     -- the reaching set holds what paths bring
-    brings-exact : (k : ℕ) → T (has (reachingOf file a v) k) ↔ Brings file a v k
+    pub brings-exact : (k : ℕ) → T (has (reachingOf file a v) k) ↔ Brings file a v k
     brings-exact k = Iff·trans (reaching-exact file a proper v k) (
       λ r. record { before = r .before; path = r .path; brings = sym (last-brings (r .before) (r .path)) ∙ r .brings },
       λ b. record { before = b .before; path = b .path; brings = last-brings (b .before) (b .path) ∙ b .brings },

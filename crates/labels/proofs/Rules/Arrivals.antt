@@ -1,6 +1,6 @@
 -- Paths from the entry: which vertices they reach, and which vertex of a kind is the last on them.
 -- Assumes nothing.
-use mathlib.Core.Path.{_≡_, refl, ap, _∙_}
+use mathlib.Core.Path.{_≡_, refl, sym, ap, _∙_}
 use mathlib.Core.Bool.{Bool, true, false, not, cond}
 use mathlib.Core.List.{List, [], _∷_, _++_}
 use mathlib.Core.Logic.{_↔_, _⊎_, inl, inr, ⊎-elim}
@@ -55,13 +55,26 @@ joined-append : (es : List ℕ) (u : ℕ) (us : List ℕ) (w : ℕ) (ws : List �
 joined-append es u [] w ws v e t = (e, t)
 joined-append es u (x ∷ us) w ws v e t = (e .0, joined-append es x us w ws v (e .1) t)
 
-arrives-append : (file before : List ℕ) (w : ℕ) (ws : List ℕ) (v : ℕ) → ArrivesBy file before w → Joined (edgeBytes file) w ws v → ArrivesBy file (before ++ w ∷ ws) v
+pub arrives-append : (file before : List ℕ) (w : ℕ) (ws : List ℕ) (v : ℕ) → ArrivesBy file before w → Joined (edgeBytes file) w ws v → ArrivesBy file (before ++ w ∷ ws) v
 arrives-append file [] w ws v e t = (e, t)
 arrives-append file (u ∷ us) w ws v p t = (p .0, joined-append (edgeBytes file) u us w ws v (p .1) t)
 
 -- ---- the last vertex of a kind
 
+or-last-none : (o : Option ℕ) → orLast none o ≡ o
+or-last-none none = refl
+or-last-none (some k) = refl
+
+last-assoc : (a b c : Option ℕ) → orLast a (orLast b c) ≡ orLast (orLast a b) c
+last-assoc a b none = refl
+last-assoc a b (some k) = refl
+
 module _ (q : ℕ → Bool) (version : ℕ → ℕ) where
+  -- one vertex on
+  pub last-snoc : (us : List ℕ) (u : ℕ) → lastVersion q version (us ++ (u ∷ [])) ≡ orLast (lastVersion q version us) (cond (q u) (some (version u)) none)
+  last-snoc [] u = sym (or-last-none _)
+  last-snoc (x ∷ us) u = rw (last-snoc us u, last-assoc)
+
   -- none of the kind, and one with none after it
   pub last-none : (us : List ℕ) → AllPass (λ u. not (q u)) us → lastVersion q version us ≡ none
   last-none [] h = refl
