@@ -1,14 +1,17 @@
 -- What checks 10 to 13 leave when they pass; where the bodies stand, by a header and by its file, and that every place is inside the file.
 -- Assumes nothing.
-use mathlib.Core.Path.{_≡_, ap, ap₂}
+use mathlib.Core.Path.{_≡_, sym, ap, ap₂, _∙_}
 use mathlib.Core.List.{List}
 use Prim.Native.Nat.{ℕ, _+_, _*_, _≤_, _<_}
 use native.Mathlib.Nat.{mul-le-mul, mul-le-mul-right}
 use native.Mathlib.Omega.{arith}
-use lib.ListN.{length}
+use lib.Dec.{lit<}
+use lib.ListN.{length, getD, take, drop}
+use lib.Seq.{getD-take, getD-drop}
 use Rattle.refusal.specs.declared.Verdict.the-variants.{Passed}
 use Rattle.routine.specs.declared.header.Header.{Header}
-use Rattle.routine.specs.Layout.{arrays, vertices, edges, actionAt, edgeAt, endAt, headerOf, check10, check12, check13}
+use Rattle.routine.specs.Arrays.{arrayOf}
+use Rattle.routine.specs.Layout.{arrays, vertices, edges, recordAt, actionAt, edgeAt, endAt, headerOf, check10, check12, check13}
 use Rattle.routine.specs.Reader.{formCheck, Limits, Laid, Heads}
 use Rattle.refusal.proofs.Checks.{parts}
 
@@ -19,7 +22,9 @@ module _ (file : List ℕ) where
 
   pub in-limits : check12 file ≡ Passed → Limits (headerOf file)
   unfolding check12
-  in-limits e = search parts
+  in-limits e =
+      let few : edges file ≤ 1024 = search parts in
+      record { some-array = search parts; few-arrays = search parts; two-vertices = search parts; few-vertices = search parts; few-edges = omega (arith, few) }
 
   ends-there : check13 file ≡ Passed → length file ≡ endAt file
   unfolding check13
@@ -31,6 +36,17 @@ module _ (file : List ℕ) where
 
   pub heads : Laid file → Heads (headerOf file) file
   heads l = search
+
+-- ---- files that are alike in the bytes of an array record
+
+pub array-alike : (s t : List ℕ) (a : ℕ) → ((j : ℕ) → j < 4 → getD s (recordAt a + j) 0 ≡ getD t (recordAt a + j) 0) → arrayOf s a ≡ arrayOf t a
+unfolding arrayOf
+array-alike s t a same = cc (field 0 (lit< tt), field 1 (lit< tt), field 2 (lit< tt), field 3 (lit< tt))
+  where
+    field : (j : ℕ) → j < 4 → getD (take 4 (drop (recordAt a) s)) j 0 ≡ getD (take 4 (drop (recordAt a) t)) j 0
+    field j h =
+        getD-take 4 (drop (recordAt a) s) j 0 h ∙ getD-drop (recordAt a) s j 0 ∙ same j h
+        ∙ sym (getD-drop (recordAt a) t j 0) ∙ sym (getD-take 4 (drop (recordAt a) t) j 0 h)
 
 -- ---- by the header
 

@@ -12,6 +12,7 @@ use Rattle.routine.specs.declared.edge.Edge.{Edge}
 use Rattle.routine.specs.declared.header.Header.{Header}
 use Rattle.routine.specs.declared.reader.Answer.{Answer}
 use Rattle.routine.specs.declared.reader.Answer.the-variants.{Routine, Refused}
+use Rattle.flow.specs.Order.{maxEdges}
 use Rattle.refusal.specs.declared.Reply.{Reply}
 use Rattle.refusal.specs.declared.Reply.the-variants.{Written, Denied}
 use Rattle.refusal.specs.declared.Verdict.{Verdict}
@@ -56,13 +57,13 @@ deniedOf (Refused r) = Denied r
 
 -- ---- how the code keeps it: what a routine has, and a file that passed
 
--- counts within their limits
+-- counts within their limits; the edges within those of a routine whose calls are expanded
 pub record Limits (h : Header) : Type 0 where
   pub some-array : 1 ≤ h .arrays
   pub few-arrays : h .arrays ≤ 8
   pub two-vertices : 2 ≤ h .vertices
   pub few-vertices : h .vertices ≤ 256
-  pub few-edges : h .edges ≤ 1024
+  pub few-edges : h .edges ≤ maxEdges
 
 -- what checks 10 to 13 leave: counts within their limits, bodies that fill the file
 pub record Laid (file : List ℕ) : Type 0 where
