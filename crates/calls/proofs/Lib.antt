@@ -1,0 +1,10 @@
+pub mod Actions
+pub mod Arriving
+pub mod Bytes
+pub mod Calls
+pub mod Edges
+pub mod Events
+pub mod Example
+pub mod Formed
+pub mod Parts
+pub mod Referring
