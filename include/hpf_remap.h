@@ -31,16 +31,18 @@
  *     15    both      action: unknown                                         the byte                    0
  *     16    both      edge: an end not below the vertex count, into the       its first byte              0
  *                     entry, out of the exit, or not above the edge before
- *     17    both      action: a remapping to a version not below the          the byte                    0
- *                     array's versions
+ *     17    both      action: a remapping to, or a call with, a version       the byte                    0
+ *                     not below the array's versions
  *     18    both      action: not 00 at entry or exit                         the byte                    0
- *     19    both      action: a reference where an earlier byte of its        the byte                    0
- *                     vertex is a remapping, or the other way round
+ *     19    both      action: a reference, remapping or call where an         the byte                    0
+ *                     earlier byte of its vertex is one of another sort
+ *     22    both      the expanded routine has more than 256 vertices         how many                    0
  *
  *   The routine's programmer
- *     20    both      an in argument is defined or modified                   vertex                      array
- *     21    both      a reference is ambiguous: two paths from the entry      vertex                      array
- *                     bring different versions to it
+ *     20    both      an in argument is defined, modified, or passed as       vertex                      array
+ *                     out or inout
+ *     21    both      a reference or a call is ambiguous: two paths from      vertex                      array
+ *                     the entry bring different versions to it
  *
  *   The writer of the path
  *     30    hpf_run   no vertex, or more than 4,096                           how many vertices           0
@@ -48,11 +50,11 @@
  *     32    hpf_run   no such edge: none leads to the vertex from the         its index in the path       0
  *                     one before it
  *
- * Checks run from 10 up; 1 and 2 come last. 17, 18 and 19 are checked with 15, byte by byte and before 16: the first
- * byte at fault by any of the four is named, by the lowest number if several faults meet in it. Within one number the
- * lowest byte or index wins, for 20 and 21 the lowest vertex and then the lowest array. A call that answers 0 writes
- * `first` bytes from the buffer's start and leaves the others as they were; any other answer leaves the whole buffer
- * as it was.
+ * Checks run from 10 up, but 22 before 20; 1 and 2 come last. 17, 18 and 19 are checked with 15, byte by byte and
+ * before 16: the first byte at fault by any of the four is named, by the lowest number if several faults meet in it.
+ * Within one number the lowest byte or index wins, for 20 and 21 the lowest vertex of the file and then the lowest
+ * array. A call that answers 0 writes `first` bytes from the buffer's start and leaves the others as they were; any
+ * other answer leaves the whole buffer as it was.
  */
 #ifndef HPF_REMAP_H
 #define HPF_REMAP_H
@@ -88,12 +90,29 @@ typedef struct {
  *                         number of versions (1 to 16), initial version (below that number), zero
  *   18 + 4A        VA     for each vertex an action for each array: hexadecimal 00 nothing; 10 read, 20 define (all
  *                         of it rewritten, nothing read) and 30 modify (old value needed), which are references;
- *                         40+k remap to version k. A vertex has references or remappings, never both. Vertex 0 is
- *                         the entry, the last is the exit; their actions are all 00
+ *                         40+k (k below 16) remap to version k; 60+k, A0+k, C0+k (k below 32) a call of another
+ *                         routine, which gets the array in version k with intent in, out or inout. A vertex has
+ *                         references, remappings or calls, never two of these sorts. Vertex 0 is the entry, the last
+ *                         is the exit; their actions are all 00
  *   18 + 4A + VA   4E     for each edge: from (2), to (2), below V. Edges strictly rise by from, then to; none enters
  *                         the entry, none leaves the exit. With the last the file ends
  *
- *   plan           bytes  of V vertices and L labels
+ * A vertex with calls becomes three, which the arrays that it passes share. The first remaps each of them to the
+ * version k in which it is passed; the second reads it (intent in), defines it (out) or modifies it (inout); the third
+ * remaps it back to the version that the source names before the call, or to the initial one if no path gets there. An
+ * array that the vertex does not pass has 00 at all three. Edges to the vertex lead to the first, edges from it leave
+ * the third. All vertices are numbered anew, in the order of the file: this is the expanded routine. It has at most 256
+ * vertices (else 22) and at most 1,192 edges. A routine without calls is its own expanded routine.
+ *
+ * The expanded routine is what is planned and run: the vertices of plan and path, the steps, and the index that 32
+ * names are of it. 20 and 21 name vertices of the file; there a call is no remapping, but hands on every version that
+ * comes to it.
+ *
+ * Routine K, for example: an inout argument and an in argument, each of 2 versions, initial 0; vertex 1 has C1 61, 2
+ * has 10 10, 3 is the exit; edges 0-1, 1-2, 2-1, 2-3. Its expanded routine: 1 has 41 41, 2 has 30 10, 3 has 40 40, 4
+ * has 10 10, 5 is the exit; edges 0-1, 1-2, 2-3, 3-4, 4-1, 4-5.
+ *
+ *   plan           bytes  of the expanded routine, V vertices and L labels
  *   -------------  -----  ----------------------------------------------------------------------------------------
  *   0              4      `HPFP`
  *   4, 6           2, 2   V, L
@@ -104,8 +123,9 @@ typedef struct {
  *     + 2, 3              leaving version, 255 for none; zero
  *     + 4, 6       2, 2   reaching set; kept set
  *
- * A label is a remapping: each action 40+k, and one to the initial version of every array at the entry and of every
- * out and inout argument at the exit. Its segments are the paths from it that go no further than the array's next label.
+ * A label is a remapping of the expanded routine: each action 40+k there, and one to the initial version of every array
+ * at the entry and of every out and inout argument at the exit. Its segments are the paths from it that go no further
+ * than the array's next label.
  *
  *   N         no segment meets a reference: the label is dropped, and nothing is copied there;
  *   D         not N, and none meets a read, a modify or the next label without a define before it: no value is copied;
@@ -166,8 +186,8 @@ hpf_outcome hpf_plan(const uint8_t *routine, size_t routine_len, uint8_t *plan, 
  *
  *   path           bytes
  *   -------------  -----  ----------------------------------------------------------------------------------------
- *   0              2      for each vertex its number, the entry first, each next one along an edge. The path may end
- *                         at any vertex; an odd last byte is ignored
+ *   0              2      for each vertex of the expanded routine its number, the entry first, each next one along an
+ *                         edge. The path may end at any vertex, inside a call too; an odd last byte is ignored
  *
  * path_len counts bytes, as every length here does: two for each vertex. A caller who hands over the number of vertices
  * has half the path run, and is answered 0.

@@ -1,5 +1,6 @@
 //! Times of the verified library and of the oracle on the same inputs, in one process: medians
-//! of repeated batches, taken in turn. For a plan also the rounds over the edges.
+//! of repeated batches, taken in turn. For a plan also the rounds over the edges. Then times of the
+//! library on routines with calls and on the same routines written out without calls.
 
 mod order;
 mod rounds;
@@ -11,11 +12,13 @@ use std::time::{Duration, Instant};
 use compare::VERIFIED;
 use harness::library::{Input, Library, ORACLE};
 use oracle::builder::{self, Draft};
-use oracle::generate::limits;
+use oracle::calls::{Room, is_call};
 use oracle::generate::rng::Rng;
 use oracle::generate::routines::{self, Size};
+use oracle::generate::{limits, paths};
+use oracle::labels::fixpoint;
 use oracle::routine::{MAX_VERTICES, Routine};
-use oracle::run::LONGEST_REPORT;
+use oracle::run::{LONGEST_REPORT, MAX_PATH};
 use rounds::Rounds;
 
 const SEED: u64 = 1;
@@ -40,12 +43,34 @@ fn structured(rng: &mut Rng, vertices: usize) -> Draft {
     }
 }
 
+/// A structured program of eight arrays and 40 calls with as many vertices as there may be once they
+/// are expanded, and a path of as many as there may be: the first ones drawn.
+fn structured_with_calls() -> (Draft, Vec<u16>) {
+    let size = Size {
+        calls: 30,
+        ..Size::LARGEST
+    };
+    let drawn = (0..).map(|index| {
+        let mut rng = Rng::for_input(SEED, index);
+        let mut draft = routines::program(&mut rng, size);
+        routines::make_acceptable(&mut rng, &mut draft);
+        let path = paths::walk(&mut rng, &draft, MAX_PATH);
+        (draft, path)
+    });
+    let mut fitting = drawn.filter(|(draft, path)| {
+        let calls = draft.rows.iter().filter(|row| is_call(row)).count();
+        draft.places().len() == MAX_VERTICES && calls == 40 && path.len() == MAX_PATH
+    });
+    fitting.next().expect("there is one")
+}
+
 /// So many different routines of one array with as many vertices as P, all accepted.
 fn small_routines(count: usize) -> Vec<Input> {
     let size = Size {
         vertices: builder::p().rows.len(),
         arrays: 1,
         versions: 3,
+        calls: 0,
     };
     let mut files = HashSet::new();
     let drawn = (0..).map(|index| routines::accepted(&mut Rng::for_input(SEED, index), size));
@@ -72,6 +97,29 @@ fn plan(name: &'static str, routine: Vec<u8>) -> Line {
 fn run(name: &'static str, draft: Draft, path: &[u16]) -> Line {
     let inputs = vec![Input::run(draft.bytes(), builder::path_bytes(path))];
     Line { name, inputs }
+}
+
+/// Lines of routines with calls.
+fn calls() -> Vec<Line> {
+    let (draft, path) = structured_with_calls();
+    vec![
+        plan("plan, one call", builder::call().bytes()),
+        plan("plan, 40 calls, 256 vertices", draft.bytes()),
+        run("run, one call", builder::call(), &[0, 1, 2, 3, 4, 5, 6, 7]),
+        run("run, 40 calls, 4,096 vertices", draft, &path),
+    ]
+}
+
+/// The same inputs with the calls written out.
+fn written_out(line: &Line) -> Vec<Input> {
+    let written_out = |input: &Input| {
+        let draft = Draft::from_bytes(&input.routine).expect("a routine has parts");
+        Input {
+            routine: draft.expanded().bytes(),
+            path: input.path.clone(),
+        }
+    };
+    line.inputs.iter().map(written_out).collect()
 }
 
 fn lines() -> Vec<Line> {
@@ -115,46 +163,52 @@ fn lines() -> Vec<Line> {
     ]
 }
 
+/// One side of a line: what is called, and on which inputs.
+type Side<'a> = (Library, &'a [Input]);
+
 /// Both sides do the whole work and give the same bytes: a refusal is not to be timed.
-fn check(both: &[Library; 2], line: &Line) {
-    let name = line.name;
-    for input in &line.inputs {
-        let [ours, rust] = both.map(|library| {
+fn check(name: &str, sides: &[Side; 2]) {
+    let [(ours, our_inputs), (other, other_inputs)] = sides;
+    for (one, two) in our_inputs.iter().zip(*other_inputs) {
+        let [ours, other] = [(ours, one), (other, two)].map(|(library, input)| {
             let mut out = vec![0; LONGEST_REPORT];
-            (input.call(&library, &mut out), out)
+            (input.call(library, &mut out), out)
         });
         assert_eq!(ours.0.number, 0, "{name}: {:?}", ours.0);
-        assert_eq!(ours.0, rust.0, "{name}");
-        assert!(ours.1 == rust.1, "{name}: the bytes differ");
+        assert_eq!(ours.0, other.0, "{name}");
+        assert!(ours.1 == other.1, "{name}: the bytes differ");
     }
 }
 
-/// The most rounds of a plan's passes; a run has no column for them.
+/// The most rounds of a plan's passes, its calls expanded; a run has no column for them.
 fn rounds_of(line: &Line) -> String {
     let plans = line.inputs.iter().filter(|input| input.path.is_none());
     plans
         .filter_map(|input| Routine::parse(&input.routine).ok())
-        .map(|routine| Rounds::of(&routine))
+        .map(|routine| {
+            let mut room = Room::EMPTY;
+            Rounds::of(&fixpoint::expanded(&routine, &mut room))
+        })
         .reduce(Rounds::most)
         .map_or_else(String::new, |rounds| rounds.to_string())
 }
 
 /// The time of one call, from `turns` through the inputs.
-fn batch(library: &Library, inputs: &[Input], out: &mut [u8], turns: u32) -> Duration {
+fn batch((library, inputs): Side, out: &mut [u8], turns: u32) -> Duration {
     let start = Instant::now();
     for _ in 0..turns {
         for input in inputs {
-            black_box(black_box(input).call(library, black_box(out)));
+            black_box(black_box(input).call(&library, black_box(out)));
         }
     }
     start.elapsed() / (turns * inputs.len() as u32)
 }
 
 /// How many turns fill a batch.
-fn turns(library: &Library, inputs: &[Input], out: &mut [u8]) -> u32 {
-    let one = batch(library, inputs, out, 3).max(Duration::from_nanos(1));
+fn turns(side: Side, out: &mut [u8]) -> u32 {
+    let one = batch(side, out, 3).max(Duration::from_nanos(1));
     let calls = BATCH.as_nanos() / one.as_nanos();
-    (calls as u32 / inputs.len() as u32).clamp(1, 1_000_000)
+    (calls as u32 / side.1.len() as u32).clamp(1, 1_000_000)
 }
 
 fn median(mut times: Vec<Duration>) -> Duration {
@@ -166,22 +220,36 @@ fn micros(time: Duration) -> f64 {
     time.as_nanos() as f64 / 1000.0
 }
 
-/// Times a line on both sides and prints it.
-fn time(line: &Line) {
-    let both = [VERIFIED, ORACLE];
-    check(&both, line);
+/// The times of a line's two sides, taken in turn.
+fn times(name: &str, sides: [Side; 2]) -> [f64; 2] {
+    check(name, &sides);
     let mut out = vec![0; LONGEST_REPORT];
-    let counts = both.map(|library| turns(&library, &line.inputs, &mut out));
+    let counts = sides.map(|side| turns(side, &mut out));
     let mut times = [Vec::new(), Vec::new()];
     for _ in 0..BATCHES {
         for side in 0..2 {
-            times[side].push(batch(&both[side], &line.inputs, &mut out, counts[side]));
+            times[side].push(batch(sides[side], &mut out, counts[side]));
         }
     }
-    let [ours, rust] = times.map(median).map(micros);
+    times.map(median).map(micros)
+}
+
+/// Times a line of the library and of the oracle and prints it.
+fn time(line: &Line) {
+    let sides = [(VERIFIED, &line.inputs[..]), (ORACLE, &line.inputs[..])];
+    let [ours, rust] = times(line.name, sides);
     let (name, ratio, per_second) = (line.name, ours / rust, 1e6 / ours);
     print!("{name:36} {ours:9.2} {rust:9.2} {ratio:7.2} {per_second:11.0}");
     println!("{}", rounds_of(line));
+}
+
+/// Times the library on a line with calls and on the same written out, and prints it.
+fn time_calls(line: &Line) {
+    let written_out = written_out(line);
+    let sides = [(VERIFIED, &line.inputs[..]), (VERIFIED, &written_out[..])];
+    let [calls, without] = times(line.name, sides);
+    let (name, ratio) = (line.name, calls / without);
+    println!("{name:36} {calls:11.2} {without:11.2} {ratio:7.2}");
 }
 
 fn main() {
@@ -198,7 +266,15 @@ fn main() {
         "calls/s",
         rounds::HEADS
     );
-    for line in lines() {
-        time(&line);
+    let calls = calls();
+    for line in lines().iter().chain(&calls) {
+        time(line);
+    }
+    println!(
+        "\n{:36} {:>11} {:>11} {:>7}",
+        "the library's times", "with calls", "written out", "ratio"
+    );
+    for line in &calls {
+        time_calls(line);
     }
 }

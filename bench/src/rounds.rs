@@ -38,7 +38,7 @@ impl fmt::Display for Rounds {
 }
 
 impl Rounds {
-    /// The rounds of the passes on a routine; what they find is held against the oracle.
+    /// The rounds of the passes on a routine without calls; what they find is held against the oracle.
     pub fn of(routine: &Routine) -> Rounds {
         let vertices = routine.vertex_count();
         let arrays: Vec<Array> = (0..routine.array_count())
@@ -133,7 +133,7 @@ fn set_if(given: bool, set: u16) -> u16 {
 /// before it; bit 2 a read; bit 3 a define or modify. What an event gives and passes of these.
 fn use_facts(event: Event) -> (u16, u16) {
     match event {
-        Event::Nothing => (0b0000, 0b1111),
+        Event::Nothing | Event::Call(_) => (0b0000, 0b1111),
         Event::Reference(Reference::Read) => (0b0111, 0b1111),
         Event::Reference(Reference::Define) => (0b1001, 0b1101),
         Event::Reference(Reference::Modify) => (0b1011, 0b1111),

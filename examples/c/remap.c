@@ -1,5 +1,6 @@
 /* Plans routine P and runs case 2 (docs/CASES.md). Prints the plan's labels, the copies and flags that the run leaves
- * for each array, and what each reference saw and gave. */
+ * for each array, and what each reference saw and gave. Then plans routine K, which has a call, and prints its labels.
+ */
 #include <stdio.h>
 #include <stdlib.h>
 
@@ -18,6 +19,17 @@ static const uint8_t routine[62] = {
 
 /* Nine vertices, two bytes each; hpf_run is given its length in bytes. */
 static const uint8_t path[18] = {0, 0, 1, 0, 2, 0, 3, 0, 4, 0, 5, 0, 6, 0, 2, 0, 3, 0};
+
+static const uint8_t with_call[50] = {
+    'H', 'P', 'F', 'R', 1, 0,
+    18, 0, 2, 0, /* arrays: offset, count */
+    26, 0, 4, 0, /* vertices */
+    34, 0, 4, 0, /* edges */
+    3, 2, 0, 0,  /* an inout argument, 2 versions, initial 0 */
+    1, 2, 0, 0,  /* an in argument, the same */
+    0x00, 0x00, 0xC1, 0x61, 0x10, 0x10, 0x00, 0x00, /* entry, call (inout, in; both in version 1), read both, exit */
+    0, 0, 1, 0, 1, 0, 2, 0, 2, 0, 1, 0, 2, 0, 3, 0, /* edges: from, to */
+};
 
 static unsigned word(const uint8_t *bytes) { return bytes[0] + 256u * bytes[1]; }
 
@@ -75,5 +87,10 @@ int main(void) {
     if (ran.number != 0) refused("hpf_run", ran);
     print_report(report, ran.first);
     free(report);
+
+    /* The call is three vertices of the plan: 1, 2 and 3. */
+    planned = hpf_plan(with_call, sizeof with_call, plan, sizeof plan);
+    if (planned.number != 0) refused("hpf_plan", planned);
+    print_plan(plan);
     return EXIT_SUCCESS;
 }

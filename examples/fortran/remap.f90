@@ -1,32 +1,29 @@
 ! Plans routine P and runs case 2 (docs/CASES.md). Prints the plan's labels, the copies and flags that the run leaves
-! for each array, and what each reference saw and gave.
+! for each array, and what each reference saw and gave. Then plans routine K, which has a call, and prints its labels.
 program remap
   use iso_c_binding, only: c_int8_t, c_size_t
   use iso_fortran_env, only: error_unit
   use hpf_remap, only: hpf_outcome, hpf_plan, hpf_run, hpf_largest_plan
   implicit none
 
-  integer, parameter :: edges(2, 8) = reshape([0, 1, 1, 2, 2, 3, 3, 4, 4, 5, 5, 6, 6, 2, 6, 7], [2, 8])
-  ! entry, define, remap 1, read, remap 2, remap 0, read, exit
-  integer, parameter :: actions(8) = [0, 32, 65, 16, 66, 64, 16, 0]
+  ! P: a local array, 3 versions, initial 0; entry, define, remap 1, read, remap 2, remap 0, read, exit
+  integer, parameter :: p_arrays(4) = [0, 3, 0, 0]
+  integer, parameter :: p_actions(8) = [0, 32, 65, 16, 66, 64, 16, 0]
+  integer, parameter :: p_edges(16) = [0, 1, 1, 2, 2, 3, 3, 4, 4, 5, 5, 6, 6, 2, 6, 7]
   integer, parameter :: steps(9) = [0, 1, 2, 3, 4, 5, 6, 2, 3]
+  ! K: an inout and an in argument, 2 versions, initial 0; entry, call (C1 and 61: both in version 1), read both, exit
+  integer, parameter :: k_arrays(8) = [3, 2, 0, 0, 1, 2, 0, 0]
+  integer, parameter :: k_actions(8) = [0, 0, 193, 97, 16, 16, 0, 0]
+  integer, parameter :: k_edges(8) = [0, 1, 1, 2, 2, 1, 2, 3]
   ! The path has nine vertices, two bytes each; hpf_run is given its length in bytes.
-  integer(c_int8_t) :: routine(62), path(18)
+  integer(c_int8_t) :: routine(62), path(18), with_call(50)
   integer(c_int8_t) :: plan(hpf_largest_plan)
   integer(c_int8_t), allocatable :: report(:)
   type(hpf_outcome) :: outcome
-  integer :: i
 
-  routine(1:4) = int([iachar('H'), iachar('P'), iachar('F'), iachar('R')], c_int8_t)
-  routine(5:18) = int([1, 0, 18, 0, 1, 0, 22, 0, 8, 0, 30, 0, 8, 0], c_int8_t)
-  routine(19:22) = int([0, 3, 0, 0], c_int8_t)
-  routine(23:30) = int(actions, c_int8_t)
-  do i = 1, 8
-    routine(27 + 4 * i:30 + 4 * i) = int([edges(1, i), 0, edges(2, i), 0], c_int8_t)
-  end do
-  do i = 1, 9
-    path(2 * i - 1:2 * i) = int([steps(i), 0], c_int8_t)
-  end do
+  routine = file_of(p_arrays, p_actions, p_edges)
+  path = words(steps)
+  with_call = file_of(k_arrays, k_actions, k_edges)
 
   outcome = hpf_plan(routine, size(routine, kind=c_size_t), plan, size(plan, kind=c_size_t))
   call expect('hpf_plan', outcome, 0)
@@ -44,7 +41,38 @@ program remap
   call expect('hpf_run', outcome, 0)
   call print_report()
 
+  ! The call is three vertices of the plan: 1, 2 and 3.
+  outcome = hpf_plan(with_call, size(with_call, kind=c_size_t), plan, size(plan, kind=c_size_t))
+  call expect('hpf_plan', outcome, 0)
+  call print_plan()
+
 contains
+
+  ! A routine's file: mark, edition and contents; four bytes an array; actions by vertex, then array; two ends an edge.
+  pure function file_of(arrays, actions, edges) result(file)
+    integer, intent(in) :: arrays(:), actions(:), edges(:)
+    integer(c_int8_t) :: file(18 + size(arrays) + size(actions) + 2 * size(edges))
+    integer :: count, vertices
+    count = size(arrays) / 4
+    vertices = size(actions) / count
+    file = [stored(iachar(['H', 'P', 'F', 'R'])), &
+      words([1, 18, count, 18 + 4 * count, vertices, 18 + 4 * count + size(actions), size(edges) / 2]), &
+      stored(arrays), stored(actions), words(edges)]
+  end function file_of
+
+  ! 16-bit numbers, low byte first.
+  pure function words(numbers) result(bytes)
+    integer, intent(in) :: numbers(:)
+    integer(c_int8_t) :: bytes(2 * size(numbers))
+    bytes(1::2) = stored(mod(numbers, 256))
+    bytes(2::2) = stored(numbers / 256)
+  end function words
+
+  ! A number from 0 to 255 as a byte.
+  elemental integer(c_int8_t) function stored(number)
+    integer, intent(in) :: number
+    stored = int(merge(number, number - 256, number < 128), c_int8_t)
+  end function stored
 
   subroutine expect(call_name, got, number)
     character(*), intent(in) :: call_name

@@ -1,38 +1,20 @@
--- Action bytes of calls, and of what they become.
+-- Action bytes of what calls become.
 -- Assumes nothing.
 use mathlib.Core.Path.{_≡_, refl, ap}
 use mathlib.Core.Bool.{Bool, true, false, cond}
 use mathlib.Core.List.{List}
-use Prim.Native.Nat.{ℕ, _+_, _-_, _≤_, _<_}
+use Prim.Native.Nat.{ℕ, _+_, _-_, _<_}
 use native.Mathlib.Omega.{arith}
-use borrow.Author.Tests.{leb-true, lt-ltb, le-ltb, ne-eqb}
-use lib.Dec.{leb, ltb}
+use borrow.Author.Tests.{lt-ltb, le-ltb, ne-eqb}
+use lib.Dec.{ltb}
 use Rattle.routine.specs.Actions.{actionOf}
-use Rattle.routine.specs.Layout.{arrays, within}
+use Rattle.routine.specs.Layout.{arrays}
 use Rattle.routine.specs.declared.action.Access.{Access}
 use Rattle.routine.specs.declared.action.Access.the-variants.{Read, Define, Modify}
-use Rattle.routine.specs.declared.action.Action.the-variants.{Nothing, Reference, Remap, Unknown}
+use Rattle.routine.specs.declared.action.Action.the-variants.{Nothing, Reference, Remap}
 use Rattle.sets.specs.Sets.{width}
 use Rattle.words.proofs.Sums.{each-fails}
-use Rattle.words.proofs.Tests.{and-left, or-cases}
-use Rattle.calls.specs.Calls.{isCall, intentByte, passes, isCallRow}
-
--- document 01 knows no calls
-pub call-unknown : (b : ℕ) → isCall b ≡ true → actionOf b ≡ Unknown
-unfolding actionOf
-call-unknown b h = or-cases (within 0x60 0x7f b) (within 0xa0 0xdf b)
-    (λ e. high (omega (arith, leb-true 0x60 b (and-left (leb 0x60 b) (leb b 0x7f) e))))
-    (λ e. high (omega (arith, leb-true 0xa0 b (and-left (leb 0xa0 b) (leb b 0xdf) e)))) h
-  where
-    high : 0x60 ≤ b → actionOf b ≡ Unknown
-    high l = rw (
-      ne-eqb b 0x00 (λ f. omega arith),
-      ne-eqb b 0x10 (λ f. omega arith),
-      ne-eqb b 0x20 (λ f. omega arith),
-      ne-eqb b 0x30 (λ f. omega arith),
-      le-ltb b 0x40 (omega arith),
-      le-ltb b (0x40 + width) (omega arith),
-    )
+use Rattle.calls.specs.Calls.{intentByte, passes, isCallRow}
 
 remap-action : (k : ℕ) → k < width → actionOf (0x40 + k) ≡ Remap k
 unfolding actionOf

@@ -10,10 +10,9 @@ use borrow.Author.Tests.{eqb-true, eqb-false, ne-eqb}
 use lib.Count.{trailingZeros}
 use lib.Dec.{T, eqb}
 use lib.Ieee.Bits.{is-true}
-use Rattle.labels.proofs.Rules.Ambiguity.{brings-exact}
+use Rattle.labels.proofs.Rules.Brought.{brought-exact, brought-fits}
 use Rattle.labels.proofs.Rules.Checks.{check21-passed}
 use Rattle.labels.proofs.Rules.Proper.{Proper, proper}
-use Rattle.labels.proofs.Rules.Reaching.{reaching-fits}
 use Rattle.labels.specs.Ambiguity.{Brings}
 use Rattle.labels.specs.Checks.{check21}
 use Rattle.labels.specs.Events.{event}
@@ -40,13 +39,22 @@ module _ (file : List ℕ) (w : WellFormed file) (interfaces : Interfaces file) 
   module _ {a : ℕ} (in-a : a < arrays file) (v : ℕ) where
     arriving-fits : arriving file a v < 2 ^ width
     unfolding arriving
-    arriving-fits = reaching-fits (referring file) a (refers-proper a in-a) v
+    arriving-fits = brought-fits (referring file) a (refers-proper a in-a) v
 
     pub return-below : returnVersion file a v < width
     unfolding returnVersion
     return-below = at-cond (λ (k : ℕ). k < width) (eqb (arriving file a v) 0)
         (λ _. proper file w a in-a .initial-fits)
         (λ e. lowest-below width (arriving file a v) (positive (eqb-false (arriving file a v) 0 e)) arriving-fits)
+
+    -- the version back is one that arrives, if one does
+    pub return-brought : {k : ℕ} → Brings (referring file) a v k → Brings (referring file) a v (returnVersion file a v)
+    unfolding returnVersion arriving
+    return-brought {k} b =
+        let m = arriving file a v in
+        let exact = brought-exact (referring file) a (refers-proper a in-a) v in
+        let some : m ≡ 0 → ⊥ = λ e. true≢false (sym (is-true _ (exact k .1 b)) ∙ ap (λ (n : ℕ). has n k) e ∙ has-zero k) in
+        rw (ne-eqb m 0 some) (exact (trailingZeros width m) .0 (subst T (sym (lowest-has width m (positive some) arriving-fits)) tt))
 
     module _ (in-v : v < vertices file) (passed : passes file a v ≡ true) where
       pub pass-call : isCallRow file v ≡ true
@@ -55,15 +63,6 @@ module _ (file : List ℕ) (w : WellFormed file) (interfaces : Interfaces file) 
       -- the call is a reference there
       refers : T (isReference (event (referring file) a v))
       refers = rw (call-refers file w in-a in-v interfaces pass-call, passed, intent-refers (actionByte file a v) .1) tt
-
-      -- the version back is one that arrives, if one does
-      pub return-brought : {k : ℕ} → Brings (referring file) a v k → Brings (referring file) a v (returnVersion file a v)
-      unfolding returnVersion arriving
-      return-brought {k} b =
-          let m = arriving file a v in
-          let exact = brings-exact (referring file) a (refers-proper a in-a) v refers in
-          let some : m ≡ 0 → ⊥ = λ e. true≢false (sym (is-true _ (exact k .1 b)) ∙ ap (λ (n : ℕ). has n k) e ∙ has-zero k) in
-          rw (ne-eqb m 0 some) (exact (trailingZeros width m) .0 (subst T (sym (lowest-has width m (positive some) arriving-fits)) tt))
 
       -- and the only one, where 21 passes
       pub return-only : check21 (referring file) ≡ Passed → {k : ℕ} → Brings (referring file) a v k → k ≡ returnVersion file a v

@@ -34,7 +34,7 @@ two-bytes n = omega arith
 abbrev pub noEdge : Edge
 noEdge = edge 0 0
 
-edges-size : (es : List Edge) → length (edgesBytes es) ≡ 4 * length es
+pub edges-size : (es : List Edge) → length (edgesBytes es) ≡ 4 * length es
 edges-size [] = refl
 edges-size (e ∷ es) = omega (arith, edges-size es)
 
@@ -85,7 +85,7 @@ module _ (file : List ℕ) (laid : Laid file) where
   row-size : (x : ℕ) → length (expandedRow file x) ≡ arrays file
   row-size x = table-length (λ a. expandedByte file a (partAt file x)) (arrays file)
 
-  rows-size : length (rows (expandedRow file) (expandedVertices file)) ≡ expandedVertices file * arrays file
+  pub rows-size : length (rows (expandedRow file) (expandedVertices file)) ≡ expandedVertices file * arrays file
   rows-size = rows-length (expandedRow file) (arrays file) row-size (expandedVertices file) ∙ mul-comm (arrays file) (expandedVertices file)
 
   in-head : (i : ℕ) → i < 12 → getD (expanded file) i 0 ≡ getD file i 0

@@ -1,41 +1,40 @@
--- Request 3: what the expanded routine is of its file; 20 and demand 2 of the routine that is planned and run.
+-- Request 3: what the expanded routine is of its file; 20, 21 and demand 2 of the routine that is planned and run.
 -- Assumes nothing.
 use mathlib.Core.Path.{_≡_, refl, sym, ap, ap₂, subst, _∙_}
-use mathlib.Core.Bool.{Bool, true, false, _&&_, cond, true≢false}
+use mathlib.Core.Bool.{Bool, true, false, _&&_, cond}
 use mathlib.Core.List.{List}
 use mathlib.Core.Logic.{Iff·rfl}
-use Prim.Native.Nat.{ℕ, _+_, _*_, _<_}
-use native.Mathlib.Nat.{mul-le-mul-right}
+use Prim.Native.Nat.{ℕ, _<_}
 use native.Mathlib.Omega.{arith}
 use lib.Dec.{T}
-use lib.ListN.{getD}
 use Rattle.labels.proofs.Rules.Checks.{check20-passed}
 use Rattle.labels.proofs.Rules.Demand.{demand2}
-use Rattle.labels.specs.Checks.{writesIn, check20}
+use Rattle.labels.specs.Checks.{writesIn, check20, check21, programmerCheck}
 use Rattle.labels.specs.Demand.{Demand2}
 use Rattle.labels.specs.Events.{event, isWrite}
+use Rattle.refusal.proofs.Checks.{passed-left, passed-right}
 use Rattle.refusal.specs.declared.Verdict.the-variants.{Passed}
-use Rattle.routine.specs.Actions.{actionByte}
+use Rattle.routine.specs.Actions.{isCall, calledVersion, actionByte}
 use Rattle.routine.specs.Arrays.{kind, isIn}
-use Rattle.routine.specs.Layout.{arrays, vertices, actionsAt, actionAt}
+use Rattle.routine.specs.Layout.{arrays, vertices}
 use Rattle.routine.specs.Reader.{WellFormed}
 use Rattle.routine.specs.declared.action.Action.{Action}
 use Rattle.routine.specs.declared.action.Action.the-variants.{Nothing, Remap}
 use Rattle.routine.specs.declared.array.ArrayRecord.{ArrayRecord}
-use Rattle.words.proofs.Sums.{each-fails}
-use Rattle.words.proofs.Tests.{at-cond, by-test, and-iff}
-use Rattle.calls.specs.Calls.{isCall, calledVersion, passes, hasCalls}
+use Rattle.words.proofs.Tests.{at-cond, and-iff}
+use Rattle.calls.specs.Calls.{passes, hasCalls}
 use Rattle.calls.specs.Expands.{Expands}
 use Rattle.calls.specs.Expanded.{expanded, routineOf}
 use Rattle.calls.specs.Interfaces.{Expandable}
 use Rattle.calls.specs.Parts.{Part, plain, passing, calling, returning, beyond, expandedVertices, partAt}
 use Rattle.calls.specs.Referring.{referring, returnVersion}
 use Rattle.calls.proofs.Bytes.{arrays-are, vertices-are, array-is}
-use Rattle.calls.proofs.Edges.{edges-exact}
+use Rattle.calls.proofs.Joins.{edges-exact}
 use Rattle.calls.proofs.Events.{plain-event, three-vertices}
 use Rattle.calls.proofs.Formed.{expanded-formed}
 use Rattle.calls.proofs.Parts.{size-is, standing}
-use Rattle.calls.proofs.Referring.{same-arrays, same-vertices, same-array, no-calls-same, call-refers, row-refers}
+use Rattle.calls.proofs.Referring.{same-arrays, same-vertices, same-array, no-calls-same, referring-formed, call-refers, row-refers}
+use Rattle.calls.proofs.Unambiguous.{expanded-unambiguous}
 
 remap-unwritten : (b : Bool) (k : ℕ) → isWrite (cond b (Remap k) Nothing) ≡ false
 remap-unwritten true k = refl
@@ -101,8 +100,8 @@ module _ (file : List ℕ) (can : Expandable file) where
   unfolding routineOf
   routine-formed = at-cond WellFormed (hasCalls file) (λ _. expanded-formed file can) (λ _. w)
 
-  pub demand2-calls : Demand2 (routineOf file)
-  demand2-calls = demand2 (routineOf file) routine-formed
+  pub demand2-calls : Demand2 (routineOf file) (referring file)
+  demand2-calls = demand2 (routineOf file) (referring file) routine-formed (referring-formed file w (can .interfaces))
 
   -- where 20 passes, the routine writes no in argument
   pub routine-unwritten : check20 (referring file) ≡ Passed → check20 (routineOf file) ≡ Passed
@@ -111,10 +110,15 @@ module _ (file : List ℕ) (can : Expandable file) where
       (λ _. expanded-unwritten unwritten)
       (λ none. ap check20 (sym (no-calls-same file (w .laid) none)) ∙ unwritten)
 
-  -- a vertex that passes an array is a call of the file
-  pub some-call : {a v : ℕ} → a < arrays file → v < vertices file → passes file a v ≡ true → hasCalls file ≡ true
-  unfolding hasCalls
-  some-call {a} {v} in-a in-v p = by-test (hasCalls file) (λ e. e) (λ none.
-      let e : actionAt file a v ≡ actionsAt file + (v * arrays file + a) = omega arith in
-      absurd (true≢false (sym p ∙ ap (λ (i : ℕ). isCall (getD file i 0)) e
-      ∙ each-fails (λ i. isCall (getD file (actionsAt file + i) 0)) (vertices file * arrays file) none (v * arrays file + a) (omega (arith, mul-le-mul-right (arrays file) in-v)))))
+  -- where 21 passes, it has no ambiguous reference
+  pub routine-unambiguous : check21 (referring file) ≡ Passed → check21 (routineOf file) ≡ Passed
+  unfolding routineOf
+  routine-unambiguous sure = at-cond (λ (s : List ℕ). check21 s ≡ Passed) (hasCalls file)
+      (λ _. expanded-unambiguous file can sure)
+      (λ none. ap check21 (sym (no-calls-same file (w .laid) none)) ∙ sure)
+
+  -- 20 and 21, passed by the file with calls as references, are passed by the routine
+  pub routine-passes : programmerCheck (referring file) ≡ Passed → programmerCheck (routineOf file) ≡ Passed
+  unfolding programmerCheck
+  routine-passes e =
+      rw (routine-unwritten (passed-left (check20 (referring file)) _ e)) (routine-unambiguous (passed-right (check20 (referring file)) _ e))

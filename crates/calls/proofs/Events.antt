@@ -11,7 +11,7 @@ use borrow.Author.Tests.{eqb-true, eqb-false, eq-eqb, ne-eqb}
 use lib.Dec.{eqb}
 use Rattle.labels.proofs.Rules.Events.{inner-event}
 use Rattle.labels.specs.Events.{event}
-use Rattle.routine.specs.Actions.{actionOf, action, actionByte}
+use Rattle.routine.specs.Actions.{actionOf, calledVersion, actionByte, action}
 use Rattle.routine.specs.Arrays.{arrayOf, isOutOrInout}
 use Rattle.routine.specs.Layout.{arrays, vertices, entry, exit}
 use Rattle.routine.specs.Reader.{WellFormed}
@@ -19,7 +19,7 @@ use Rattle.routine.specs.declared.action.Action.{Action}
 use Rattle.routine.specs.declared.action.Action.the-variants.{Nothing, Remap}
 use Rattle.routine.specs.declared.array.ArrayRecord.{ArrayRecord}
 use Rattle.words.proofs.Tests.{by-test}
-use Rattle.calls.specs.Calls.{calledVersion, intentByte, passes, isCallRow}
+use Rattle.calls.specs.Calls.{intentByte, passes, isCallRow}
 use Rattle.calls.specs.Expands.{ThreeVertices}
 use Rattle.calls.specs.Expanded.{expanded}
 use Rattle.calls.specs.Interfaces.{Interfaces}

@@ -9,7 +9,7 @@ use native.Mathlib.Numerals.{add-one}
 use native.Mathlib.Omega.{arith}
 use lib.ListN.{length}
 use Rattle.labels.proofs.Rules.Proper.{edge-count, edge-from, edge-to}
-use Rattle.routine.specs.Actions.{action, actionByte}
+use Rattle.routine.specs.Actions.{calledVersion, actionByte, action}
 use Rattle.routine.specs.Edges.{edgeOf, before}
 use Rattle.routine.specs.Layout.{arrays, vertices, edges, exit}
 use Rattle.routine.specs.Reader.{Laid, EdgeLimits, WellFormed}
@@ -17,7 +17,7 @@ use Rattle.routine.specs.declared.action.Access.{Access}
 use Rattle.routine.specs.declared.action.Action.the-variants.{Reference, Remap}
 use Rattle.words.proofs.Sums.{count-later}
 use Rattle.words.specs.Sums.{total, countOf}
-use Rattle.calls.specs.Calls.{calledVersion, passes, isCallRow}
+use Rattle.calls.specs.Calls.{passes, isCallRow}
 use Rattle.calls.specs.Expands.{Joins, enters, leaves, between}
 use Rattle.calls.specs.Expanded.{edge, expandedEdges, expanded}
 use Rattle.calls.specs.Interfaces.{Expandable}
@@ -25,7 +25,7 @@ use Rattle.calls.specs.Parts.{Part, plain, passing, calling, returning, 
 use Rattle.calls.specs.Referring.{returnVersion}
 use Rattle.calls.proofs.Actions.{no-reference, no-remap}
 use Rattle.calls.proofs.Bytes.{arrays-are, vertices-are, edges-are, array-is, edge-is, ends-there}
-use Rattle.calls.proofs.Edges.{edges-exact, expanded-rises, edges-count}
+use Rattle.calls.proofs.Joins.{edges-exact, expanded-rises, edges-count}
 use Rattle.calls.proofs.Events.{exit-is, first-below, call-inner, plain-does, passing-does, calling-does, returning-does}
 use Rattle.calls.proofs.Parts.{first-zero, size-is, size-count, last-below, first-rises, standing, plain-at}
 use Rattle.calls.proofs.Referring.{entry-no-call, exit-no-call}

@@ -2,9 +2,15 @@ pub mod Actions
 pub mod Arriving
 pub mod Bytes
 pub mod Calls
-pub mod Edges
+pub mod Carried
+pub mod Checks
 pub mod Events
 pub mod Example
 pub mod Formed
+pub mod Interfaces
+pub mod Joins
 pub mod Parts
 pub mod Referring
+pub mod RowBytes
+pub mod Unambiguous
+pub mod Written

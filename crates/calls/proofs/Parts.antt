@@ -12,6 +12,7 @@ use lib.Dec.{lit<}
 use lib.ListN.{length, getD, length-append, List·getD-append, List·getD-eq-default}
 use lib.Seq.{getD-append-add}
 use Rattle.routine.specs.Layout.{vertices}
+use Rattle.words.proofs.Sums.{count-few}
 use Rattle.words.specs.Sums.{total, countOf}
 use Rattle.words.specs.Tables.{rows}
 use Rattle.calls.specs.Calls.{isCallRow}
@@ -39,7 +40,7 @@ module _ (file : List ℕ) where
   unfolding firstOf parts rows
   first-zero = refl
 
-  first-parts : (v : ℕ) → firstOf file (suc v) ≡ firstOf file v + length (partsOf file v)
+  pub first-parts : (v : ℕ) → firstOf file (suc v) ≡ firstOf file v + length (partsOf file v)
   unfolding firstOf parts rows
   first-parts v = length-append (parts file v) (partsOf file v)
 
@@ -70,6 +71,10 @@ module _ (file : List ℕ) where
   unfolding total
   size-count zero = first-zero
   size-count (suc n) = omega (arith, first-next n, last-is n, size-count n, added-twice (isCallRow file n))
+
+  -- at most three of each
+  pub first-few : (n : ℕ) → firstOf file n ≤ 3 * n
+  first-few n = omega (arith, size-count n, count-few (isCallRow file) n)
 
   -- v before n: all that v becomes stands before the first of n
   pub last-below : (n v : ℕ) → v < n → lastOf file v < firstOf file n

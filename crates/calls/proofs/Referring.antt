@@ -15,8 +15,9 @@ use Rattle.flow.specs.Paths.{edgeFrom, edgeTo}
 use Rattle.labels.proofs.Rules.Events.{inner-event}
 use Rattle.labels.proofs.Rules.Proper.{edge-from, edge-to}
 use Rattle.labels.specs.Events.{edgeBytes, event}
+use Rattle.routine.proofs.Actions.{call-unknown}
 use Rattle.routine.proofs.Form.{array-alike}
-use Rattle.routine.specs.Actions.{actionOf, action, actionByte}
+use Rattle.routine.specs.Actions.{actionOf, isCall, actionByte, action}
 use Rattle.routine.specs.Arrays.{arrayOf, isOutOrInout}
 use Rattle.routine.specs.Edges.{edgeOf, before}
 use Rattle.routine.specs.Layout.{arrays, vertices, edges, entry, exit, recordAt, actionsAt, actionAt, edgesAt, endAt}
@@ -26,23 +27,28 @@ use Rattle.routine.specs.declared.action.Action.{Action}
 use Rattle.routine.specs.declared.action.Action.the-variants.{Nothing, Reference, Remap}
 use Rattle.routine.specs.declared.array.ArrayRecord.{ArrayRecord}
 use Rattle.words.proofs.Lists.{getD-behind, drop-behind}
+use Rattle.words.proofs.Replaced.{replaced-length, replaced-other, replaced-at, replaced-still}
 use Rattle.words.proofs.Sums.{each-fails, none-below}
 use Rattle.words.proofs.Tables.{table-length, table-at}
 use Rattle.words.proofs.Tests.{by-test}
-use Rattle.words.specs.Tables.{table}
+use Rattle.words.specs.Tables.{table, replaced}
 use Rattle.words.specs.Words.{word}
-use Rattle.calls.specs.Calls.{isCall, intentByte, passes, isCallRow, hasCalls}
+use Rattle.calls.specs.Calls.{intentByte, passes, isCallRow, hasCalls}
 use Rattle.calls.specs.Expanded.{edge}
 use Rattle.calls.specs.Interfaces.{Interfaces}
 use Rattle.calls.specs.Referring.{referringByte, referring}
-use Rattle.calls.proofs.Actions.{call-unknown, intent-refers, no-call}
+use Rattle.calls.proofs.Actions.{intent-refers, no-call}
 
 module _ (file : List ℕ) (laid : Laid file) where
   abbrev cells : ℕ
   cells = vertices file * arrays file
 
+  -- what becomes of action byte i
+  abbrev byte : ℕ → ℕ
+  byte i = referringByte (getD file (actionsAt file + i) 0)
+
   abbrev row : List ℕ
-  row = table (λ i. referringByte (getD file (actionsAt file + i) 0)) cells
+  row = table byte cells
 
   is : referring file ≡ take (actionsAt file) file ++ (row ++ drop (edgesAt file) file)
   unfolding referring
@@ -52,7 +58,7 @@ module _ (file : List ℕ) (laid : Laid file) where
   front-size = length-take-le (actionsAt file) file (omega (arith, laid .ends))
 
   row-size : length row ≡ cells
-  row-size = table-length (λ i. referringByte (getD file (actionsAt file + i) 0)) cells
+  row-size = table-length byte cells
 
   in-front : (i : ℕ) → i < actionsAt file → getD (referring file) i 0 ≡ getD file i 0
   in-front i h =
@@ -65,7 +71,7 @@ module _ (file : List ℕ) (laid : Laid file) where
       ap (λ (s : List ℕ). getD s (actionsAt file + i) 0) is
       ∙ getD-behind (take (actionsAt file) file) (row ++ drop (edgesAt file) file) front-size i 0
       ∙ List·getD-append row (drop (edgesAt file) file) 0 i (omega (arith, row-size))
-      ∙ table-at (λ i. referringByte (getD file (actionsAt file + i) 0)) cells i h
+      ∙ table-at byte cells i h
 
   in-edges : (i : ℕ) → getD (referring file) (actionsAt file + (cells + i)) 0 ≡ getD file (actionsAt file + (cells + i)) 0
   in-edges i =
@@ -87,7 +93,7 @@ module _ (file : List ℕ) (laid : Laid file) where
   pub same-vertices : vertices (referring file) ≡ vertices file
   same-vertices = word-front 12 (omega arith)
 
-  same-count : edges (referring file) ≡ edges file
+  pub same-count : edges (referring file) ≡ edges file
   same-count = word-front 16 (omega arith)
 
   pub same-array : (a : ℕ) → a < arrays file → arrayOf (referring file) a ≡ arrayOf file a
@@ -118,20 +124,26 @@ module _ (file : List ℕ) (laid : Laid file) where
       omega (arith, front-size, length-append row (drop (edgesAt file) file), row-size, length-drop (edgesAt file) file, laid .ends) in
       ap length is ∙ length-append (take (actionsAt file) file) (row ++ drop (edgesAt file) file) ∙ sized
 
-  -- ---- a file without calls is the same
-  pub no-calls-same : hasCalls file ≡ false → referring file ≡ file
-  unfolding hasCalls
-  no-calls-same none = ext-getD 0 (referring file) file same-size (λ i h. elim (decLt i (actionsAt file)) [
-    | yes l ↦ in-front i l
+  -- ---- it is the file with its action bytes replaced; a file without calls is the same
+
+  pub replaced-is : replaced file (actionsAt file) (λ i. referringByte (getD file (actionsAt file + i) 0)) cells ≡ referring file
+  replaced-is = ext-getD 0 (replaced file (actionsAt file) byte cells) (referring file) (replaced-length file (actionsAt file) byte cells ∙ sym same-size) (λ i h. elim (decLt i (actionsAt file)) [
+    | yes l ↦ replaced-other file (actionsAt file) byte 0 cells i (λ a g e. omega arith) ∙ sym (in-front i l)
     | no f ↦ (let j = i - actionsAt file in
         elim (decLt j cells) [
           | yes l ↦ (let e : actionsAt file + j ≡ i = omega arith in
-              subst (λ (k : ℕ). getD (referring file) k 0 ≡ getD file k 0) e
-              (in-row j l ∙ rw (each-fails (λ i. isCall (getD file (actionsAt file + i) 0)) cells none j l)))
+              replaced-at file (actionsAt file) byte 0 cells j (sym e) l (omega (arith, laid .ends)) ∙ sym (in-row j l) ∙ ap (λ (k : ℕ). getD (referring file) k 0) e)
           | no g ↦ (let e : actionsAt file + (cells + (j - cells)) ≡ i = omega arith in
-              subst (λ (k : ℕ). getD (referring file) k 0 ≡ getD file k 0) e (in-edges (j - cells)))
+              replaced-other file (actionsAt file) byte 0 cells i (λ a l e. omega arith)
+              ∙ sym (subst (λ (k : ℕ). getD (referring file) k 0 ≡ getD file k 0) e (in-edges (j - cells))))
         ])
   ])
+
+  pub no-calls-same : hasCalls file ≡ false → referring file ≡ file
+  unfolding hasCalls
+  no-calls-same none =
+      sym replaced-is
+      ∙ replaced-still file (actionsAt file) byte 0 cells (λ i l. rw (each-fails (λ i. isCall (getD file (actionsAt file + i) 0)) cells none i l))
 
 -- ---- it is a routine
 

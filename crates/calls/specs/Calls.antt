@@ -1,23 +1,16 @@
--- Document 02, request 3: a call written as one vertex. 60+k passes the array in version k with intent in, A0+k out, C0+k inout, k below 32.
+-- Document 02, request 3: a call written as one vertex. 60+k passes the array in version k with intent in, A0+k out, C0+k inout, k below 32
+-- (`isCall`, `calledVersion` of `routine/Actions`).
 -- Assumes nothing.
-use mathlib.Core.Bool.{Bool, _||_, cond}
+use mathlib.Core.Bool.{Bool, cond}
 use mathlib.Core.List.{List}
-use Prim.Native.Nat.{ℕ, _+_, _*_, _%_}
+use Prim.Native.Nat.{ℕ, _+_, _*_}
 use lib.Dec.{ltb}
 use lib.ListN.{getD}
-use Rattle.routine.specs.Actions.{actionByte}
-use Rattle.routine.specs.Layout.{arrays, vertices, actionsAt, within}
+use Rattle.routine.specs.Actions.{isCall, actionByte}
+use Rattle.routine.specs.Layout.{arrays, vertices, actionsAt}
 use Rattle.words.specs.Sums.{anyBelow}
 
--- a call's byte
-abbrev pub isCall : ℕ → Bool
-isCall b = within 0x60 0x7f b || within 0xa0 0xdf b
-
--- the version k in which it passes the array
-abbrev pub calledVersion : ℕ → ℕ
-calledVersion b = b % 32
-
--- what its intent does with the array, as an action byte: in reads, out defines, inout modifies
+-- what a call's intent does with the array, as an action byte: in reads, out defines, inout modifies
 abbrev pub intentByte : ℕ → ℕ
 intentByte b = cond (ltb b 0x80) 0x10 (cond (ltb b 0xc0) 0x20 0x30)
 

@@ -5,13 +5,13 @@ use mathlib.Core.List.{List, [], _∷_, _++_}
 use Prim.Native.Nat.{ℕ, _+_, _*_}
 use lib.Dec.{eqb}
 use lib.ListN.{length, take, drop}
-use Rattle.routine.specs.Actions.{actionByte}
+use Rattle.routine.specs.Actions.{calledVersion, actionByte}
 use Rattle.routine.specs.Edges.{edgeOf}
 use Rattle.routine.specs.Layout.{arrays, vertices, edges, actionsAt}
 use Rattle.routine.specs.declared.edge.Edge.{Edge}
 use Rattle.words.specs.Tables.{table, rows}
 use Rattle.words.specs.Words.{bytes16}
-use Rattle.calls.specs.Calls.{calledVersion, intentByte, passes, isCallRow, hasCalls}
+use Rattle.calls.specs.Calls.{intentByte, passes, isCallRow, hasCalls}
 use Rattle.calls.specs.Parts.{Part, plain, passing, calling, returning, beyond, expandedVertices, partAt, firstOf, lastOf}
 use Rattle.calls.specs.Referring.{returnVersion}
 

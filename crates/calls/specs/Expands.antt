@@ -7,12 +7,12 @@ use mathlib.Core.Logic.{_↔_}
 use Prim.Native.Nat.{ℕ, _+_, _<_}
 use Rattle.flow.specs.Paths.{Edge}
 use Rattle.labels.specs.Events.{edgeBytes, event}
-use Rattle.routine.specs.Actions.{actionOf, actionByte}
+use Rattle.routine.specs.Actions.{actionOf, calledVersion, actionByte}
 use Rattle.routine.specs.Arrays.{arrayOf}
 use Rattle.routine.specs.Layout.{arrays, vertices}
 use Rattle.routine.specs.Reader.{WellFormed}
 use Rattle.routine.specs.declared.action.Action.the-variants.{Nothing, Remap}
-use Rattle.calls.specs.Calls.{calledVersion, intentByte, passes, isCallRow}
+use Rattle.calls.specs.Calls.{intentByte, passes, isCallRow}
 use Rattle.calls.specs.Expanded.{expanded}
 use Rattle.calls.specs.Parts.{expandedVertices, firstOf, lastOf}
 use Rattle.calls.specs.Referring.{returnVersion}

@@ -4,11 +4,11 @@ use mathlib.Core.Path.{_≡_}
 use mathlib.Core.Bool.{true, false}
 use mathlib.Core.List.{List}
 use Prim.Native.Nat.{ℕ, _≤_, _<_}
-use Rattle.routine.specs.Actions.{actionByte}
+use Rattle.routine.specs.Actions.{calledVersion, actionByte}
 use Rattle.routine.specs.Arrays.{arrayOf}
 use Rattle.routine.specs.Layout.{arrays, vertices, edges}
 use Rattle.routine.specs.Reader.{WellFormed}
-use Rattle.calls.specs.Calls.{calledVersion, passes, isCallRow}
+use Rattle.calls.specs.Calls.{passes, isCallRow}
 use Rattle.calls.specs.Parts.{expandedVertices}
 
 -- what 17 and 19 leave of call rows

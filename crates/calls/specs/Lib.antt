@@ -1,6 +1,9 @@
 pub mod Calls
+pub mod Checks
 pub mod Expanded
 pub mod Expands
 pub mod Interfaces
 pub mod Parts
 pub mod Referring
+pub mod VertexRows
+pub mod Writing

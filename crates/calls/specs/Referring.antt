@@ -8,12 +8,13 @@ use Prim.Native.Nat.{ℕ, _+_, _*_}
 use lib.Count.{trailingZeros}
 use lib.Dec.{eqb}
 use lib.ListN.{getD, take, drop}
-use Rattle.labels.specs.Reaching.{reachingOf}
+use Rattle.labels.specs.Ambiguity.{broughtOf}
+use Rattle.routine.specs.Actions.{isCall}
 use Rattle.routine.specs.Arrays.{initial}
 use Rattle.routine.specs.Layout.{arrays, vertices, actionsAt, edgesAt}
 use Rattle.sets.specs.Sets.{width}
 use Rattle.words.specs.Tables.{table, rows}
-use Rattle.calls.specs.Calls.{isCall, intentByte}
+use Rattle.calls.specs.Calls.{intentByte}
 
 -- a call's byte becomes that of its intent
 abbrev pub referringByte : ℕ → ℕ
@@ -26,10 +27,10 @@ referring file =
     take (actionsAt file) file
     ++ (table (λ i. referringByte (getD file (actionsAt file + i) 0)) (vertices file * arrays file) ++ drop (edgesAt file) file)
 
--- the versions that arrive at the call at v, as a set: those that reach it, since it is a reference
+-- the versions that arrive at the call at v, as a set: those that paths bring there, dropped labels included
 unfoldable pub arriving : List ℕ → ℕ → ℕ → ℕ
-unfolding reachingOf referring
-arriving file a v = reachingOf (referring file) a v
+unfolding broughtOf referring
+arriving file a v = broughtOf (referring file) a v
 
 -- the version that the source names before the call: the one that arrives, or the initial one if no path gets there
 unfoldable pub returnVersion : List ℕ → ℕ → ℕ → ℕ

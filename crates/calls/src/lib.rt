@@ -1,1 +1,7 @@
-// Calls with interfaces (document 02, request 3): definitions and their theorems (`specs/`, `proofs/`), and no function.
+// Calls with interfaces (document 02, request 3): which vertices are calls, the file with calls as references, and the expanded routine with
+// its rows and edges. `specs/` has the definitions, `proofs/` the theorems of the expanded routine beside the functions' proofs.
+pub mod edges;
+pub mod expanded;
+pub mod references;
+pub mod rows;
+pub mod scan;

@@ -4,7 +4,7 @@ use mathlib.Core.Path.{_≡_, refl}
 use mathlib.Core.List.{List, [], _∷_, _++_}
 use Prim.Native.Nat.{ℕ}
 use borrow.Author.Needs.{needs}
-use lib.Count.{ones}
+use lib.Count.{ones, trailingZeros}
 use Rattle.cases.specs.Cases.{AllHold, P, Q, X, path2, path4, fullX, cases}
 use Rattle.labels.specs.Checks.{check20}
 use Rattle.planned.specs.Calls.{planOf}
@@ -31,7 +31,7 @@ _also_ a b = (a, b)
 
 -- a row for each case, in the table's order
 pub all-hold : AllHold cases
-unfolding planOf planBytes runOf machineAfter reportBytes stateAfter runRecords word ones
+unfolding planOf planBytes runOf machineAfter reportBytes stateAfter runRecords word ones trailingZeros
 all-hold =
     (refl, refl, refl)
     also (refl, refl, refl, refl, refl)
@@ -47,6 +47,10 @@ all-hold =
     also (refl, refl, refl)
     also (refl, refl, refl, refl, refl)
     also (refl, refl, refl, refl, refl)
+    also (refl, refl, refl)
+    also (refl, refl, refl, refl, refl)
+    also (refl, refl, refl)
+    also (λ size. refl, λ path size. refl)
     also tt
 
 -- ---- demand 3

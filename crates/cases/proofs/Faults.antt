@@ -8,6 +8,7 @@ use lib.Count.{ones}
 use lib.ListN.{getD}
 use Rattle.cases.specs.Cases.{P, path2}
 use Rattle.cases.specs.Faults.{zeros, RefusesAll, P-with-nothing, PlanOfPForAll, WritesNoPlan, InventsRecords, InventsCopies, WritesNoReport}
+use Rattle.calls.specs.Expanded.{routineOf}
 use Rattle.planned.specs.Calls.{planOf, Planned}
 use Rattle.refusal.specs.Replies.{filledBy}
 use Rattle.planbytes.specs.Plan.{planBytes}
@@ -35,11 +36,11 @@ byte bytes before says is e b i = ap (λ (l : List ℕ). getD l i 0) (b ∙ ap (
 
 pub planned-once : {file before after after' : List ℕ} {reply reply' : Reply} → Planned file before reply after → Planned file before reply' after'
     → (reply ≡ reply') × (after ≡ after')
-planned-once {file} {before} h k = once (planBytes file) before (h .answer) (h .buffer) (k .answer) (k .buffer)
+planned-once {file} {before} h k = once (planBytes (routineOf file)) before (h .answer) (h .buffer) (k .answer) (k .buffer)
 
 pub ran-once : {file path before after after' : List ℕ} {reply reply' : Reply} → Ran file path before reply after → Ran file path before reply' after'
     → (reply ≡ reply') × (after ≡ after')
-ran-once {file} {path} {before} h k = once (reportBytes file path) before (h .answer) (h .buffer) (k .answer) (k .buffer)
+ran-once {file} {path} {before} h k = once (reportBytes (routineOf file) path) before (h .answer) (h .buffer) (k .answer) (k .buffer)
 
 -- ---- planners
 
@@ -53,21 +54,21 @@ refuses-all r after h = absurd (omega (arith, ap success (h .answer ∙ all-hold
 
 -- byte 49 is the letter of vertex 2
 pub plan-of-p-for-all : PlanOfPForAll
-unfolding planOf planBytes word ones
+unfolding routineOf planOf planBytes word ones
 plan-of-p-for-all reply h =
-    absurd (omega (arith, byte (planBytes P-with-nothing) (zeros 72) {n = 72} refl refl (h .answer) (h .buffer) 49))
+    absurd (omega (arith, byte (planBytes (routineOf P-with-nothing)) (zeros 72) {n = 72} refl refl (h .answer) (h .buffer) 49))
 
 pub writes-no-plan : WritesNoPlan
-writes-no-plan reply h = absurd (omega (arith, byte (planBytes P) (zeros 72) (all-hold .0 .0) (all-hold .0 .2) (h .answer) (h .buffer) 0))
+writes-no-plan reply h = absurd (omega (arith, byte (planBytes (routineOf P)) (zeros 72) (all-hold .0 .0) (all-hold .0 .2) (h .answer) (h .buffer) 0))
 
 -- ---- runners
 
 -- byte 14 is the new stamp of the first record
 pub invents-records : InventsRecords
-invents-records reply h = absurd (omega (arith, byte (reportBytes P path2) (zeros 46) (all-hold .1 .0 .0) (all-hold .1 .0 .4) (h .answer) (h .buffer) 14))
+invents-records reply h = absurd (omega (arith, byte (reportBytes (routineOf P) path2) (zeros 46) (all-hold .1 .0 .0) (all-hold .1 .0 .4) (h .answer) (h .buffer) 14))
 
 pub invents-copies : InventsCopies
-invents-copies reply h = absurd (omega (arith, byte (reportBytes P path2) (zeros 46) (all-hold .1 .0 .0) (all-hold .1 .0 .4) (h .answer) (h .buffer) 0))
+invents-copies reply h = absurd (omega (arith, byte (reportBytes (routineOf P) path2) (zeros 46) (all-hold .1 .0 .0) (all-hold .1 .0 .4) (h .answer) (h .buffer) 0))
 
 pub writes-no-report : WritesNoReport
-writes-no-report reply h = absurd (omega (arith, byte (reportBytes P path2) (zeros 46) (all-hold .1 .0 .0) (all-hold .1 .0 .4) (h .answer) (h .buffer) 0))
+writes-no-report reply h = absurd (omega (arith, byte (reportBytes (routineOf P) path2) (zeros 46) (all-hold .1 .0 .0) (all-hold .1 .0 .4) (h .answer) (h .buffer) 0))

@@ -1,5 +1,5 @@
 -- Document 01, "Routine P and others": the starred cases as one table, from the bytes of routine files and paths to what the definitions
--- answer. The theorem is `all-hold` of proofs/Cases.
+-- answer; and cases of document 02. The theorem is `all-hold` of proofs/Cases.
 -- Assumes nothing.
 use mathlib.Core.Path.{_≡_}
 use mathlib.Core.Bool.{cond}
@@ -8,6 +8,7 @@ use mathlib.Core.Option.{Option, none, some}
 use Prim.Native.Nat.{ℕ}
 use lib.Dec.{eqb}
 use lib.ListN.{length}
+use Rattle.calls.specs.Expanded.{routineOf}
 use Rattle.labels.specs.Events.{isLabel, version}
 use Rattle.labels.specs.Kept.{keptOf}
 use Rattle.labels.specs.Reaching.{reachingOf}
@@ -26,7 +27,7 @@ use Rattle.path.specs.Paths.{steps}
 use Rattle.walk.specs.Report.{reportBytes}
 use Rattle.demand.specs.Run.{stateAfter, runRecords}
 use Rattle.report.specs.declared.record.Record.{Record}
-use Rattle.words.specs.Tables.{rows}
+use Rattle.words.specs.Tables.{table, rows}
 
 -- ---- a line of the planner's listing
 
@@ -69,13 +70,13 @@ pub record Refuses : Type 0 where
   pub file : List ℕ
   pub outcome : Outcome
 
--- a run of a routine with one array: its copies, against those of copying at every remapping; what its reads see; and the report whole,
--- in rows of bytes: the array; a reference in each other row
+-- a run: the copies of each array, against those of copying at every remapping; what its reads see; and the report whole, in rows of
+-- bytes: an array, then a reference in each
 pub record Runs : Type 0 where
   pub file : List ℕ
   pub path : List ℕ
-  pub copies : ℕ
-  pub against : ℕ
+  pub copies : List ℕ
+  pub against : List ℕ
   pub reads : List Seen
   pub report : List ℕ
 
@@ -89,17 +90,17 @@ pub data Case : Type 0 where
 abbrev pub CaseHolds : Case → Type 0
 CaseHolds (plans c) =
     (planOf (c .file) (length (c .plan)) ≡ Written (length (c .plan)))
-    × (linesOf (c .file) ≡ c .lines)
-    × (planBytes (c .file) ≡ c .plan)
+    × (linesOf (routineOf (c .file)) ≡ c .lines)
+    × (planBytes (routineOf (c .file)) ≡ c .plan)
 CaseHolds (refuses c) =
     ((size : ℕ) → planOutcome (c .file) size ≡ c .outcome)
     × ((path : List ℕ) (size : ℕ) → runOutcome (c .file) path size ≡ c .outcome)
 CaseHolds (runs c) =
     (runOf (c .file) (c .path) (length (c .report)) ≡ Written (length (c .report)))
-    × (stateAfter (c .file) (c .path) 0 (steps (c .path)) .copies ≡ c .copies)
-    × (machineAfter (c .file) (c .path) 0 (steps (c .path)) .count ≡ c .against)
-    × (readsOf (runRecords (c .file) (c .path)) ≡ c .reads)
-    × (reportBytes (c .file) (c .path) ≡ c .report)
+    × (table (λ a. stateAfter (routineOf (c .file)) (c .path) a (steps (c .path)) .copies) (arrays (c .file)) ≡ c .copies)
+    × (table (λ a. machineAfter (routineOf (c .file)) (c .path) a (steps (c .path)) .count) (arrays (c .file)) ≡ c .against)
+    × (readsOf (runRecords (routineOf (c .file)) (c .path)) ≡ c .reads)
+    × (reportBytes (routineOf (c .file)) (c .path) ≡ c .report)
 
 -- every case of a table holds
 abbrev pub AllHold : List Case → Type 0
@@ -176,6 +177,36 @@ X =
     ∷ 0 ∷ 0 ∷ 1 ∷ 0 ∷ 1 ∷ 0 ∷ 2 ∷ 0 ∷ 2 ∷ 0 ∷ 3 ∷ 0
     ∷ []
 
+-- K, of document 02, request 3, a call in a loop: two arrays, 2 versions each, initial 0, the first inout, the second in; 1 a call that
+-- passes the first in version 1 as inout and the second in version 1 as in, 2 read both, 3 exit; edges 0-1, 1-2, 2-1, 2-3.
+-- Expanded: 1 remap 1 both, 2 modify and read, 3 remap 0 both, 4 read both, 5 exit; edges 0-1, 1-2, 2-3, 3-4, 4-1, 4-5
+abbrev pub K : List ℕ
+K =
+    72 ∷ 80 ∷ 70 ∷ 82 ∷ 1 ∷ 0 ∷ 18 ∷ 0 ∷ 2 ∷ 0 ∷ 26 ∷ 0 ∷ 4 ∷ 0 ∷ 34 ∷ 0 ∷ 4 ∷ 0
+    ∷ 3 ∷ 2 ∷ 0 ∷ 0 ∷ 1 ∷ 2 ∷ 0 ∷ 0
+    ∷ 0x00 ∷ 0x00 ∷ 0xc1 ∷ 0x61 ∷ 0x10 ∷ 0x10 ∷ 0x00 ∷ 0x00
+    ∷ 0 ∷ 0 ∷ 1 ∷ 0 ∷ 1 ∷ 0 ∷ 2 ∷ 0 ∷ 2 ∷ 0 ∷ 1 ∷ 0 ∷ 2 ∷ 0 ∷ 3 ∷ 0
+    ∷ []
+
+-- a call that no path reaches: local, 2 versions, initial 1; 1 a call that passes the array in version 0 as in, 2 read, 3 exit; edges 0-2,
+-- 1-2, 2-3. Expanded: 1 remap 0, 2 read, 3 remap 1, 4 read, 5 exit; edges 0-4, 1-2, 2-3, 3-4, 4-5
+abbrev pub unreached-call : List ℕ
+unreached-call =
+    72 ∷ 80 ∷ 70 ∷ 82 ∷ 1 ∷ 0 ∷ 18 ∷ 0 ∷ 1 ∷ 0 ∷ 22 ∷ 0 ∷ 4 ∷ 0 ∷ 26 ∷ 0 ∷ 3 ∷ 0
+    ∷ 0 ∷ 2 ∷ 1 ∷ 0
+    ∷ 0x00 ∷ 0x60 ∷ 0x10 ∷ 0x00
+    ∷ 0 ∷ 0 ∷ 2 ∷ 0 ∷ 1 ∷ 0 ∷ 2 ∷ 0 ∷ 2 ∷ 0 ∷ 3 ∷ 0
+    ∷ []
+
+-- T with a call at 2 that passes the array in version 1 as in
+abbrev pub T-with-call : List ℕ
+T-with-call =
+    72 ∷ 80 ∷ 70 ∷ 82 ∷ 1 ∷ 0 ∷ 18 ∷ 0 ∷ 1 ∷ 0 ∷ 22 ∷ 0 ∷ 4 ∷ 0 ∷ 26 ∷ 0 ∷ 4 ∷ 0
+    ∷ 0 ∷ 2 ∷ 0 ∷ 0
+    ∷ 0x00 ∷ 0x41 ∷ 0x61 ∷ 0x00
+    ∷ 0 ∷ 0 ∷ 1 ∷ 0 ∷ 0 ∷ 0 ∷ 2 ∷ 0 ∷ 1 ∷ 0 ∷ 2 ∷ 0 ∷ 2 ∷ 0 ∷ 3 ∷ 0
+    ∷ []
+
 -- ---- paths: 16-bit vertices
 
 -- 0 1 2 3 4 5 6 2 3
@@ -200,6 +231,10 @@ pathX = 0 ∷ 0 ∷ 1 ∷ 0 ∷ 2 ∷ 0 ∷ []
 
 abbrev pub fullX : List ℕ
 fullX = 0 ∷ 0 ∷ 1 ∷ 0 ∷ 2 ∷ 0 ∷ 3 ∷ 0 ∷ []
+
+-- 0 1 2 3 4 1 2 3 4 5, of the expanded routine
+abbrev pub pathK : List ℕ
+pathK = 0 ∷ 0 ∷ 1 ∷ 0 ∷ 2 ∷ 0 ∷ 3 ∷ 0 ∷ 4 ∷ 0 ∷ 1 ∷ 0 ∷ 2 ∷ 0 ∷ 3 ∷ 0 ∷ 4 ∷ 0 ∷ 5 ∷ 0 ∷ []
 
 -- ---- the table
 
@@ -233,8 +268,8 @@ case2 =
     (record {
       file = P;
       path = path2;
-      copies = 1;
-      against = 4;
+      copies = 1 ∷ [];
+      against = 4 ∷ [];
       reads = seen 2 1 ∷ seen 2 0 ∷ seen 2 1 ∷ [];
       report =
           1 ∷ 0 ∷ 3 ∷ 0 ∷ 1 ∷ 0
@@ -275,8 +310,8 @@ case4 =
     (record {
       file = Q;
       path = path4;
-      copies = 2;
-      against = 2;
+      copies = 2 ∷ [];
+      against = 2 ∷ [];
       reads = seen 65535 0 ∷ [];
       report =
           2 ∷ 0 ∷ 1 ∷ 0 ∷ 0 ∷ 0
@@ -291,8 +326,8 @@ case5 =
     (record {
       file = Q;
       path = path5;
-      copies = 2;
-      against = 2;
+      copies = 2 ∷ [];
+      against = 2 ∷ [];
       reads = seen 3 0 ∷ [];
       report =
           2 ∷ 0 ∷ 1 ∷ 0 ∷ 0 ∷ 0
@@ -308,8 +343,8 @@ case6 =
     (record {
       file = S;
       path = path5;
-      copies = 1;
-      against = 2;
+      copies = 1 ∷ [];
+      against = 2 ∷ [];
       reads = seen 2 2 ∷ [];
       report =
           1 ∷ 0 ∷ 4 ∷ 0 ∷ 2 ∷ 0
@@ -389,8 +424,8 @@ runU =
     (record {
       file = U;
       path = pathU;
-      copies = 1;
-      against = 2;
+      copies = 1 ∷ [];
+      against = 2 ∷ [];
       reads = seen 4 1 ∷ seen 4 0 ∷ [];
       report =
           1 ∷ 0 ∷ 1 ∷ 0 ∷ 0 ∷ 0
@@ -426,8 +461,8 @@ runX =
     (record {
       file = X;
       path = pathX;
-      copies = 1;
-      against = 1;
+      copies = 1 ∷ [];
+      against = 1 ∷ [];
       reads = seen 65535 1 ∷ [];
       report =
           1 ∷ 0 ∷ 2 ∷ 0 ∷ 1 ∷ 0
@@ -442,8 +477,8 @@ fullRunX =
     (record {
       file = X;
       path = fullX;
-      copies = 1;
-      against = 1;
+      copies = 1 ∷ [];
+      against = 1 ∷ [];
       reads = seen 65535 1 ∷ [];
       report =
           1 ∷ 0 ∷ 1 ∷ 0 ∷ 0 ∷ 0
@@ -451,6 +486,84 @@ fullRunX =
           ∷ [];
     })
 
--- cases 1 to 8 as starred; labels of S and U, and U's run; request 1
+-- request 3: K's labels: three vertices for the call, and the array goes back to version 0
+abbrev pub caseK : Case
+caseK =
+    plans
+    (record {
+      file = K;
+      lines =
+          line 0 0 N none 0x0001 0x0002
+          ∷ line 0 1 N none 0x0001 0x0003
+          ∷ line 1 0 W (some 1) 0x0001 0x0002
+          ∷ line 1 1 R (some 1) 0x0001 0x0003
+          ∷ line 3 0 R (some 0) 0x0002 0x0003
+          ∷ line 3 1 R (some 0) 0x0002 0x0003
+          ∷ line 5 0 W (some 0) 0x0001 0x0001
+          ∷ [];
+      plan =
+          72 ∷ 80 ∷ 70 ∷ 80 ∷ 6 ∷ 0 ∷ 7 ∷ 0
+          ∷ 0 ∷ 0 ∷ 2 ∷ 0 ∷ 2 ∷ 0 ∷ 2 ∷ 0 ∷ 4 ∷ 0 ∷ 0 ∷ 0 ∷ 4 ∷ 0 ∷ 2 ∷ 0
+          ∷ 6 ∷ 0 ∷ 0 ∷ 0 ∷ 6 ∷ 0 ∷ 1 ∷ 0
+          ∷ 0 ∷ 78 ∷ 255 ∷ 0 ∷ 1 ∷ 0 ∷ 2 ∷ 0
+          ∷ 1 ∷ 78 ∷ 255 ∷ 0 ∷ 1 ∷ 0 ∷ 3 ∷ 0
+          ∷ 0 ∷ 87 ∷ 1 ∷ 0 ∷ 1 ∷ 0 ∷ 2 ∷ 0
+          ∷ 1 ∷ 82 ∷ 1 ∷ 0 ∷ 1 ∷ 0 ∷ 3 ∷ 0
+          ∷ 0 ∷ 82 ∷ 0 ∷ 0 ∷ 2 ∷ 0 ∷ 3 ∷ 0
+          ∷ 1 ∷ 82 ∷ 0 ∷ 0 ∷ 2 ∷ 0 ∷ 3 ∷ 0
+          ∷ 0 ∷ 87 ∷ 0 ∷ 0 ∷ 1 ∷ 0 ∷ 1 ∷ 0
+          ∷ [];
+    })
+
+-- request 3: K, path 0 1 2 3 4 1 2 3 4 5: three copies and one, against four each; reads after the call see what it left
+abbrev pub runK : Case
+runK =
+    runs
+    (record {
+      file = K;
+      path = pathK;
+      copies = 3 ∷ 1 ∷ [];
+      against = 4 ∷ 4 ∷ [];
+      reads = seen 65535 1 ∷ seen 3 0 ∷ seen 65535 0 ∷ seen 65535 1 ∷ seen 7 0 ∷ seen 65535 0 ∷ [];
+      report =
+          3 ∷ 0 ∷ 1 ∷ 0 ∷ 0 ∷ 0
+          ∷ 1 ∷ 0 ∷ 1 ∷ 0 ∷ 0 ∷ 0
+          ∷ 3 ∷ 0 ∷ 0 ∷ 1 ∷ 3 ∷ 0 ∷ 255 ∷ 255 ∷ 3 ∷ 0
+          ∷ 3 ∷ 0 ∷ 1 ∷ 1 ∷ 1 ∷ 0 ∷ 255 ∷ 255 ∷ 0 ∷ 0
+          ∷ 5 ∷ 0 ∷ 0 ∷ 0 ∷ 1 ∷ 0 ∷ 3 ∷ 0 ∷ 0 ∷ 0
+          ∷ 5 ∷ 0 ∷ 1 ∷ 0 ∷ 1 ∷ 0 ∷ 255 ∷ 255 ∷ 0 ∷ 0
+          ∷ 7 ∷ 0 ∷ 0 ∷ 1 ∷ 3 ∷ 0 ∷ 3 ∷ 0 ∷ 7 ∷ 0
+          ∷ 7 ∷ 0 ∷ 1 ∷ 1 ∷ 1 ∷ 0 ∷ 255 ∷ 255 ∷ 0 ∷ 0
+          ∷ 9 ∷ 0 ∷ 0 ∷ 0 ∷ 1 ∷ 0 ∷ 7 ∷ 0 ∷ 0 ∷ 0
+          ∷ 9 ∷ 0 ∷ 1 ∷ 0 ∷ 1 ∷ 0 ∷ 255 ∷ 255 ∷ 0 ∷ 0
+          ∷ [];
+    })
+
+-- request 3: a call that no path reaches: back to the initial version, `3 0 R 1 0000 0002`
+abbrev pub caseUnreached : Case
+caseUnreached =
+    plans
+    (record {
+      file = unreached-call;
+      lines =
+          line 0 0 R (some 1) 0x0000 0x0002
+          ∷ line 1 0 R (some 0) 0x0000 0x0003
+          ∷ line 3 0 R (some 1) 0x0000 0x0002
+          ∷ [];
+      plan =
+          72 ∷ 80 ∷ 70 ∷ 80 ∷ 6 ∷ 0 ∷ 3 ∷ 0
+          ∷ 0 ∷ 0 ∷ 1 ∷ 0 ∷ 1 ∷ 0 ∷ 1 ∷ 0 ∷ 2 ∷ 0 ∷ 0 ∷ 0 ∷ 2 ∷ 0 ∷ 1 ∷ 0
+          ∷ 3 ∷ 0 ∷ 0 ∷ 0 ∷ 3 ∷ 0 ∷ 0 ∷ 0
+          ∷ 0 ∷ 82 ∷ 1 ∷ 0 ∷ 0 ∷ 0 ∷ 2 ∷ 0
+          ∷ 0 ∷ 82 ∷ 0 ∷ 0 ∷ 0 ∷ 0 ∷ 3 ∷ 0
+          ∷ 0 ∷ 82 ∷ 1 ∷ 0 ∷ 0 ∷ 0 ∷ 2 ∷ 0
+          ∷ [];
+    })
+
+-- request 3: T with a call at 2: two versions may come, refused 21 at the file's vertex
+abbrev pub caseT-call : Case
+caseT-call = refuses (record { file = T-with-call; outcome = refused 21 2 0 })
+
+-- cases 1 to 8 as starred; labels of S and U, and U's run; request 1; request 3
 abbrev pub cases : List Case
-cases = case1 ∷ case2 ∷ case3 ∷ case4 ∷ case5 ∷ case6 ∷ case7 ∷ case8 ∷ caseS ∷ caseU ∷ runU ∷ caseX ∷ runX ∷ fullRunX ∷ []
+cases = case1 ∷ case2 ∷ case3 ∷ case4 ∷ case5 ∷ case6 ∷ case7 ∷ case8 ∷ caseS ∷ caseU ∷ runU ∷ caseX ∷ runX ∷ fullRunX ∷ caseK ∷ runK ∷ caseUnreached ∷ caseT-call ∷ []

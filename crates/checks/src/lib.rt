@@ -16,11 +16,10 @@ ghost use lib.Dec.{eqb};
 ghost use lib.ListN.{length, getD};
 ghost use Rattle.labels.specs.Ambiguity.{isAmbiguous};
 ghost use Rattle.labels.specs.Checks.{writesIn, check20, check21};
-ghost use Rattle.labels.specs.Reaching.{reachingOf};
 ghost use Rattle.labels.specs.Routines.{ReadAs, EdgeOrder};
 ghost use Rattle.words.specs.Sums.{anyBelow};
-ghost use Rattle.checks.specs.Rows.{InMasks, Checked};
-ghost use Rattle.passes.specs.Tables.{Cells, Versions, UseGives};
+ghost use Rattle.checks.specs.Rows.{InMasks, AtReferences, Checked, Judged};
+ghost use Rattle.passes.specs.Tables.{Versions, UseGives};
 ghost use Rattle.refusal.specs.Checks.{holds, firstFailed};
 ghost use Rattle.routine.specs.Layout.{arrays, vertices, edges};
 ghost use Rattle.refusal.specs.declared.Refusal.the-variants.{WritesInArgument, AmbiguousReference};
@@ -162,7 +161,7 @@ fn check_ambiguous_at(file: &[u8], h: Header, v: usize, uses: &[Set], reaching: 
     requires { ⌜ ReadAs (now file) h ⌝ }
     requires { ⌜ UseGives (now file) (now uses) ⌝ }
     requires { ⌜ v < vertices (now file) ⌝ }
-    requires { ⌜ Cells (now file) (reachingOf (now file)) (now reaching) ⌝ }
+    requires { ⌜ AtReferences (now file) (now reaching) ⌝ }
     ensures { λ r. ⌜ r ≡ firstFailed (λ a. holds (not (isAmbiguous (now (file .entry)) a v)) (AmbiguousReference v a)) 0 (arrays (now (file .entry))) ⌝ }
 {
     let m = h.arrays;
@@ -186,7 +185,7 @@ fn check_ambiguous_row(file: &[u8], h: Header, v: usize, uses: &[Set], reaching:
     requires { ⌜ ReadAs (now file) h ⌝ }
     requires { ⌜ UseGives (now file) (now uses) ⌝ }
     requires { ⌜ v < vertices (now file) ⌝ }
-    requires { ⌜ Cells (now file) (reachingOf (now file)) (now reaching) ⌝ }
+    requires { ⌜ AtReferences (now file) (now reaching) ⌝ }
     ensures { λ r. ⌜ r ≡ firstFailed (λ a. holds (not (isAmbiguous (now (file .entry)) a v)) (AmbiguousReference v a)) 0 (arrays (now (file .entry))) ⌝ }
 {
     let any = row_ambiguous(uses, reaching, v);
@@ -200,7 +199,7 @@ fn check_ambiguous_row(file: &[u8], h: Header, v: usize, uses: &[Set], reaching:
 fn check_ambiguous(file: &[u8], h: Header, uses: &[Set], reaching: &[Set]) -> Verdict
     requires { ⌜ ReadAs (now file) h ⌝ }
     requires { ⌜ UseGives (now file) (now uses) ⌝ }
-    requires { ⌜ Cells (now file) (reachingOf (now file)) (now reaching) ⌝ }
+    requires { ⌜ AtReferences (now file) (now reaching) ⌝ }
     ensures { λ r. ⌜ r ≡ check21 (now (file .entry)) ⌝ }
 {
     let n = h.vertices;
@@ -286,4 +285,34 @@ pub fn prepare(
         gives,
         passes,
     )
+}
+
+// Refusals 20 and 21 without letters. Where both pass, `brought` is left with the versions that paths bring; all other slices are work slices.
+pub fn judge(
+    file: &[u8],
+    h: Header,
+    order: &mut [u16],
+    versions: &mut [Set],
+    uses: &mut [Set],
+    brought: &mut [Set],
+    gives: &mut [Set],
+    passes: &mut [Set],
+) -> Verdict
+    requires { ⌜ ReadAs (now file) h ⌝ }
+    requires { ⌜ length (now order) ≡ edges (now file) ⌝ }
+    requires { ⌜ length (now versions) ≡ 8 * vertices (now file) ⌝ }
+    requires { ⌜ length (now uses) ≡ 8 * vertices (now file) ⌝ }
+    requires { ⌜ length (now brought) ≡ 8 * vertices (now file) ⌝ }
+    requires { ⌜ length (now gives) ≡ 8 * vertices (now file) ⌝ }
+    requires { ⌜ length (now passes) ≡ 8 * vertices (now file) ⌝ }
+    ensures { λ r. ⌜ Judged (now (file .entry)) r (now (brought .exit)) ⌝ }
+{
+    pass::by_number(file, h, order);
+    events::tabulate(file, h, versions, uses);
+    let writes = check_writes(file, h, uses);
+    if let Verdict::Failed(_) = writes {
+        return writes;
+    }
+    tables::brought(file, h, order, versions, brought, gives, passes);
+    check_ambiguous(file, h, uses, brought)
 }

@@ -1,14 +1,16 @@
 -- The mission's demand 2 and refusal 21: a reference is ambiguous if two paths from the entry bring different versions to it.
 -- Assumes nothing.
 use mathlib.Core.Path.{_≡_}
-use mathlib.Core.Bool.{Bool, _&&_}
+use mathlib.Core.Bool.{Bool, false, _&&_, cond}
 use mathlib.Core.List.{List}
-use Prim.Native.Nat.{ℕ}
+use Prim.Native.Nat.{ℕ, _^_}
 use lib.Dec.{T}
+use lib.ListN.{getD}
+use Rattle.flow.specs.Solver.{solution}
 use Rattle.routine.specs.Actions.{isReference}
-use Rattle.sets.specs.Sets.{several}
-use Rattle.labels.specs.Events.{event, isLabel, version}
-use Rattle.labels.specs.Reaching.{lastVersion, BroughtBy, reachingOf}
+use Rattle.sets.specs.Sets.{several, everyVersion}
+use Rattle.labels.specs.Events.{solvedSets, event, isLabel, version}
+use Rattle.labels.specs.Reaching.{lastVersion, BroughtBy, isReached, reachingOf}
 
 -- ---- by paths
 
@@ -26,6 +28,26 @@ pub record Ambiguous (file : List ℕ) (a v : ℕ) : Type 0 where
   pub brings-second : Brings file a v second
 
 -- ---- computed
+
+-- a label that a path from the entry reaches gives its version
+unfoldable pub broughtGives : List ℕ → ℕ → ℕ → ℕ
+unfolding isReached event version
+broughtGives file a v = cond (isReached file v && isLabel file a v) (2 ^ version file a v) 0
+
+-- what is no label passes every version
+unfoldable pub broughtPasses : List ℕ → ℕ → ℕ → ℕ
+unfolding event
+broughtPasses file a v = cond (isLabel file a v) 0 everyVersion
+
+-- what paths bring to the vertices
+unfoldable pub broughtSets : List ℕ → ℕ → List ℕ
+unfolding solution broughtGives broughtPasses
+broughtSets file a = solvedSets file false (broughtGives file a) (broughtPasses file a)
+
+-- the versions that paths bring to v
+unfoldable pub broughtOf : List ℕ → ℕ → ℕ → ℕ
+unfolding broughtSets
+broughtOf file a v = getD (broughtSets file a) v 0
 
 -- the last label before a reference meets it and so is kept: the versions that paths bring to a reference are those that reach it.
 -- Ones of that mask counted; above one at a reference means 21

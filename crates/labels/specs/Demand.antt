@@ -21,23 +21,24 @@ use Rattle.labels.specs.Kept.{InKept, keptOf}
 use Rattle.labels.specs.Reaching.{Reaches, reachingOf}
 use Rattle.labels.specs.Uses.{IsUse, useOf, Unused, isKept, Leaves, leavingByte}
 
--- demand 2
-pub record Demand2 (file : List ℕ) : Type 0 where
+-- demand 2, of the routine that is planned, and of the routine of which 21 is asked: the file with calls read as references, whose places are
+-- the file's
+pub record Demand2 (routine judged : List ℕ) : Type 0 where
   -- the letter of a label is the one whose rule holds, and no other's rule does
-  pub letters : (a v : ℕ) → a < arrays file → (u : Use) → IsUse file a v u ↔ (u ≡ useOf file a v)
+  pub letters : (a v : ℕ) → a < arrays routine → (u : Use) → IsUse routine a v u ↔ (u ≡ useOf routine a v)
   -- its leaving version in the plan is k exactly where it leaves with k
-  pub leaving : (a v : ℕ) → a < arrays file → T (isLabel file a v) → (k : ℕ) → k < width → (leavingByte file a v ≡ k) ↔ Leaves file a v k
+  pub leaving : (a v : ℕ) → a < arrays routine → T (isLabel routine a v) → (k : ℕ) → k < width → (leavingByte routine a v ≡ k) ↔ Leaves routine a v k
   -- and 255, none, exactly where its letter is N
-  pub leaving-none : (a v : ℕ) → a < arrays file → (leavingByte file a v ≡ 255) ↔ IsUse file a v N
+  pub leaving-none : (a v : ℕ) → a < arrays routine → (leavingByte routine a v ≡ 255) ↔ IsUse routine a v N
   -- its reaching set has the versions that reach it, and no others
-  pub reaching : (a v : ℕ) → a < arrays file → (k : ℕ) → T (has (reachingOf file a v) k) ↔ Reaches file a v k
+  pub reaching : (a v : ℕ) → a < arrays routine → (k : ℕ) → T (has (reachingOf routine a v) k) ↔ Reaches routine a v k
   -- its kept set has the versions that it keeps, and no others
-  pub kept : (a v : ℕ) → a < arrays file → (k : ℕ) → T (has (keptOf file a v) k) ↔ InKept file a v k
+  pub kept : (a v : ℕ) → a < arrays routine → (k : ℕ) → T (has (keptOf routine a v) k) ↔ InKept routine a v k
   -- a label before the exit is dropped exactly if no segment from it meets a reference
-  pub dropped : (a v : ℕ) → a < arrays file → T (isLabel file a v) → (v ≡ exit file → ⊥) → (T (isKept file a v) → ⊥) ↔ Unused file a v
+  pub dropped : (a v : ℕ) → a < arrays routine → T (isLabel routine a v) → (v ≡ exit routine → ⊥) → (T (isKept routine a v) → ⊥) ↔ Unused routine a v
   -- 21 is passed exactly if no reference is ambiguous
-  pub unambiguous : (check21 file ≡ Passed) ↔ ((v a : ℕ) → v < vertices file → a < arrays file → Ambiguous file a v → ⊥)
+  pub unambiguous : (check21 judged ≡ Passed) ↔ ((v a : ℕ) → v < vertices judged → a < arrays judged → Ambiguous judged a v → ⊥)
   -- else its places are those of the first that is, by vertex, then by array
   pub ambiguous :
-      (r : Refusal) → (check21 file ≡ Failed r)
-      ↔ ((v : ℕ) × (a : ℕ) × FirstFault (λ v a. Ambiguous file a v) (vertices file) (arrays file) v a × (r ≡ AmbiguousReference v a))
+      (r : Refusal) → (check21 judged ≡ Failed r)
+      ↔ ((v : ℕ) × (a : ℕ) × FirstFault (λ v a. Ambiguous judged a v) (vertices judged) (arrays judged) v a × (r ≡ AmbiguousReference v a))

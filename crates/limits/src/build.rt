@@ -365,6 +365,16 @@ pub fn put_full(file: &mut Buffer) -> usize
     length
 }
 
+// One local array, and 84 calls that pass it with this byte, from vertex 1 on; no edges.
+pub fn put_calls(file: &mut Buffer, vertices: usize, byte: u8) -> usize
+    requires { ⌜ vertices ≤ 257 ⌝ }
+    ensures { λ r. ⌜ r ≤ 8192 ⌝ }
+{
+    let length = put_idle(file, 1, vertices, 0);
+    put_every(file, 23, 1, 84, byte);
+    length
+}
+
 // A path's vertex.
 pub fn put_vertex(path: &mut Buffer, index: usize, vertex: usize)
     requires { ⌜ index ≤ 4096 ⌝ }

@@ -1,5 +1,5 @@
-// The planner's answers (document 01, "Plan and report", "Who can cause a refusal", cases 7 and 8): for a plan 0, its length and 0; for a
-// refused routine or buffer the number and the two places.
+// The planner's answers (document 01, "Plan and report", "Who can cause a refusal", cases 7 and 8; document 02, request 3): for a plan 0, its
+// length and 0; for a refused routine or buffer the number and the two places.
 use crate::build;
 use crate::build::Buffer;
 use crate::print;
@@ -62,12 +62,22 @@ fn longer_t(name: &[u8], kind: u8) {
     case(name, file, 47, ROOM);
 }
 
-// Two arrays, the second in, and three vertices without edges; the middle one defines the second array.
-fn defines_unreached(name: &[u8]) {
+// Two arrays, the second in, and three vertices without edges; the middle one has this action for the second array.
+fn unreached(name: &[u8], action: u8) {
     let mut file = build::zeros();
     let length = build::put_idle(&mut file, 2, 3, 0);
     build::put(&mut file, 22, 1);
-    build::put(&mut file, 29, 0x20);
+    build::put(&mut file, 29, action);
+    case(name, file, length, ROOM);
+}
+
+// So many vertices, 84 of them calls, of an array of this kind with this byte.
+fn calls(name: &[u8], vertices: usize, kind: u8, byte: u8)
+    requires { ⌜ vertices ≤ 257 ⌝ }
+{
+    let mut file = build::zeros();
+    let length = build::put_calls(&mut file, vertices, byte);
+    build::put(&mut file, 18, kind);
     case(name, file, length, ROOM);
 }
 
@@ -91,20 +101,39 @@ fn written_in_arguments() {
     p_with(b"in_modified", 1, 0x30);
     p_with(b"in_read", 1, 0x10);
     p_with(b"out_defined", 2, 0x20);
-    defines_unreached(b"in_defined_unreached");
+    unreached(b"in_defined_unreached", 0x20);
     longer_t(b"20_before_21", 1);
+}
+
+// 20 of calls: an in argument may be passed as in alone.
+fn passed_in_arguments() {
+    p_with(b"in_passed_in", 1, 0x60);
+    p_with(b"in_passed_out", 1, 0xa0);
+    p_with(b"in_passed_inout", 1, 0xc0);
+    unreached(b"in_passed_out_unreached", 0xa0);
+}
+
+// 22: the vertices after expansion, before 20.
+fn expanded_vertices() {
+    calls(b"calls_to_256_vertices", 88, 0, 0x60);
+    calls(b"calls_to_257_vertices", 89, 0, 0x60);
+    calls(b"calls_to_424_vertices", 256, 0, 0x60);
+    calls(b"22_before_20", 89, 1, 0xa0);
 }
 
 // 21: before 1.
 fn ambiguous_references() {
     t_with(b"t", 0x10, ROOM);
     t_with(b"t_with_nothing", 0x00, ROOM);
+    t_with(b"t_with_call", 0x61, ROOM);
     t_with(b"21_before_1", 0x10, 0);
     longer_t(b"first_ambiguous_vertex", 0);
 }
 
 pub fn all() {
     buffers();
+    expanded_vertices();
     written_in_arguments();
+    passed_in_arguments();
     ambiguous_references();
 }

@@ -150,6 +150,25 @@ fn action_bytes() {
     p_with_two(b"17_before_16", 24, 0x43, 58, 7);
 }
 
+// 15: bytes beside those of calls (document 02, request 3).
+fn bytes_beside_calls() {
+    p_with(b"action_5f", 25, 0x5f);
+    p_with(b"action_80", 25, 0x80);
+    p_with(b"action_9f", 25, 0x9f);
+    p_with(b"action_e0", 25, 0xe0);
+}
+
+// 17, 18: a call by itself.
+fn calls() {
+    p_with(b"call_in_2_of_3", 25, 0x62);
+    p_with(b"call_in_3_of_3", 25, 0x63);
+    p_with(b"call_out_3_of_3", 25, 0xa3);
+    p_with(b"call_inout_31_of_3", 25, 0xdf);
+    p_with(b"entry_row_call", 22, 0x60);
+    p_with(b"exit_row_call", 29, 0xc0);
+    p_with(b"entry_row_call_3_of_3", 22, 0xa3);
+}
+
 // 18: the rows of entry and exit; there too 15 and 17 are lower numbers.
 fn end_rows() {
     p_with(b"entry_row", 22, 0x10);
@@ -166,6 +185,17 @@ fn mixed_rows() {
     middle_row(b"define_after_remap", 0x40, 0x20, 0);
     middle_row(b"remap_1_of_1_after_read", 0x10, 0x41, 0);
     middle_row(b"19_before_a_later_15", 0x10, 0x40, 0x11);
+}
+
+// 19: a call row holds calls and 00 only.
+fn call_rows() {
+    middle_row(b"row_of_calls", 0x60, 0xc0, 0);
+    middle_row(b"call_after_nothing", 0, 0xa0, 0);
+    middle_row(b"call_after_read", 0x10, 0x60, 0);
+    middle_row(b"read_after_call", 0x60, 0x10, 0);
+    middle_row(b"call_after_remap", 0x40, 0xa0, 0);
+    middle_row(b"remap_after_call", 0xa0, 0x40, 0);
+    middle_row(b"call_1_of_1_after_read", 0x10, 0xc1, 0);
 }
 
 // 16: ends, then order.
@@ -195,8 +225,11 @@ pub fn all() {
     versions();
     initial_versions();
     action_bytes();
+    bytes_beside_calls();
+    calls();
     end_rows();
     mixed_rows();
+    call_rows();
     edge_ends();
     edge_order();
 }

@@ -1,4 +1,4 @@
-// The runner's answers (document 01, "Who can cause a refusal", cases 2, 6 and 9): for a run 0, the report's length and 0; for a refused path or
+// The runner's answers (document 01, "Who can cause a refusal", cases 2, 6 and 9; document 02, request 3): for a run 0, the report's length and 0; for a refused path or
 // buffer the number and the two places.
 use crate::build;
 use crate::build::Buffer;
@@ -57,6 +57,19 @@ fn p_on_two(name: &[u8], first: usize, second: usize, room: usize)
     build::put_vertex(&mut path, 0, first);
     build::put_vertex(&mut path, 1, second);
     p_on(name, path, 4, room);
+}
+
+// Routine P with a call at vertex 1 that passes the array in version 0 as in, on rising vertices: the call is 1, 2 and 3.
+fn call_on(name: &[u8], vertices: usize, room: usize)
+    requires { ⌜ vertices ≤ 4097 ⌝ }
+    requires { ⌜ room ≤ 17000 ⌝ }
+{
+    let mut file = build::zeros();
+    let mut path = build::zeros();
+    build::put_p(&mut file);
+    build::put(&mut file, 23, 0x60);
+    build::put_rising(&mut path, vertices);
+    case(name, file, 62, path, 2 * vertices, room);
 }
 
 // Routine T, which is refused, on an empty path.
@@ -119,6 +132,14 @@ fn steps_in_order() {
     p_on_two(b"32_before_2", 0, 2, 0);
 }
 
+// Paths that end inside a call and behind it; beyond the exit, which is 9 then, there is no edge.
+fn calls() {
+    call_on(b"path_ends_in_call", 2, ROOM);
+    call_on(b"path_ends_at_reference_of_call", 3, ROOM);
+    call_on(b"path_past_call", 10, ROOM);
+    call_on(b"path_past_exit", 11, ROOM);
+}
+
 // 2: the buffer.
 fn buffers() {
     p_round(b"report_fits", 9, 18, 46);
@@ -131,6 +152,7 @@ pub fn all() {
     odd_lengths();
     steps();
     steps_in_order();
+    calls();
     buffers();
     u();
 }

@@ -20,6 +20,14 @@ fn identity(t: &mut [u16])
     }
 }
 
+// Takes the edges by their numbers.
+pub fn by_number(order: &mut [u16])
+    requires { ⌜ length (now order) ≤ maxEdges ⌝ }
+    ensures { λ _. ⌜ Order (length (now (order .entry))) (now (order .exit)) ⌝ }
+{
+    identity(order);
+}
+
 // A vertex as an index.
 fn index(v: u8) -> usize
     ensures { λ r. ⌜ r < 256 ⌝ }

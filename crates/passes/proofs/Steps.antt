@@ -15,6 +15,7 @@ use Rattle.routine.specs.Reader.{WellFormed}
 use Rattle.routine.specs.declared.action.Action.{Action}
 use Rattle.sets.specs.Sets.{has, everyVersion}
 use Rattle.words.specs.Tables.{table, withRow}
+use Rattle.labels.specs.Ambiguity.{broughtGives, broughtPasses, broughtSets, broughtOf}
 use Rattle.labels.specs.Events.{event, isLabel, versionOf, version}
 use Rattle.routine.specs.Arrays.{kind, initial, isInOrInout}
 use Rattle.labels.specs.Kept.{isNOrR, passesKept, leavingSet, keptSets, keptOf}
@@ -73,6 +74,29 @@ module _ {file : List ℕ} (well : WellFormed file) where
   reached-at : {reached : List ℕ} → Reached file reached → (a v : ℕ) → a < arrays file → v < vertices file → reachedCell (8 * v + a) (getD reached (8 * v + a) 0) ≡ isReached file v
   unfolding isReached
   reached-at h a v in-a in-v = ap₂ _||_ (first-row v a (in-eight well in-a)) (ap (λ (m : ℕ). has m 0) (h .cells a v in-a in-v))
+
+  -- ---- the versions that paths bring
+
+  module _ {versions : List ℕ} (vs : Versions file versions) where
+    pub brought-gives : {reached s : List ℕ} → Reached file reached → s ≡ table (λ i. cond (reachedCell i (getD reached i 0)) (getD versions i 0) 0) (length versions)
+        → Cells file (broughtGives file) s
+    unfolding broughtGives version
+    brought-gives {reached} h e =
+        cells-table well (λ i. cond (reachedCell i (getD reached i 0)) (getD versions i 0) 0) (vs .size) e
+        (λ a v in-a in-v.
+        ap₂ (λ (b : Bool) (x : ℕ). cond b x 0) (reached-at h a v in-a in-v) (vs .cells a v in-a in-v)
+        ∙ cond-and (isReached file v) (isLabel file a v) (2 ^ versionOf (event file a v)))
+
+    pub brought-passes : {s : List ℕ} → s ≡ table (λ i. cond (eqb (getD versions i 0) 0) everyVersion 0) (length versions) → Cells file (broughtPasses file) s
+    unfolding broughtPasses
+    brought-passes e =
+        cells-table well (λ i. cond (eqb (getD versions i 0) 0) everyVersion 0) (vs .size) e
+        (λ a v in-a in-v. ap (λ (x : ℕ). cond (eqb x 0) everyVersion 0) (vs .cells a v in-a in-v) ∙ single-passes (isLabel file a v) (versionOf (event file a v)))
+
+  pub brought-sets : {gives passes sets : List ℕ} → Cells file (broughtGives file) gives → Cells file (broughtPasses file) passes → Pass file false gives passes sets
+      → Cells file (broughtOf file) sets
+  unfolding broughtSets broughtOf
+  brought-sets g p h = cells-solved well (broughtGives file) (broughtPasses file) g p h
 
   -- ---- letters
 

@@ -23,6 +23,15 @@ pub fn order(file: &[u8], h: Header, order: &mut [u16])
     order::fill(&file[at..], order);
 }
 
+// The edges by their numbers, for a pass whose rounds are to tell whether a search pays.
+pub fn by_number(file: &[u8], h: Header, order: &mut [u16])
+    requires { ⌜ ReadAs (now file) h ⌝ }
+    requires { ⌜ length (now order) ≡ edges (now file) ⌝ }
+    ensures { λ _. ⌜ EdgeOrder (now (file .entry)) (now (order .exit)) ⌝ }
+{
+    order::by_number(order);
+}
+
 // The order in which later passes take them: by searches, where one pass took more than a few rounds.
 pub fn reorder(file: &[u8], h: Header, order: &mut [u16], rounds: usize)
     requires { ⌜ ReadAs (now file) h ⌝ }

@@ -1,4 +1,4 @@
-// Reaching sets (document 01, "Labels"), and which vertices a path from the entry reaches.
+// Reaching sets (document 01, "Labels"), which vertices a path from the entry reaches, and the versions that paths bring there.
 use labels::event;
 use labels::letter;
 use routine::array;
@@ -39,6 +39,26 @@ fn is_reached(i: usize, set: Set) -> bool
     ensures { λ r. ⌜ r ≡ reachedCell i set ⌝ }
 {
     (i < flow::COLUMNS) | (set % 2 == 1)
+}
+
+// The tables of the pass that finds what paths bring: a label that is reached gives its version, and what is no label passes every version.
+pub fn fill_brought(versions: &[Set], reached: &[Set], gives: &mut [Set], passes: &mut [Set])
+    requires { ⌜ length (now reached) ≡ length (now versions) ⌝ }
+    requires { ⌜ length (now gives) ≡ length (now versions) ⌝ }
+    requires { ⌜ length (now passes) ≡ length (now versions) ⌝ }
+    ensures { λ _. ⌜ now (gives .exit)
+        ≡ table (λ i. cond (reachedCell i (getD (now (reached .entry)) i 0)) (getD (now (versions .entry)) i 0) 0) (length (now (versions .entry))) ⌝ }
+    ensures { λ _. ⌜ now (passes .exit)
+        ≡ table (λ i. cond (eqb (getD (now (versions .entry)) i 0) 0) everyVersion 0) (length (now (versions .entry))) ⌝ }
+{
+    let n = versions.len();
+    let mut i = 0;
+    while i < n {
+        let version = versions[i];
+        gives[i] = event::set_if(is_reached(i, reached[i]), version);
+        passes[i] = event::every_if(version == 0);
+        i += 1;
+    }
 }
 
 // The tables of the pass: a kept label that is reached gives its version, and what is no kept label passes every version.

@@ -6,10 +6,11 @@ use crate::uses;
 use routine::header::Header;
 use sets::Set;
 ghost use mathlib.Core.Path.{_≡_};
-ghost use mathlib.Core.Bool.{true};
+ghost use mathlib.Core.Bool.{true, false};
 ghost use Prim.Native.Nat.{_*_};
 ghost use lib.ListN.{length};
 ghost use Rattle.flow.specs.Solver.{Rounds};
+ghost use Rattle.labels.specs.Ambiguity.{broughtOf};
 ghost use Rattle.labels.specs.Events.{edgeBytes};
 ghost use Rattle.labels.specs.Kept.{keptOf};
 ghost use Rattle.labels.specs.Reaching.{reachingOf};
@@ -17,7 +18,7 @@ ghost use Rattle.labels.specs.Routines.{ReadAs, EdgeOrder};
 ghost use Rattle.passes.specs.Tables.{Cells, Versions, UseGives, Reached, Letters};
 ghost use Rattle.routine.specs.Layout.{vertices};
 
-// Which vertices a path of one edge or more from the entry reaches.
+// Which vertices a path of one edge or more from the entry reaches. Returns the number of rounds of the pass.
 fn reached(
     file: &[u8],
     h: Header,
@@ -25,15 +26,42 @@ fn reached(
     sets: &mut [Set],
     gives: &mut [Set],
     passes: &mut [Set],
-)
+) -> usize
     requires { ⌜ ReadAs (now file) h ⌝ }
     requires { ⌜ EdgeOrder (now file) (now order) ⌝ }
     requires { ⌜ length (now sets) ≡ 8 * vertices (now file) ⌝ }
     requires { ⌜ length (now gives) ≡ 8 * vertices (now file) ⌝ }
     requires { ⌜ length (now passes) ≡ 8 * vertices (now file) ⌝ }
     ensures { λ _. ⌜ Reached (now (file .entry)) (now (sets .exit)) ⌝ }
+    ensures { λ r. ⌜ Rounds (edgeBytes (now (file .entry))) (now (order .entry)) false (now (gives .exit)) (now (passes .exit))
+        (vertices (now (file .entry))) r ⌝ }
 {
     reaching::fill_reached(gives, passes);
+    pass::solve(file, h, order, false, gives, passes, sets)
+}
+
+// The versions that paths bring, dropped labels included; no letter is asked. `sets` first holds the table of reached vertices.
+pub fn brought(
+    file: &[u8],
+    h: Header,
+    order: &mut [u16],
+    versions: &[Set],
+    sets: &mut [Set],
+    gives: &mut [Set],
+    passes: &mut [Set],
+)
+    requires { ⌜ ReadAs (now file) h ⌝ }
+    requires { ⌜ EdgeOrder (now file) (now order) ⌝ }
+    requires { ⌜ Versions (now file) (now versions) ⌝ }
+    requires { ⌜ length (now sets) ≡ 8 * vertices (now file) ⌝ }
+    requires { ⌜ length (now gives) ≡ 8 * vertices (now file) ⌝ }
+    requires { ⌜ length (now passes) ≡ 8 * vertices (now file) ⌝ }
+    ensures { λ _. ⌜ EdgeOrder (now (file .entry)) (now (order .exit)) ⌝ }
+    ensures { λ _. ⌜ Cells (now (file .entry)) (broughtOf (now (file .entry))) (now (sets .exit)) ⌝ }
+{
+    let rounds = reached(file, h, order, sets, gives, passes);
+    pass::reorder(file, h, order, rounds);
+    reaching::fill_brought(versions, sets, gives, passes);
     pass::solve(file, h, order, false, gives, passes, sets);
 }
 

@@ -1,4 +1,5 @@
 // The call that plans a routine (document 01).
+use calls::scan;
 use passes::tables;
 use planbytes::writer;
 use refusal::Reply;
@@ -9,6 +10,7 @@ use sets::Set;
 ghost use mathlib.Core.Path.{_≡_};
 ghost use Prim.Native.Nat.{_*_, _≤_};
 ghost use lib.ListN.{length};
+ghost use Rattle.calls.specs.Checks.{CallsRead};
 ghost use Rattle.labels.specs.Routines.{ReadAs};
 ghost use Rattle.planned.specs.Calls.{PlannedRead, Planned};
 ghost use Rattle.routine.specs.Layout.{vertices, edges};
@@ -171,6 +173,29 @@ fn plan_read(file: &[u8], h: Header, out: &mut [u8]) -> Reply
     plan_small(file, h, out)
 }
 
+// Plans a file with calls: the routine that it expands to, which `work` is for.
+fn plan_expanded(file: &[u8], h: Header, out: &mut [u8], work: &mut [u8]) -> Reply
+    requires { ⌜ CallsRead (now file) h ⌝ }
+    requires { ⌜ length (now work) ≡ 6866 ⌝ }
+    ensures { λ r. ⌜ Planned (now (file .entry)) (now (out .entry)) r (now (out .exit)) ⌝ }
+{
+    let answer = expansion::expand(file, h, work);
+    let Answer::Routine(e) = answer else {
+        return reader::denied(answer);
+    };
+    let n = e.end_at();
+    plan_read(&work[..n], e, out)
+}
+
+// The same with bytes for any expanded routine.
+fn plan_calls(file: &[u8], h: Header, out: &mut [u8]) -> Reply
+    requires { ⌜ CallsRead (now file) h ⌝ }
+    ensures { λ r. ⌜ Planned (now (file .entry)) (now (out .entry)) r (now (out .exit)) ⌝ }
+{
+    let mut work = [0u8; 6866];
+    plan_expanded(file, h, out, &mut work)
+}
+
 // Plans the routine in `file` into `out`.
 pub fn plan(file: &[u8], out: &mut [u8]) -> Reply
     ensures { λ r. ⌜ Planned (now (file .entry)) (now (out .entry)) r (now (out .exit)) ⌝ }
@@ -179,5 +204,9 @@ pub fn plan(file: &[u8], out: &mut [u8]) -> Reply
     let Answer::Routine(h) = answer else {
         return reader::denied(answer);
     };
+    let calls = scan::any(file, h);
+    if calls {
+        return plan_calls(file, h, out);
+    }
     plan_read(file, h, out)
 }

@@ -41,7 +41,7 @@ fn leaving(version: Set, letter: u8) -> u8
     if !leaves {
         return 255;
     }
-    sets::one_of(version)
+    sets::lowest(version)
 }
 
 // Writes the label of array a at vertex v, if there is one, and returns how many bytes that is.

@@ -3,7 +3,7 @@
 use Prim.Native.Nat.{ℕ}
 use Rattle.refusal.specs.declared.Outcome.{Outcome}
 use Rattle.refusal.specs.declared.Refusal.{Refusal}
-use Rattle.refusal.specs.declared.Refusal.the-variants.{TooShort, WrongMark, WrongEdition, CountOutsideLimits, WrongOffset, WrongLength, WrongArrayByte, UnknownAction, VersionTooLarge, ActionAtEntryOrExit, MixedActions, WrongEdge, WritesInArgument, AmbiguousReference, PathLengthOutsideLimits, WrongStart, NoSuchEdge, ShortPlanBuffer, ShortReportBuffer}
+use Rattle.refusal.specs.declared.Refusal.the-variants.{TooShort, WrongMark, WrongEdition, CountOutsideLimits, WrongOffset, WrongLength, WrongArrayByte, UnknownAction, VersionTooLarge, ActionAtEntryOrExit, MixedActions, WrongEdge, TooManyVertices, WritesInArgument, AmbiguousReference, PathLengthOutsideLimits, WrongStart, NoSuchEdge, ShortPlanBuffer, ShortReportBuffer}
 
 -- a number and two places
 abbrev pub refused : ℕ → ℕ → ℕ → Outcome
@@ -23,6 +23,7 @@ outcomeOf (VersionTooLarge byte) = refused 17 byte 0
 outcomeOf (ActionAtEntryOrExit byte) = refused 18 byte 0
 outcomeOf (MixedActions byte) = refused 19 byte 0
 outcomeOf (WrongEdge byte) = refused 16 byte 0
+outcomeOf (TooManyVertices vertices) = refused 22 vertices 0
 outcomeOf (WritesInArgument vertex array) = refused 20 vertex array
 outcomeOf (AmbiguousReference vertex array) = refused 21 vertex array
 outcomeOf (PathLengthOutsideLimits length) = refused 30 length 0

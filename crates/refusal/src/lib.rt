@@ -1,4 +1,4 @@
-// Refusals: a case for each reason, named for what it says (document 01, "Who can cause a refusal"; document 02, request 2).
+// Refusals: a case for each reason, named for what it says (document 01, "Who can cause a refusal"; document 02, requests 2 and 3).
 ghost use mathlib.Core.Path.{_≡_};
 ghost use Rattle.refusal.specs.Refusals.{outcomeOf};
 ghost use Rattle.refusal.specs.Replies.{replyOutcome};
@@ -17,6 +17,7 @@ pub enum Refusal {
     ActionAtEntryOrExit { byte: usize },
     MixedActions { byte: usize },
     WrongEdge { byte: usize },
+    TooManyVertices { vertices: usize },
     // The routine's programmer.
     WritesInArgument { vertex: usize, array: usize },
     AmbiguousReference { vertex: usize, array: usize },
@@ -112,6 +113,11 @@ pub fn outcome_of(r: Refusal) -> Outcome
         Refusal::WrongEdge { byte } => Outcome {
             number: 16,
             first: byte as u64,
+            second: 0,
+        },
+        Refusal::TooManyVertices { vertices } => Outcome {
+            number: 22,
+            first: vertices as u64,
             second: 0,
         },
         Refusal::WritesInArgument { vertex, array } => Outcome {

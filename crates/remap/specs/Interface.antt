@@ -4,8 +4,12 @@ use mathlib.Core.Path.{_≡_}
 use mathlib.Core.List.{List}
 use Prim.Native.Nat.{ℕ}
 use lib.ListN.{length}
+use Rattle.calls.specs.Checks.{check22}
+use Rattle.calls.specs.Expanded.{routineOf}
+use Rattle.calls.specs.Referring.{referring}
 use Rattle.labels.specs.Demand.{Demand2}
 use Rattle.planned.specs.Calls.{planOf, planOutcome, planInto}
+use Rattle.refusal.specs.Checks.{_andThen_}
 use Rattle.refusal.specs.declared.Outcome.{Outcome}
 use Rattle.refusal.specs.declared.Verdict.the-variants.{Passed}
 use Rattle.routine.specs.Reader.{readCheck}
@@ -15,7 +19,7 @@ use Rattle.run.specs.Calls.{runOf, runOutcome, runInto, DemandMet}
 pub record PlannedC (file before : List ℕ) (outcome : Outcome) (after : List ℕ) : Type 0 where
   pub answer : outcome ≡ planOutcome file (length before)
   pub buffer : after ≡ planInto (planOf file (length before)) file before
-  pub demand : readCheck file ≡ Passed → Demand2 file
+  pub demand : (readCheck file andThen check22 file) ≡ Passed → Demand2 (routineOf file) (referring file)
 
 -- what hpf_run answers and leaves
 pub record RanC (file path before : List ℕ) (outcome : Outcome) (after : List ℕ) : Type 0 where

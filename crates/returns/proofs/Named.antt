@@ -1,177 +1,51 @@
--- Along a path through the expanded routine the source names, on the way to each vertex, a version that some path of the file brings there;
--- so where a path arrives at a call, it names the version to which the call remaps the array back.
+-- Where a path through the expanded routine arrives at a call, the source names the version to which the call remaps the array back.
 -- Assumes nothing.
-use mathlib.Core.Path.{_≡_, refl, sym, ap, subst, _∙_}
-use mathlib.Core.Bool.{Bool, true, false, cond}
+use mathlib.Core.Path.{_≡_, ap, subst, _∙_}
+use mathlib.Core.Bool.{true}
 use mathlib.Core.List.{List, [], _∷_}
-use mathlib.Core.Option.{Option, some}
-use Prim.Native.Nat.{ℕ, zero, suc, _+_, _<_}
-use native.Mathlib.Decide.{decLt}
+use mathlib.Core.Option.{some}
+use Prim.Native.Nat.{ℕ, zero, suc, _<_}
 use native.Mathlib.Omega.{arith}
-use Rattle.flow.specs.Paths.{Edge}
-use Rattle.labels.proofs.Rules.Brought.{namedAfter, last-after, last-entry, brings-first, brings-next}
-use Rattle.labels.proofs.Rules.Proper.{ends-within}
-use Rattle.labels.specs.Ambiguity.{Brings}
+use Rattle.labels.proofs.Rules.Arrivals.{arrives-append}
 use Rattle.labels.specs.Checks.{check21}
-use Rattle.labels.specs.Events.{edgeBytes, event, isLabel, version}
-use Rattle.labels.specs.Reaching.{lastVersion}
+use Rattle.labels.specs.Reaching.{ArrivesBy}
 use Rattle.path.proofs.Paths.{Walk}
 use Rattle.path.specs.Paths.{steps, vertexAt}
 use Rattle.refusal.specs.declared.Verdict.the-variants.{Passed}
-use Rattle.routine.specs.Actions.{actionOf, actionByte}
-use Rattle.routine.specs.Arrays.{initial}
-use Rattle.routine.specs.Layout.{arrays, vertices, entry}
+use Rattle.routine.specs.Layout.{arrays, vertices}
 use Rattle.routine.specs.Reader.{WellFormed}
-use Rattle.routine.specs.declared.action.Action.{Action}
-use Rattle.routine.specs.declared.action.Action.the-variants.{Nothing, Remap}
-use Rattle.routine.specs.declared.array.ArrayRecord.{ArrayRecord}
-use Rattle.words.proofs.Tests.{by-test}
 use Rattle.words.specs.Tables.{table, rows}
-use Rattle.calls.specs.Calls.{intentByte, passes, isCallRow}
-use Rattle.calls.specs.Expands.{Joins, enters, leaves, between}
+use Rattle.calls.specs.Calls.{passes, isCallRow}
 use Rattle.calls.specs.Expanded.{expanded}
 use Rattle.calls.specs.Interfaces.{Expandable}
-use Rattle.calls.specs.Parts.{Part, plain, passing, calling, returning, beyond, partAt, firstOf}
+use Rattle.calls.specs.Parts.{Part, firstOf}
 use Rattle.calls.specs.Referring.{referring, returnVersion}
-use Rattle.calls.proofs.Actions.{intent-refers}
-use Rattle.calls.proofs.Arriving.{pass-call, return-brought, return-only}
-use Rattle.calls.proofs.Bytes.{array-is}
-use Rattle.calls.proofs.Edges.{edges-exact}
-use Rattle.calls.proofs.Events.{plain-event, three-vertices, call-inner}
-use Rattle.calls.proofs.Parts.{first-last, call-last, plain-last, first-rises, plain-at, passing-at, calling-at, returning-at}
-use Rattle.calls.proofs.Referring.{same-array, same-edges, call-refers, row-refers}
-
--- a reference names what was named before
-intent-names : (b : Bool) (c k : ℕ) → namedAfter (cond b (actionOf (intentByte c)) Nothing) k ≡ k
-intent-names true c k = ap (λ (x : Action). namedAfter x k) (intent-refers c .1)
-intent-names false c k = refl
+use Rattle.calls.proofs.Arriving.{pass-call, return-only}
+use Rattle.calls.proofs.Carried.{Carries, named, arrived}
+use Rattle.calls.proofs.Events.{call-inner}
+use Rattle.calls.proofs.Parts.{passing-at}
 
 module _ (file : List ℕ) (can : Expandable file) {a : ℕ} (in-a : a < arrays file) where
   w : WellFormed file
   w = can .well
 
-  -- some path of the file brings k to v
-  abbrev Comes : ℕ → ℕ → Type 0
-  Comes v k = Brings (referring file) a v k
-
-  -- inside a call that does not pass the array, k; else any version
-  record Inside (v k : ℕ) : Type 0 where
-    came : ℕ
-    comes : Comes v came
-    kept : passes file a v ≡ false → came ≡ k
-
-  -- what the source names on the way to a vertex of the expanded routine
-  abbrev Carries : Part → ℕ → Type 0
-  Carries (plain v) k = Comes v k
-  Carries (passing v) k = Comes v k
-  Carries (calling v) k = Inside v k
-  Carries (returning v) k = Inside v k
-  Carries beyond k = ⊥
-
-  -- ---- an edge of the file
-
-  module _ {v u : ℕ} (e : Edge (edgeBytes file) v u) where
-    from-below : v < vertices file
-    from-below = omega (arith, e .leaves, ends-within file w .froms (e .place) (e .listed))
-
-    to-below : u < vertices file
-    to-below = omega (arith, e .enters, ends-within file w .tos (e .place) (e .listed))
-
-    refers-edge : Edge (edgeBytes (referring file)) v u
-    refers-edge = subst (λ (es : List ℕ). Edge es v u) (sym (same-edges file (w .laid))) e
-
-    -- at the first vertex of u
-    arrives : {k : ℕ} → Comes u k → Carries (partAt file (firstOf file u)) k
-    arrives {k} c = by-test (isCallRow file u)
-        (λ call. subst (λ (p : Part). Carries p k) (sym (passing-at file to-below call)) c)
-        (λ row. subst (λ (p : Part). Carries p k) (sym (plain-at file to-below row)) c)
-
-    -- past a vertex that is no call
-    past-plain : {k : ℕ} → isCallRow file v ≡ false → Comes v k → Comes u (namedAfter (event (expanded file) a (firstOf file v)) k)
-    past-plain {k} row c =
-        subst (λ (x : Action). Comes u (namedAfter x k)) (row-refers file w in-a from-below row ∙ sym (plain-event file w in-a from-below row))
-        (brings-next (referring file) a c refers-edge)
-
-    -- past a call
-    past-call : {k : ℕ} → isCallRow file v ≡ true → Inside v k → Comes u (namedAfter (event (expanded file) a (firstOf file v + 2)) k)
-    past-call {k} call i =
-        subst (λ (x : Action). Comes u (namedAfter x k)) (sym (three-vertices file w in-a from-below (can .interfaces) call .third))
-        (go (passes file a v) refl)
-      where
-        -- the call is no label of the file
-        on : {j : ℕ} → Comes v j → Comes u j
-        on {j} c = subst (Comes u) (ap (λ (x : Action). namedAfter x j) (call-refers file w in-a from-below (can .interfaces) call) ∙ intent-names (passes file a v) (actionByte file a v) j)
-            (brings-next (referring file) a c refers-edge)
-
-        go : (b : Bool) → passes file a v ≡ b → Comes u (namedAfter (cond b (Remap (returnVersion file a v)) Nothing) k)
-        go true p = on (return-brought file w (can .interfaces) in-a v from-below p (i .comes))
-        go false p = on (subst (Comes v) (i .kept p) (i .comes))
-
-  -- ---- an edge of the expanded routine
-
-  carried : {x y : ℕ} (k : ℕ) → Joins file x y → Carries (partAt file x) k → Carries (partAt file y) (namedAfter (event (expanded file) a x) k)
-  carried k (enters {v} in-v call) h =
-      let c = subst (λ (p : Part). Carries p k) (passing-at file in-v call) h in
-      subst (λ (p : Part). Carries p (namedAfter (event (expanded file) a (firstOf file v)) k)) (sym (calling-at file in-v call))
-      (record {
-        came = k;
-        comes = c;
-        kept = λ n. let e = three-vertices file w in-a in-v (can .interfaces) call .first in sym (ap (λ (x : Action). namedAfter x k) (rw n at e));
-      })
-  carried k (leaves {v} in-v call) h =
-      let i = subst (λ (p : Part). Carries p k) (calling-at file in-v call) h in
-      let same : namedAfter (event (expanded file) a (firstOf file v + 1)) k ≡ k =
-      ap (λ (x : Action). namedAfter x k) (three-vertices file w in-a in-v (can .interfaces) call .second) ∙ intent-names (passes file a v) (actionByte file a v) k in
-      subst (λ (p : Part). Carries p (namedAfter (event (expanded file) a (firstOf file v + 1)) k)) (sym (returning-at file in-v call))
-      (subst (Inside v) (sym same) i)
-  carried k (between {v} {u} e) h = arrives e (by-test (isCallRow file v)
-      (λ call.
-      let last = call-last file v call in
-      subst (λ (x : ℕ). Comes u (namedAfter (event (expanded file) a x) k)) (sym last) (past-call e call (subst (λ (p : Part). Carries p k) (ap (partAt file) last ∙ returning-at file (from-below e) call) h)))
-      (λ row.
-      let last = plain-last file v row in
-      subst (λ (x : ℕ). Comes u (namedAfter (event (expanded file) a x) k)) (sym last) (past-plain e row (subst (λ (p : Part). Carries p k) (ap (partAt file) last ∙ plain-at file (from-below e) row) h))))
-
-  -- from the entry
-  first-entry : (v : ℕ) → firstOf file v ≡ 0 → v ≡ 0
-  first-entry v e = elim (decLt 0 v) [ yes l ↦ absurd (omega (arith, first-rises file v 0 l)) | no f ↦ omega arith ]
-
-  carried-first : {x y : ℕ} → x ≡ 0 → Joins file x y → Carries (partAt file y) (initial (expanded file) a)
-  carried-first z (enters in-v call) = absurd (omega (arith, call-inner file w in-v call))
-  carried-first z (leaves in-v call) = absurd (omega (arith, z))
-  carried-first z (between {v} {u} e) =
-      let at-entry : v ≡ entry = first-entry v (omega (arith, z, first-last file v)) in
-      let same : initial (referring file) a ≡ initial (expanded file) a = ap (λ (r : ArrayRecord). r .initial) (same-array file (w .laid) a in-a ∙ sym (array-is file (w .laid) a in-a)) in
-      arrives e (subst (Comes u) same (brings-first (referring file) a (subst (λ (x : ℕ). Edge (edgeBytes (referring file)) x u) at-entry (refers-edge e))))
-
-  -- ---- a path
-
   module _ {path : List ℕ} (walk : Walk (expanded file) path) where
-    -- the version named before the vertex at index i
-    abbrev named : ℕ → Option ℕ
-    named i = lastVersion (isLabel (expanded file) a) (version (expanded file) a) (table (vertexAt path) i)
-
-    along : (i : ℕ) → suc i < steps path → (k : ℕ) × (named (suc i) ≡ some k) × Carries (partAt file (vertexAt path (suc i))) k
+    -- the vertices before the one at index i lead there
+    leads : (i : ℕ) → i < steps path → ArrivesBy (expanded file) (table (vertexAt path) i) (vertexAt path i)
     unfolding rows
-    along zero h = (
-      initial (expanded file) a,
-      ap (λ (x : ℕ). lastVersion (isLabel (expanded file) a) (version (expanded file) a) (x ∷ [])) (walk .begins) ∙ last-entry (expanded file) a,
-      carried-first (walk .begins) (edges-exact file w (vertexAt path 0) (vertexAt path 1) .0 (walk .joined 0 h)),
-    )
-    along (suc i) h =
-        let before = along i (omega arith) in
-        let k = before .0 in (
-          namedAfter (event (expanded file) a (vertexAt path (suc i))) k,
-          last-after (expanded file) a (table (vertexAt path) (suc i)) (vertexAt path (suc i)) (before .1),
-          carried k (edges-exact file w (vertexAt path (suc i)) (vertexAt path (suc (suc i))) .0 (walk .joined (suc i) h)) (before .2),
-        )
+    leads zero h = walk .begins
+    leads (suc i) h = arrives-append (expanded file) (table (vertexAt path) i) (vertexAt path i) [] (vertexAt path (suc i)) (leads i (omega arith)) (walk .joined i h)
 
     pub names-return : check21 (referring file) ≡ Passed → (i v : ℕ) → i < steps path → v < vertices file → vertexAt path i ≡ firstOf file v → passes file a v ≡ true
-        → named i ≡ some (returnVersion file a v)
-    names-return sure zero v h in-v e passed =
-        absurd (omega (arith, call-inner file w in-v (pass-call file w (can .interfaces) in-a v in-v passed), walk .begins))
-    names-return sure (suc i) v h in-v e passed =
-        let call = pass-call file w (can .interfaces) in-a v in-v passed in
-        let before = along i h in
-        let comes = subst (λ (p : Part). Carries p (before .0)) (ap (partAt file) e ∙ passing-at file in-v call) (before .2) in
-        before .1 ∙ ap some (return-only file w (can .interfaces) in-a v in-v passed sure comes)
+        → named file can in-a (table (vertexAt path) i) ≡ some (returnVersion file a v)
+    names-return sure i v h in-v at passed = go (table (vertexAt path) i) (subst (ArrivesBy (expanded file) (table (vertexAt path) i)) at (leads i h))
+      where
+        call : isCallRow file v ≡ true
+        call = pass-call file w (can .interfaces) in-a v in-v passed
+
+        go : (before : List ℕ) → ArrivesBy (expanded file) before (firstOf file v) → named file can in-a before ≡ some (returnVersion file a v)
+        go [] p = absurd (omega (arith, p, call-inner file w in-v call))
+        go (u ∷ us) p =
+            let r = arrived file can in-a u us (firstOf file v) p in
+            let comes = subst (λ (q : Part). Carries file can in-a q (r .0)) (passing-at file in-v call) (r .2) in
+            r .1 ∙ ap some (return-only file w (can .interfaces) in-a v in-v passed sure comes)

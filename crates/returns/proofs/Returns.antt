@@ -4,7 +4,8 @@ use mathlib.Core.Path.{_≡_, refl, sym, _∙_}
 use mathlib.Core.Bool.{Bool, true, false, true≢false}
 use mathlib.Core.List.{List}
 use Prim.Native.Nat.{ℕ}
-use Rattle.calls.proofs.Calls.{routine-formed, routine-unwritten, some-call}
+use Rattle.calls.proofs.Calls.{routine-formed, routine-unwritten}
+use Rattle.calls.proofs.Checks.{none-passed}
 use Rattle.calls.proofs.Formed.{expanded-formed}
 use Rattle.calls.specs.Calls.{hasCalls}
 use Rattle.calls.specs.Expanded.{routineOf}
@@ -31,4 +32,4 @@ module _ (file : List ℕ) (can : Expandable file) {path : List ℕ} (accepted :
       go true e = record {
         named = λ i a v h in-a in-v at passed. rw e (names-return file can in-a (walk (expanded-formed file can) (rw e at accepted)) sure i v h in-v at passed);
       }
-      go false e = record { named = λ i a v h in-a in-v at passed. absurd (true≢false (sym (some-call file can in-a in-v passed) ∙ e)) }
+      go false e = record { named = λ i a v h in-a in-v at passed. absurd (true≢false (sym passed ∙ none-passed file e in-a in-v)) }

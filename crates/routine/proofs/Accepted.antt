@@ -1,24 +1,19 @@
 -- An accepted file is well formed and laid out, and the answer is its own header; a file that passes the checks is accepted.
 -- Assumes nothing.
-use mathlib.Core.Path.{_≡_, refl, sym, ap, _∙_}
+use mathlib.Core.Path.{_≡_, refl}
 use mathlib.Core.List.{List}
-use Prim.Native.Nat.{ℕ}
+use Prim.Native.Nat.{ℕ, _≤_}
 use Rattle.routine.specs.declared.header.Header.{Header}
-use Rattle.routine.specs.declared.reader.Answer.{Answer}
 use Rattle.routine.specs.declared.reader.Answer.the-variants.{Routine, Refused}
 use Rattle.refusal.specs.declared.Refusal.{Refusal}
-use Rattle.refusal.specs.declared.Reply.{Reply}
-use Rattle.refusal.specs.declared.Reply.the-variants.{Denied}
 use Rattle.refusal.specs.declared.Verdict.{Verdict}
 use Rattle.refusal.specs.declared.Verdict.the-variants.{Passed, Failed}
 use Rattle.routine.specs.Actions.{actionCheck, rowCheck, actionsCheck}
 use Rattle.routine.specs.Arrays.{arrayCheck, check14}
-use Rattle.refusal.specs.Checks.{_andThen_}
 use Rattle.routine.specs.Edges.{edgeCheck, check16}
 use Rattle.routine.specs.Layout.{arrays, vertices, edges, headerOf}
-use Rattle.refusal.specs.Replies.{written, filledBy}
-use Rattle.routine.specs.Reader.{Laid, formCheck, bodyCheck, readCheck, answered, readOf, deniedOf, WellFormed, ChecksPassed, Heads}
-use Rattle.routine.proofs.Form.{laid, heads}
+use Rattle.routine.specs.Reader.{Laid, formCheck, bodyCheck, readCheck, answered, readOf, WellFormed, ChecksPassed, Heads}
+use Rattle.routine.proofs.Form.{few-edges, laid, heads}
 use Rattle.routine.proofs.WellFormed.{well-formed}
 use Rattle.refusal.proofs.Checks.{parts, each-passed, all-passed}
 
@@ -44,14 +39,33 @@ passed-bodies file w =
 
 -- ---- the reader's answer
 
-answered-passed : (v : Verdict) (h g : Header) → answered v h ≡ Routine g → (v ≡ Passed) × (g ≡ h)
+pub answered-passed : (v : Verdict) (h g : Header) → answered v h ≡ Routine g → (v ≡ Passed) × (g ≡ h)
 answered-passed Passed h g e = (refl, cc)
 answered-passed (Failed r) h g e = (cc, cc)
 
+pub answered-failed : (v : Verdict) (h : Header) {r : Refusal} → answered v h ≡ Refused r → v ≡ Failed r
+answered-failed Passed h e = cc
+answered-failed (Failed s) h e = cc
+
+pub read-passed : (file : List ℕ) {h : Header} → readOf file ≡ Routine h → readCheck file ≡ Passed
+unfolding readOf
+read-passed file {h} e = answered-passed (readCheck file) (headerOf file) h e .0
+
+pub read-failed : (file : List ℕ) {r : Refusal} → readOf file ≡ Refused r → readCheck file ≡ Failed r
+unfolding readOf
+read-failed file e = answered-failed (readCheck file) (headerOf file) e
+
 -- a file that passes 10 to 19
-pub passed-read : (file : List ℕ) → readCheck file ≡ Passed → WellFormed file
+pub passed-checks : (file : List ℕ) → readCheck file ≡ Passed → ChecksPassed file
 unfolding readCheck
-passed-read file e = well-formed (bodies-passed file (laid file (search parts)) (search parts))
+passed-checks file e = bodies-passed file (laid file (search parts)) (search parts)
+
+pub passed-read : (file : List ℕ) → readCheck file ≡ Passed → WellFormed file
+passed-read file e = well-formed (passed-checks file e)
+
+pub passed-edges : (file : List ℕ) → readCheck file ≡ Passed → edges file ≤ 1024
+unfolding readCheck formCheck
+passed-edges file e = few-edges file (search parts)
 
 pub accepted : (file : List ℕ) {h : Header} → readOf file ≡ Routine h → WellFormed file × Heads h file × (h ≡ headerOf file)
 unfolding readOf
@@ -63,22 +77,3 @@ accepted file {h} e =
 pub accepts : (file : List ℕ) → formCheck file ≡ Passed → ChecksPassed file → readOf file ≡ Routine (headerOf file)
 unfolding readOf readCheck
 accepts file f w = rw (f, passed-bodies file w)
-
--- ---- a call that reads the file first, then checks the rest
-
-module _ (file : List ℕ) {a : Answer} (is : a ≡ readOf file) (rest : Verdict) (n : ℕ) where
-  pub refused-way : {r : Refusal} → a ≡ Refused r → deniedOf a ≡ written (readCheck file andThen rest) n
-  unfolding readOf
-  refused-way {r} e = ap deniedOf e ∙ go (readCheck file) (sym is ∙ e)
-    where
-      go : (v : Verdict) → answered v (headerOf file) ≡ Refused r → Denied r ≡ written (v andThen rest) n
-      go Passed e = cc
-      go (Failed s) e = cc
-
-  pub read-way : {h : Header} → a ≡ Routine h → written rest n ≡ written (readCheck file andThen rest) n
-  unfolding readOf
-  read-way {h} e = rw (answered-passed (readCheck file) (headerOf file) h (sym is ∙ e) .0)
-
--- ---- a refusal handed on leaves the buffer as it was
-pub unwritten : {reply : Reply} {a : Answer} {r : Refusal} (bytes before : List ℕ) → reply ≡ deniedOf a → a ≡ Refused r → before ≡ filledBy reply bytes before
-unwritten bytes before e f = rw (e, f)

@@ -20,11 +20,14 @@ module _ (file : List ℕ) where
   unfolding check10
   long-enough e = search parts
 
+  pub few-edges : check12 file ≡ Passed → edges file ≤ 1024
+  unfolding check12
+  few-edges e = search parts
+
   pub in-limits : check12 file ≡ Passed → Limits (headerOf file)
   unfolding check12
   in-limits e =
-      let few : edges file ≤ 1024 = search parts in
-      record { some-array = search parts; few-arrays = search parts; two-vertices = search parts; few-vertices = search parts; few-edges = omega (arith, few) }
+      record { some-array = search parts; few-arrays = search parts; two-vertices = search parts; few-vertices = search parts; few-edges = omega (arith, few-edges e) }
 
   ends-there : check13 file ≡ Passed → length file ≡ endAt file
   unfolding check13

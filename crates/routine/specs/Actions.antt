@@ -1,8 +1,8 @@
--- Document 01, "Routine file": vertices, one action byte for each array.
+-- Document 01, "Routine file": vertices, one action byte for each array; with the calls of document 02, request 3.
 -- Assumes nothing.
 use mathlib.Core.Bool.{Bool, true, false, not, _&&_, _||_, cond}
 use mathlib.Core.List.{List}
-use Prim.Native.Nat.{ℕ, _+_, _-_}
+use Prim.Native.Nat.{ℕ, _+_, _-_, _%_}
 use lib.Dec.{eqb, ltb}
 use lib.ListN.{getD}
 use Rattle.routine.specs.declared.action.Access.the-variants.{Read, Define, Modify}
@@ -12,7 +12,7 @@ use Rattle.refusal.specs.declared.Refusal.the-variants.{UnknownAction, VersionT
 use Rattle.refusal.specs.declared.Verdict.{Verdict}
 use Rattle.routine.specs.Arrays.{arrayOf}
 use Rattle.refusal.specs.Checks.{_andThen_, holds, firstFailed}
-use Rattle.routine.specs.Layout.{arrays, vertices, entry, exit, actionAt}
+use Rattle.routine.specs.Layout.{arrays, vertices, entry, exit, actionAt, within}
 use Rattle.sets.specs.Sets.{width}
 use Rattle.words.specs.Sums.{anyBelow}
 
@@ -26,6 +26,18 @@ actionOf b =
     (cond (ltb b 0x40) Unknown
     (cond (ltb b (0x40 + width)) (Remap (b - 0x40))
     Unknown)))))
+
+-- ---- document 02, request 3: 60+k passes the array in version k with intent in, A0+k out, C0+k inout, k below 32
+
+-- a call's byte; to document 01 it is unknown
+abbrev pub isCall : ℕ → Bool
+isCall b = within 0x60 0x7f b || within 0xa0 0xdf b
+
+-- the version k in which it passes the array
+abbrev pub calledVersion : ℕ → ℕ
+calledVersion b = b % 32
+
+-- ---- a byte of the file, and what it does
 
 -- the byte of array a at vertex v
 abbrev pub actionByte : List ℕ → ℕ → ℕ → ℕ
@@ -68,33 +80,45 @@ remapsBelow Unknown n = true
 abbrev pub isEntryOrExit : List ℕ → ℕ → Bool
 isEntryOrExit file v = eqb v entry || eqb v (exit file)
 
--- a vertex has references or remappings, never both: a reference beside remappings, or a remapping beside references
-abbrev pub isMixed : Action → Bool → Bool → Bool
-isMixed x references remaps = isReference x && remaps || isRemap x && references
+-- one of document 01's actions, or a call
+abbrev pub isKnownByte : ℕ → Bool
+isKnownByte b = isKnown (actionOf b) || isCall b
 
--- ---- the faults of the byte of array a at vertex v, each with its number (document 02, request 2)
+-- the version of a remapping, or that in which a call passes the array, is below the array's number of versions
+abbrev pub namesBelow : ℕ → ℕ → Bool
+namesBelow b n = cond (isCall b) (ltb (calledVersion b) n) (remapsBelow (actionOf b) n)
+
+-- a byte's family: 1 a reference, 2 a remapping, 3 a call; 0 none of them
+abbrev pub familyOf : ℕ → ℕ
+familyOf b = cond (isReference (actionOf b)) 1 (cond (isRemap (actionOf b)) 2 (cond (isCall b) 3 0))
+
+-- two families that differ
+abbrev pub differ : ℕ → ℕ → Bool
+differ f g = not (eqb f 0) && (not (eqb g 0) && not (eqb g f))
+
+-- ---- the faults of the byte of array a at vertex v, each with its number (document 02, requests 2 and 3)
 
 -- 15: an unknown action
 abbrev pub isUnknown : List ℕ → ℕ → ℕ → Bool
-isUnknown file a v = not (isKnown (action file a v))
+isUnknown file a v = not (isKnownByte (actionByte file a v))
 
 -- 17: a version not below the array's count
 abbrev pub isTooLarge : List ℕ → ℕ → ℕ → Bool
-isTooLarge file a v = not (remapsBelow (action file a v) (arrayOf file a .versions))
+isTooLarge file a v = not (namesBelow (actionByte file a v) (arrayOf file a .versions))
 
 -- 18: a non-zero byte in the entry or exit row
 abbrev pub isAtEntryOrExit : List ℕ → ℕ → ℕ → Bool
 isAtEntryOrExit file a v = isEntryOrExit file v && not (eqb (actionByte file a v) 0)
 
--- 19: a reference and a remapping in one row, at the later byte
+-- 19: two of references, remappings and calls in one row, at the first byte whose family differs from an earlier one's
 abbrev pub isMixedInRow : List ℕ → ℕ → ℕ → Bool
-isMixedInRow file a v = anyBelow (λ b. isMixed (action file a v) (isReference (action file b v)) (isRemap (action file b v))) a
+isMixedInRow file a v = anyBelow (λ b. differ (familyOf (actionByte file a v)) (familyOf (actionByte file b v))) a
 
 -- ---- checks 15, 17, 18 and 19, byte by byte
 
 -- of the faults that meet in a byte the lowest number
 unfoldable pub actionCheck : List ℕ → ℕ → ℕ → Verdict
-unfolding action arrayOf anyBelow
+unfolding actionOf arrayOf anyBelow
 actionCheck file a v =
     holds (not (isUnknown file a v)) (UnknownAction (actionAt file a v))
     andThen holds (not (isTooLarge file a v)) (VersionTooLarge (actionAt file a v))

@@ -1,5 +1,5 @@
--- Document 02, request 2, one claim about a whole file: the action byte refused is the one that document 01 refused as 15, and the number is
--- the lowest of the faults that meet in it.
+-- Document 02, request 2, one claim about a whole file: the action byte refused is the first that document 01's test of 15, with the calls of
+-- request 3, finds at fault, and the number is the lowest of the faults that meet in it.
 -- Assumes nothing.
 use mathlib.Core.Path.{_≡_}
 use mathlib.Core.Bool.{Bool, _||_, cond}
@@ -15,7 +15,8 @@ use Rattle.refusal.specs.Refusals.{refused, outcomeOf}
 use Rattle.routine.specs.Actions.{isUnknown, isTooLarge, isAtEntryOrExit, isMixedInRow, actionsCheck}
 use Rattle.routine.specs.Layout.{arrays, vertices, actionAt}
 
--- document 01's test of 15: unknown, version too large, entry or exit row not zero, or kind mixed with an earlier one in its row
+-- document 01's test of 15, with calls: unknown, version too large, entry or exit row not zero, or family other than an earlier one's in its
+-- row
 abbrev pub isFaulty : List ℕ → ℕ → ℕ → Bool
 isFaulty file a v = isUnknown file a v || (isTooLarge file a v || (isAtEntryOrExit file a v || isMixedInRow file a v))
 
@@ -43,7 +44,7 @@ pub record NamesLowest (file : List ℕ) (a v : ℕ) (r : Refusal) : Type 0 wher
 
 -- request 2
 pub record FourFaults (file : List ℕ) : Type 0 where
-  -- passed exactly if no byte is one that document 01 refused as 15
+  -- passed exactly if no byte is at fault
   pub passed : (actionsCheck file ≡ Passed) ↔ ((v a : ℕ) → v < vertices file → a < arrays file → T (isFaulty file a v) → ⊥)
   -- else the first that is, by vertex, then by array, is refused
   pub failed :

@@ -54,6 +54,14 @@ impl Header {
     {
         self.actions_at() + self.vertices * self.arrays
     }
+
+    // Where the file ends.
+    pub fn end_at(self) -> usize
+        requires { ⌜ Limits self ⌝ }
+        ensures { λ r. ⌜ r ≡ 18 + 4 * self .arrays + self .vertices * self .arrays + 4 * self .edges ⌝ }
+    {
+        self.edges_at() + Edge::SIZE * self.edges
+    }
 }
 
 // The mark, `HPFR`.
@@ -152,7 +160,8 @@ fn check_layout(file: &[u8]) -> Verdict
     if edges_offset != edges_at {
         return Verdict::Failed(Refusal::WrongOffset { byte: 14 });
     }
-    if file.len() != edges_at + Edge::SIZE * h.edges {
+    let end_at = h.end_at();
+    if file.len() != end_at {
         return Verdict::Failed(Refusal::WrongLength);
     }
     Verdict::Passed

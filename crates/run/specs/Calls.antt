@@ -5,6 +5,8 @@ use mathlib.Core.List.{List}
 use Prim.Native.Nat.{ℕ}
 use lib.Dec.{leb}
 use lib.ListN.{length}
+use Rattle.calls.specs.Checks.{callsCheck}
+use Rattle.calls.specs.Expanded.{routineOf}
 use Rattle.labels.specs.Checks.{programmerCheck}
 use Rattle.refusal.specs.Checks.{_andThen_, holds}
 use Rattle.routine.specs.Reader.{readCheck}
@@ -16,40 +18,33 @@ use Rattle.refusal.specs.declared.Reply.the-variants.{Written, Denied}
 use Rattle.refusal.specs.declared.Verdict.{Verdict}
 use Rattle.demand.specs.Demand.{Demand3}
 use Rattle.path.specs.Paths.{pathCheck}
+use Rattle.returns.specs.Returns.{ReturnsNamed}
 use Rattle.walk.specs.Report.{reportBytes, reportLength}
 
--- of a routine that was read: 20, 21, 30 to 32, then 2 where a buffer of `size` bytes is too short
-unfoldable pub runnerCheck : List ℕ → List ℕ → ℕ → Verdict
-unfolding programmerCheck pathCheck reportLength
-runnerCheck file path size =
-    programmerCheck file
-    andThen pathCheck file path
-    andThen holds (leb (reportLength file path) size) (ShortReportBuffer (reportLength file path))
+-- ---- the call; of a file with calls, the routine that it expands to is run
 
--- checks run 10 to 19, 20, 21, for a run 30 to 32, then 2
+-- checks run 10 to 19, then 22, 20, 21, for a run 30 to 32, then 2 where a buffer of `size` bytes is too short
 unfoldable pub runCheck : List ℕ → List ℕ → ℕ → Verdict
-unfolding readCheck runnerCheck
-runCheck file path size = readCheck file andThen runnerCheck file path size
+unfolding readCheck callsCheck routineOf pathCheck reportLength
+runCheck file path size =
+    readCheck file
+    andThen callsCheck file
+    andThen pathCheck (routineOf file) path
+    andThen holds (leb (reportLength (routineOf file) path) size) (ShortReportBuffer (reportLength (routineOf file) path))
 
 -- the reply to any file and path, with a buffer of `size` bytes
 unfoldable pub runOf : List ℕ → List ℕ → ℕ → Reply
-unfolding runCheck reportLength
-runOf file path size = written (runCheck file path size) (reportLength file path)
+unfolding runCheck routineOf reportLength
+runOf file path size = written (runCheck file path size) (reportLength (routineOf file) path)
 
--- demand 3, where the run is made
+-- where the run is made, demand 3 of the routine that is run; and calls remap back to the versions that the source names before them
 abbrev pub DemandMet : Reply → List ℕ → List ℕ → Type 0
-DemandMet (Written n) file path = Demand3 file path
+DemandMet (Written n) file path = Demand3 (routineOf file) path × ReturnsNamed file path
 DemandMet (Denied r) file path = Unit {0}
 
 -- the report at the front of the buffer, or the buffer as it was
 abbrev pub runInto : Reply → List ℕ → List ℕ → List ℕ → List ℕ
-runInto reply file path before = filledBy reply (reportBytes file path) before
-
--- how the code keeps it: the same of a routine that was read
-pub record RanRead (file path before : List ℕ) (reply : Reply) (after : List ℕ) : Type 0 where
-  pub answer : reply ≡ written (runnerCheck file path (length before)) (reportLength file path)
-  pub buffer : after ≡ runInto reply file path before
-  pub demand : DemandMet reply file path
+runInto reply file path before = filledBy reply (reportBytes (routineOf file) path) before
 
 -- its number and places
 abbrev pub runOutcome : List ℕ → List ℕ → ℕ → Outcome
@@ -61,3 +56,18 @@ pub record Ran (file path before : List ℕ) (reply : Reply) (after : List ℕ) 
   pub outcome : replyOutcome reply ≡ runOutcome file path (length before)
   pub buffer : after ≡ runInto reply file path before
   pub demand : DemandMet reply file path
+
+-- ---- how the code keeps it: of a routine of document 01
+
+-- 20, 21, 30 to 32, then 2
+unfoldable pub runnerCheck : List ℕ → List ℕ → ℕ → Verdict
+unfolding programmerCheck pathCheck reportLength
+runnerCheck routine path size =
+    programmerCheck routine
+    andThen pathCheck routine path
+    andThen holds (leb (reportLength routine path) size) (ShortReportBuffer (reportLength routine path))
+
+-- the reply and the buffer
+pub record RanRead (routine path before : List ℕ) (reply : Reply) (after : List ℕ) : Type 0 where
+  pub answer : reply ≡ written (runnerCheck routine path (length before)) (reportLength routine path)
+  pub buffer : after ≡ filledBy reply (reportBytes routine path) before

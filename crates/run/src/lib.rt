@@ -1,4 +1,5 @@
 // The call `run` of document 01: a path through a routine, checked and run, and its report.
+use calls::scan;
 use passes::tables;
 use refusal::Refusal;
 use refusal::Reply;
@@ -10,6 +11,7 @@ use sets::Set;
 ghost use mathlib.Core.Path.{_≡_};
 ghost use Prim.Native.Nat.{_*_};
 ghost use lib.ListN.{length};
+ghost use Rattle.calls.specs.Checks.{CallsRead};
 ghost use Rattle.flow.specs.Order.{maxEdges};
 ghost use Rattle.labels.specs.Checks.{programmerCheck};
 ghost use Rattle.labels.specs.Routines.{ReadAs};
@@ -157,6 +159,29 @@ fn run_read(file: &[u8], h: Header, path: &[u8], out: &mut [u8]) -> Reply
     )
 }
 
+// Runs a path through the routine that a file with calls expands to, which `work` is for.
+fn run_expanded(file: &[u8], h: Header, path: &[u8], out: &mut [u8], work: &mut [u8]) -> Reply
+    requires { ⌜ CallsRead (now file) h ⌝ }
+    requires { ⌜ length (now work) ≡ 6866 ⌝ }
+    ensures { λ r. ⌜ Ran (now (file .entry)) (now (path .entry)) (now (out .entry)) r (now (out .exit)) ⌝ }
+{
+    let answer = expansion::expand(file, h, work);
+    let Answer::Routine(e) = answer else {
+        return reader::denied(answer);
+    };
+    let n = e.end_at();
+    run_read(&work[..n], e, path, out)
+}
+
+// The same with bytes for any expanded routine.
+fn run_calls(file: &[u8], h: Header, path: &[u8], out: &mut [u8]) -> Reply
+    requires { ⌜ CallsRead (now file) h ⌝ }
+    ensures { λ r. ⌜ Ran (now (file .entry)) (now (path .entry)) (now (out .entry)) r (now (out .exit)) ⌝ }
+{
+    let mut work = [0u8; 6866];
+    run_expanded(file, h, path, out, &mut work)
+}
+
 // Runs `path` through the routine in `file`, and writes the report into `out`.
 pub fn run(file: &[u8], path: &[u8], out: &mut [u8]) -> Reply
     ensures { λ r. ⌜ Ran (now (file .entry)) (now (path .entry)) (now (out .entry)) r (now (out .exit)) ⌝ }
@@ -165,5 +190,9 @@ pub fn run(file: &[u8], path: &[u8], out: &mut [u8]) -> Reply
     let Answer::Routine(h) = answer else {
         return reader::denied(answer);
     };
+    let calls = scan::any(file, h);
+    if calls {
+        return run_calls(file, h, path, out);
+    }
     run_read(file, h, path, out)
 }

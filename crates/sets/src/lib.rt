@@ -2,8 +2,8 @@
 //
 // The laws of masks are stated once for any width, in `proofs/Laws.antt`; the functions here are those laws at the width of a set.
 ghost use mathlib.Core.Path.{_≡_};
-ghost use mathlib.Core.Bool.{true};
 ghost use Prim.Native.Nat.{_<_, _^_};
+ghost use lib.Count.{trailingZeros};
 ghost use Rattle.sets.specs.Sets.{width, has, minus, several};
 
 // A version set.
@@ -45,11 +45,10 @@ pub fn more_than_one(set: Set) -> bool
     u16::count_ones(set) > 1
 }
 
-// A version of the set.
-pub fn one_of(set: Set) -> u8
+// The lowest version of the set.
+pub fn lowest(set: Set) -> u8
     requires { ⌜ 0 < set ⌝ }
-    ensures { λ r. ⌜ r < width ⌝ }
-    ensures { λ r. ⌜ has set r ≡ true ⌝ }
+    ensures { λ r. ⌜ r ≡ trailingZeros width set ⌝ }
 {
     u16::trailing_zeros(set) as u8
 }

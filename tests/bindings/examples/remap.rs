@@ -1,5 +1,5 @@
 //! Plans routine P, runs case 2 (docs/CASES.md), and prints what the plan's flags and the report
-//! show.
+//! show. Then plans routine K, which has a call.
 
 use hpf_remap::{LARGEST_PLAN, Outcome};
 use std::process::ExitCode;
@@ -21,6 +21,20 @@ const ROUTINE: [u8; 62] = [
 /// Nine vertices, two bytes each.
 const PATH: [u8; 18] = [0, 0, 1, 0, 2, 0, 3, 0, 4, 0, 5, 0, 6, 0, 2, 0, 3, 0];
 
+#[rustfmt::skip]
+const WITH_CALL: [u8; 50] = [
+    b'H', b'P', b'F', b'R', 1, 0,
+    18, 0, 2, 0, // arrays: offset, count
+    26, 0, 4, 0, // vertices
+    34, 0, 4, 0, // edges
+    3, 2, 0, 0,  // an inout argument, 2 versions, initial 0
+    1, 2, 0, 0,  // an in argument, the same
+    // entry, call (inout, in; both in version 1), read both, exit
+    0x00, 0x00, 0xC1, 0x61, 0x10, 0x10, 0x00, 0x00,
+    // edges: from, to
+    0, 0, 1, 0, 1, 0, 2, 0, 2, 0, 1, 0, 2, 0, 3, 0,
+];
+
 fn word(bytes: &[u8], at: usize) -> usize {
     usize::from(u16::from_le_bytes([bytes[at], bytes[at + 1]]))
 }
@@ -39,9 +53,9 @@ fn written(call: &str, answer: Outcome, mut out: Vec<u8>) -> Result<Vec<u8>, Str
     Ok(out)
 }
 
-fn planned() -> Result<Vec<u8>, String> {
+fn planned(routine: &[u8]) -> Result<Vec<u8>, String> {
     let mut plan = vec![0; LARGEST_PLAN];
-    let answer = hpf_remap::plan(&ROUTINE, &mut plan);
+    let answer = hpf_remap::plan(routine, &mut plan);
     written("plan", answer, plan)
 }
 
@@ -90,13 +104,17 @@ fn print_report(report: &[u8]) {
     }
 }
 
+/// The call of K is three vertices of its plan: 1, 2 and 3.
+fn show() -> Result<(), String> {
+    print_plan(&planned(&ROUTINE)?);
+    print_report(&ran()?);
+    print_plan(&planned(&WITH_CALL)?);
+    Ok(())
+}
+
 fn main() -> ExitCode {
-    match planned().and_then(|plan| Ok((plan, ran()?))) {
-        Ok((plan, report)) => {
-            print_plan(&plan);
-            print_report(&report);
-            ExitCode::SUCCESS
-        }
+    match show() {
+        Ok(()) => ExitCode::SUCCESS,
         Err(words) => {
             eprintln!("{words}");
             ExitCode::FAILURE

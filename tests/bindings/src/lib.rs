@@ -24,7 +24,9 @@ pub const LONGEST_PATH: usize = 4096;
 /// What a call answers: number 0 and the length written, or a refusal and its two places.
 ///
 /// Checks run in this order, 15 and 17 to 19 together, byte by byte: of the faults that meet in the
-/// first faulty byte the lowest number is given. Elsewhere the lowest byte or index wins.
+/// first faulty byte the lowest number is given. Elsewhere the lowest byte or index wins. 20 and 21
+/// name a vertex of the routine's file; plan and path have those of the expanded routine, in which
+/// each call is three vertices.
 ///
 /// | number | why | first place |
 /// |---|---|---|
@@ -36,10 +38,11 @@ pub const LONGEST_PATH: usize = 4096;
 /// | 15 | an unknown action | its byte |
 /// | 17 | a version is not below its array's count | its byte |
 /// | 18 | the row of entry or exit has a byte that is not zero | it |
-/// | 19 | a row has references and remappings | the first byte that differs from an earlier one |
+/// | 19 | a row has two of references, remappings and calls | the first byte that differs from an earlier one |
 /// | 16 | an edge | its first byte |
-/// | 20 | an in argument is defined or modified | vertex; array |
-/// | 21 | a reference is ambiguous | vertex; array |
+/// | 22 | the expanded routine has more than 256 vertices | how many |
+/// | 20 | an in argument is defined, modified, or passed as out or inout | vertex; array |
+/// | 21 | a reference or a call is ambiguous | vertex; array |
 /// | 1 | the plan's buffer is too short | the length that is needed |
 /// | 30 | a path of no vertex, or of more than 4,096 | how many |
 /// | 31 | a path does not start at the entry | 0 |

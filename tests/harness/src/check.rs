@@ -1,8 +1,11 @@
 //! One input held against the oracle, with buffers of several lengths.
 
 use crate::library::{Form, Input, Library};
+use oracle::calls::Room;
 use oracle::demand3;
+use oracle::labels::fixpoint;
 use oracle::outcome::Outcome;
+use oracle::plan::LONGEST_PLAN;
 use oracle::routine::Routine;
 
 /// Bytes before and after a lent buffer that no call may touch.
@@ -63,6 +66,8 @@ pub struct Checked {
     pub form: Form,
     /// Whether demand 3 was judged.
     pub judged: bool,
+    /// The answer with the longest buffer.
+    pub answer: Outcome,
     /// The plan or report; empty for a refusal.
     pub written: Vec<u8>,
 }
@@ -96,6 +101,7 @@ pub fn check(library: &Library, input: &Input) -> Result<Checked, Box<Fault>> {
         numbers: Vec::new(),
         form,
         judged: false,
+        answer: Outcome::written(0),
         written: Vec::new(),
     };
     for (index, length) in lengths(&oracle, input).into_iter().enumerate() {
@@ -121,6 +127,7 @@ pub fn check(library: &Library, input: &Input) -> Result<Checked, Box<Fault>> {
         }
         checked.numbers.push(found.outcome.number);
         if index == 0 {
+            checked.answer = found.outcome;
             checked.written = found.written().to_vec();
         }
     }
@@ -139,7 +146,8 @@ fn lengths(oracle: &Library, input: &Input) -> Vec<usize> {
             let needed = first as usize;
             vec![needed + SPARE, needed, needed - 1, 0]
         }
-        _ => vec![SPARE + 12 * input.routine.len(), 0],
+        // A call's byte becomes two labels of 8 bytes, its row three of the plan's contents of 4.
+        _ => vec![SPARE + LONGEST_PLAN.min(30 * input.routine.len()), 0],
     }
 }
 
@@ -148,7 +156,11 @@ fn judge(input: &Input, expected: &Called, found: &Called) -> Option<Result<(), 
     let path = input.path.as_ref()?;
     let routine = Routine::parse(&input.routine).ok()?;
     let due = expected.outcome.number == 0 && found.outcome.number == 0;
-    due.then(|| demand3::of_report(&routine, path, found.written()))
+    due.then(|| {
+        let mut room = Room::EMPTY;
+        let routine = fixpoint::expanded(&routine, &mut room);
+        demand3::of_report(&routine, path, found.written())
+    })
 }
 
 fn difference(expected: &Called, found: &Called) -> Option<Difference> {

@@ -1,85 +1,172 @@
 //! What the drawn inputs show: a generator that draws little but trifles is found by the shares.
 
 use crate::library::Input;
+use oracle::builder::Draft;
+use oracle::calls::{self, Part, Place, Room, is_call};
+use oracle::labels::fixpoint;
 use oracle::machine;
+use oracle::outcome::Outcome;
 use oracle::routine::{Kind, Routine};
 use oracle::run::vertices;
 use std::fmt;
 
-/// A part of a whole, and the least that it must be in percent.
-struct Share {
-    name: &'static str,
+/// The shares that are counted, and the least that each must be in percent.
+const SHARES: [(&str, u64); 33] = [
+    ("plans drawn: accepted", 40),
+    ("plans drawn: with calls", 50),
+    ("plans drawn: two arrays of each kind", 10),
+    ("plans drawn: refused by 22", 1),
+    ("plans refused by 20: at a call", 20),
+    ("plans refused by 21: at a call", 20),
+    ("  an ambiguous reference behind it", 5),
+    ("plans refused by 21: at a reference", 20),
+    ("  an ambiguous call behind it", 5),
+    ("accepted plans: without calls", 15),
+    ("accepted plans: with calls", 50),
+    ("  one that no path gets to", 4),
+    ("  one in a loop", 10),
+    ("  two in a row", 10),
+    ("  one that does not pass every array", 20),
+    ("labels of accepted plans: N", 20),
+    ("labels of accepted plans: D", 4),
+    ("labels of accepted plans: R", 10),
+    ("labels of accepted plans: W", 10),
+    ("labels of accepted plans: in", 20),
+    ("runs drawn: accepted", 60),
+    ("runs drawn: two arrays of each kind", 10),
+    ("accepted runs: end at the exit", 40),
+    ("accepted runs: with a copy", 30),
+    ("accepted runs: fewer copies than remaps", 30),
+    ("accepted runs: with a record", 60),
+    ("accepted runs: without record", 1),
+    ("accepted runs: to the exit, in argument", 30),
+    ("  its last label not home", 20),
+    ("  with a copy of it", 15),
+    ("accepted runs: through a call", 40),
+    ("accepted runs: end at a call's first vertex", 3),
+    ("accepted runs: end at a call's second vertex", 3),
+];
+
+/// A part of a whole.
+#[derive(Clone, Copy, Debug, Default)]
+struct Count {
     part: u64,
     whole: u64,
-    least: u64,
-}
-
-impl Share {
-    fn is_small(&self) -> bool {
-        100 * self.part < self.least * self.whole
-    }
 }
 
 /// Counts over the drawn inputs.
-#[derive(Clone, Debug, Default)]
+#[derive(Clone, Debug)]
 pub struct Drawn {
-    plans: u64,
-    accepted_plans: u64,
-    plans_of_every_kind: u64,
-    /// N, D, R and W in accepted plans.
-    letters: [u64; 4],
-    /// Labels of in arguments in accepted plans.
-    of_in: u64,
-    runs: u64,
-    accepted_runs: u64,
-    runs_of_every_kind: u64,
-    at_exit: u64,
-    with_copy: u64,
-    /// With fewer copies than the machine that copies at every remapping.
-    with_fewer: u64,
-    without_record: u64,
-    /// To the exit, with an in argument.
-    in_to_exit: u64,
-    /// With one whose last label names another version than the caller's.
-    in_away: u64,
-    /// With one that was copied.
-    in_copied: u64,
+    counts: [Count; SHARES.len()],
+}
+
+impl Default for Drawn {
+    fn default() -> Drawn {
+        let counts = [Count::default(); SHARES.len()];
+        Drawn { counts }
+    }
 }
 
 impl Drawn {
-    /// Counts an input and the plan or report that was written, empty if it is refused.
-    pub fn count(&mut self, input: &Input, written: &[u8]) {
+    /// Counts one more of the whole of a share, and whether it belongs to the part.
+    fn one(&mut self, name: &str, in_part: bool) {
+        let index = SHARES.iter().position(|share| share.0 == name);
+        let count = &mut self.counts[index.expect("the share is counted")];
+        count.part += u64::from(in_part);
+        count.whole += 1;
+    }
+
+    /// Counts an input, what it answers with room enough, and the plan or report that was written,
+    /// empty if it is refused.
+    pub fn count(&mut self, input: &Input, answer: Outcome, written: &[u8]) {
         let routine = Routine::parse(&input.routine).ok();
         let accepted = routine.filter(|_| !written.is_empty());
+        let is_wide = accepted.is_some_and(|routine| has_two_of_each_kind(&routine));
         match &input.path {
             None => {
-                self.plans += 1;
+                self.one("plans drawn: accepted", accepted.is_some());
+                self.one("plans drawn: with calls", has_calls(&input.routine));
+                self.one("plans drawn: two arrays of each kind", is_wide);
+                self.one("plans drawn: refused by 22", answer.number == 22);
+                if let Some(routine) = routine {
+                    self.count_refusal(&routine, answer);
+                }
                 if let Some(routine) = accepted {
-                    self.count_plan(&routine, written);
+                    self.count_calls(&routine);
+                    self.count_labels(&routine, written);
                 }
             }
             Some(path) => {
-                self.runs += 1;
-                if let Some(routine) = accepted {
-                    self.count_run(&routine, path, written);
+                self.one("runs drawn: accepted", accepted.is_some());
+                self.one("runs drawn: two arrays of each kind", is_wide);
+                if let Some(file) = accepted {
+                    let mut room = Room::EMPTY;
+                    let routine = fixpoint::expanded(&file, &mut room);
+                    let path: Vec<usize> = vertices(path).collect();
+                    self.count_run(&routine, &path, written);
+                    self.count_call_steps(&places(&file), &path);
                 }
             }
         }
     }
 
-    fn count_plan(&mut self, routine: &Routine, plan: &[u8]) {
-        self.accepted_plans += 1;
-        self.plans_of_every_kind += u64::from(has_two_of_each_kind(routine));
-        for label in plan[8 + 4 * routine.vertex_count()..].chunks_exact(8) {
-            if let Some(letter) = b"NDRW".iter().position(|&letter| letter == label[1]) {
-                self.letters[letter] += 1;
+    /// Whether 20 and 21 name a call, and what else is ambiguous.
+    fn count_refusal(&mut self, file: &Routine, answer: Outcome) {
+        let is_call_at = |vertex: usize| is_call(file.row(vertex));
+        let at_call = || is_call_at(answer.first as usize);
+        match answer.number {
+            20 => self.one("plans refused by 20: at a call", at_call()),
+            21 => {
+                let others = fixpoint::ambiguous(file);
+                let other = |call| others.iter().any(|&(vertex, _)| is_call_at(vertex) == call);
+                let at_call = at_call();
+                self.one("plans refused by 21: at a call", at_call);
+                self.one("plans refused by 21: at a reference", !at_call);
+                let behind = "  an ambiguous reference behind it";
+                self.one(behind, at_call && other(false));
+                self.one("  an ambiguous call behind it", !at_call && other(true));
             }
-            let kind = routine.array(usize::from(label[0])).kind;
-            self.of_in += u64::from(kind == Kind::In);
+            _ => {}
         }
     }
 
-    fn count_run(&mut self, routine: &Routine, path: &[u8], report: &[u8]) {
+    /// The calls of an accepted routine.
+    fn count_calls(&mut self, file: &Routine) {
+        let some = |test: &dyn Fn(usize) -> bool| {
+            let mut calls = (0..file.vertex_count()).filter(|&v| is_call(file.row(v)));
+            calls.any(test)
+        };
+        let reached = reached(file, 0);
+        let has_calls = file.call_count() > 0;
+        let leads_to_call =
+            |vertex| (file.edges()).any(|(from, to)| from == vertex && is_call(file.row(to)));
+        self.one("accepted plans: without calls", !has_calls);
+        self.one("accepted plans: with calls", has_calls);
+        self.one("  one that no path gets to", some(&|call| !reached[call]));
+        let in_loop = |call: usize| reached[call] && self::reached(file, call)[call];
+        self.one("  one in a loop", some(&in_loop));
+        self.one("  two in a row", some(&leads_to_call));
+        let not_all = |call| file.row(call).contains(&0);
+        self.one("  one that does not pass every array", some(&not_all));
+    }
+
+    fn count_labels(&mut self, routine: &Routine, plan: &[u8]) {
+        let vertices = routine.vertex_count() + 2 * routine.call_count();
+        for label in plan[8 + 4 * vertices..].chunks_exact(8) {
+            for (name, letter) in [
+                ("labels of accepted plans: N", b'N'),
+                ("labels of accepted plans: D", b'D'),
+                ("labels of accepted plans: R", b'R'),
+                ("labels of accepted plans: W", b'W'),
+            ] {
+                self.one(name, label[1] == letter);
+            }
+            let kind = routine.array(usize::from(label[0])).kind;
+            self.one("labels of accepted plans: in", kind == Kind::In);
+        }
+    }
+
+    fn count_run(&mut self, routine: &Routine, path: &[usize], report: &[u8]) {
         let (heads, records) = report.split_at(6 * routine.array_count());
         let each = heads
             .chunks_exact(6)
@@ -87,112 +174,52 @@ impl Drawn {
         let each: Vec<usize> = each.collect();
         let copies: usize = each.iter().sum();
         let arrays: Vec<_> = routine.arrays().collect();
-        let path: Vec<usize> = vertices(path).collect();
-        let (machines, _) = machine::run(&arrays, routine.action_bytes(), &path);
+        let (machines, _) = machine::run(&arrays, routine.action_bytes(), path);
         let all: usize = machines.iter().map(|machine| machine.count).sum();
         let at_exit = path.last() == Some(&routine.exit());
-        self.accepted_runs += 1;
-        self.runs_of_every_kind += u64::from(has_two_of_each_kind(routine));
-        self.at_exit += u64::from(at_exit);
-        self.with_copy += u64::from(copies > 0);
-        self.with_fewer += u64::from(copies < all);
-        self.without_record += u64::from(records.is_empty());
+        self.one("accepted runs: end at the exit", at_exit);
+        self.one("accepted runs: with a copy", copies > 0);
+        self.one("accepted runs: fewer copies than remaps", copies < all);
+        self.one("accepted runs: with a record", !records.is_empty());
+        self.one("accepted runs: without record", records.is_empty());
         let some_in = |test: &dyn Fn(usize) -> bool| {
             let mut ins = (0..arrays.len()).filter(|&array| arrays[array].kind == Kind::In);
-            u64::from(at_exit && ins.any(test))
+            at_exit && ins.any(test)
         };
-        self.in_to_exit += some_in(&|_| true);
-        self.in_away += some_in(&|array| machines[array].held != arrays[array].initial);
-        self.in_copied += some_in(&|array| each[array] > 0);
+        let away = |array: usize| machines[array].held != arrays[array].initial;
+        self.one(
+            "accepted runs: to the exit, in argument",
+            some_in(&|_| true),
+        );
+        self.one("  its last label not home", some_in(&away));
+        self.one("  with a copy of it", some_in(&|array| each[array] > 0));
+    }
+
+    /// The calls that a path takes, and whether it ends inside one.
+    fn count_call_steps(&mut self, places: &[Place], path: &[usize]) {
+        let part = |vertex: &usize| places[*vertex].part;
+        let ends = |wanted| path.last().map(part) == Some(wanted);
+        let through = path.iter().any(|vertex| part(vertex) == Part::After);
+        self.one("accepted runs: through a call", through);
+        let first = "accepted runs: end at a call's first vertex";
+        self.one(first, ends(Part::Before));
+        let second = "accepted runs: end at a call's second vertex";
+        self.one(second, ends(Part::Inside));
     }
 
     pub fn add(&mut self, other: &Drawn) {
-        self.plans += other.plans;
-        self.accepted_plans += other.accepted_plans;
-        self.plans_of_every_kind += other.plans_of_every_kind;
-        for (count, more) in self.letters.iter_mut().zip(other.letters) {
-            *count += more;
+        for (count, more) in self.counts.iter_mut().zip(&other.counts) {
+            count.part += more.part;
+            count.whole += more.whole;
         }
-        self.of_in += other.of_in;
-        self.runs += other.runs;
-        self.accepted_runs += other.accepted_runs;
-        self.runs_of_every_kind += other.runs_of_every_kind;
-        self.at_exit += other.at_exit;
-        self.with_copy += other.with_copy;
-        self.with_fewer += other.with_fewer;
-        self.without_record += other.without_record;
-        self.in_to_exit += other.in_to_exit;
-        self.in_away += other.in_away;
-        self.in_copied += other.in_copied;
-    }
-
-    fn shares(&self) -> Vec<Share> {
-        let share = |name, part, whole, least| Share {
-            name,
-            part,
-            whole,
-            least,
-        };
-        let [n, d, r, w] = self.letters;
-        let labels = n + d + r + w;
-        let (plans, runs) = (self.accepted_plans, self.accepted_runs);
-        vec![
-            share("plans drawn: accepted", plans, self.plans, 40),
-            share(
-                "plans drawn: two arrays of each kind",
-                self.plans_of_every_kind,
-                self.plans,
-                10,
-            ),
-            share("labels of accepted plans: N", n, labels, 20),
-            share("labels of accepted plans: D", d, labels, 4),
-            share("labels of accepted plans: R", r, labels, 10),
-            share("labels of accepted plans: W", w, labels, 10),
-            share("labels of accepted plans: in", self.of_in, labels, 20),
-            share("runs drawn: accepted", runs, self.runs, 60),
-            share(
-                "runs drawn: two arrays of each kind",
-                self.runs_of_every_kind,
-                self.runs,
-                10,
-            ),
-            share("accepted runs: end at the exit", self.at_exit, runs, 40),
-            share("accepted runs: with a copy", self.with_copy, runs, 30),
-            share(
-                "accepted runs: fewer copies than remaps",
-                self.with_fewer,
-                runs,
-                30,
-            ),
-            share(
-                "accepted runs: with a record",
-                runs - self.without_record,
-                runs,
-                60,
-            ),
-            share(
-                "accepted runs: without record",
-                self.without_record,
-                runs,
-                1,
-            ),
-            share(
-                "accepted runs: to the exit, in argument",
-                self.in_to_exit,
-                runs,
-                30,
-            ),
-            share("  its last label not home", self.in_away, runs, 20),
-            share("  with a copy of it", self.in_copied, runs, 15),
-        ]
     }
 
     /// The shares that are smaller than they must be, by name.
     pub fn lacking(&self) -> Vec<&'static str> {
-        let shares = self.shares().into_iter();
+        let shares = SHARES.iter().zip(&self.counts);
         shares
-            .filter(Share::is_small)
-            .map(|share| share.name)
+            .filter(|((_, least), count)| 100 * count.part < least * count.whole)
+            .map(|((name, _), _)| *name)
             .collect()
     }
 }
@@ -203,15 +230,37 @@ fn has_two_of_each_kind(routine: &Routine) -> bool {
         .all(|&kind| routine.arrays().filter(|array| array.kind == kind).count() >= 2)
 }
 
+/// Whether a file whose parts fit together has a call byte.
+fn has_calls(file: &[u8]) -> bool {
+    let draft = Draft::from_bytes(file).unwrap_or_default();
+    draft.rows.iter().any(|row| is_call(row))
+}
+
+fn places(file: &Routine) -> Vec<Place> {
+    calls::places((0..file.vertex_count()).map(|vertex| file.row(vertex)))
+}
+
+/// The vertices that paths of an edge at least get to.
+fn reached(routine: &Routine, start: usize) -> Vec<bool> {
+    let mut reached = vec![false; routine.vertex_count()];
+    let mut open = vec![start];
+    while let Some(vertex) = open.pop() {
+        for (from, to) in routine.edges() {
+            if from == vertex && !reached[to] {
+                reached[to] = true;
+                open.push(to);
+            }
+        }
+    }
+    reached
+}
+
 impl fmt::Display for Drawn {
     fn fmt(&self, f: &mut fmt::Formatter) -> fmt::Result {
-        writeln!(f, "{:<40}{:>9}{:>9}{:>9}", "share", "part", "%", "least %")?;
-        for share in self.shares() {
-            let percent = 100.0 * share.part as f64 / share.whole.max(1) as f64;
-            let Share {
-                name, part, least, ..
-            } = share;
-            writeln!(f, "{name:<40}{part:>9}{percent:>9.1}{least:>9}")?;
+        writeln!(f, "{:<46}{:>9}{:>7}{:>9}", "share", "part", "%", "least %")?;
+        for ((name, least), Count { part, whole }) in SHARES.iter().zip(&self.counts) {
+            let percent = 100.0 * *part as f64 / (*whole).max(1) as f64;
+            writeln!(f, "{name:<46}{part:>9}{percent:>7.1}{least:>9}")?;
         }
         Ok(())
     }

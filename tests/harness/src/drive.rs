@@ -5,6 +5,7 @@ use crate::library::{Input, Library};
 use crate::shrink::shrink;
 use crate::tally::Tally;
 use oracle::builder::{self, Draft, path_bytes};
+use oracle::calls::is_call;
 use oracle::generate::rng::Rng;
 use oracle::generate::routines::{self, Size};
 use oracle::generate::{damage, limits, paths};
@@ -59,9 +60,9 @@ pub fn compare_plans(library: &Library, options: Options) -> Compared<Tally> {
     let mut driver = Driver::new(library, options);
     driver.named_plans()?;
     driver.plans_at_limits()?;
+    driver.random_plans()?;
     driver.small_plans()?;
     driver.damaged_plans()?;
-    driver.random_plans()?;
     Ok(driver.tally)
 }
 
@@ -70,9 +71,9 @@ pub fn compare_runs(library: &Library, options: Options) -> Compared<Tally> {
     let mut driver = Driver::new(library, options);
     driver.named_runs()?;
     driver.runs_at_limits()?;
+    driver.random_runs()?;
     driver.small_runs()?;
     driver.damaged_runs()?;
-    driver.random_runs()?;
     Ok(driver.tally)
 }
 
@@ -121,20 +122,76 @@ pub fn named() -> Vec<(Draft, Vec<Vec<u16>>)> {
             builder::read_only(),
             vec![vec![0, 1, 2], vec![0, 1, 2, 3], vec![0]],
         ),
+        (
+            builder::call(),
+            vec![
+                vec![0, 1, 2, 3, 4, 5, 6, 7],
+                vec![0, 1, 2, 3, 4, 5, 6],
+                vec![0, 1, 2, 3, 4, 5],
+                vec![0, 1, 2, 3, 4],
+                vec![0, 1, 2, 3],
+                vec![0, 1, 2, 3, 5],
+                vec![0, 1, 2, 6],
+            ],
+        ),
+        (
+            builder::calls_in_a_loop(),
+            vec![
+                vec![0, 1, 2, 3, 4, 5, 6, 7, 8, 9, 10, 5, 6, 7, 8],
+                vec![0, 1, 2, 3, 4, 5, 6, 7, 8, 9, 10, 11, 4, 5, 6],
+                vec![0, 1, 2, 3, 4, 5, 6, 7, 8, 9, 10, 11, 12],
+            ],
+        ),
+        (builder::ambiguous_call(), vec![vec![0, 2, 3, 4, 5]]),
+        (
+            builder::call_beside_two_versions(),
+            vec![vec![0, 1, 2, 3, 4, 5], vec![0, 2, 3]],
+        ),
+        (builder::ambiguous_behind_a_call(2), vec![vec![0]]),
+        (builder::ambiguous_behind_a_call(3), vec![vec![0]]),
+        (
+            builder::unreached_call(builder::call_in),
+            vec![vec![0, 1, 2, 3, 4], vec![0, 1, 2, 3, 4, 9]],
+        ),
+        (builder::unreached_call(builder::call_out), vec![vec![0]]),
     ]
 }
 
-/// Small routines whose files are damaged at every byte: those with a name, and some of
-/// several arrays.
+/// Those of the routines with a name whose files are damaged at every byte: all without calls, and
+/// three with them.
+fn damaged() -> Vec<(Draft, Vec<Vec<u16>>)> {
+    let calls = [
+        builder::call(),
+        builder::calls_in_a_loop(),
+        builder::ambiguous_call(),
+    ];
+    let is_damaged = |draft: &Draft| {
+        let without_calls = !draft.rows.iter().any(|row| is_call(row));
+        without_calls || calls.contains(draft)
+    };
+    let named = named().into_iter();
+    named.filter(|(draft, _)| is_damaged(draft)).collect()
+}
+
+/// Small routines whose files are damaged at every byte: those with a name, and some of several
+/// arrays.
 fn small(seed: u64) -> Vec<Draft> {
     let size = Size {
         vertices: 6,
         arrays: 3,
         versions: 4,
+        calls: 0,
+    };
+    let with_calls = Size {
+        vertices: 10,
+        calls: 50,
+        ..size
     };
     let mut rng = Rng::new(seed);
-    let mut drafts: Vec<Draft> = named().into_iter().map(|(draft, _)| draft).collect();
-    drafts.extend((0..4).map(|_| routines::accepted(&mut rng, size)));
+    let mut drafts: Vec<Draft> = damaged().into_iter().map(|(draft, _)| draft).collect();
+    for size in [size, size, with_calls, with_calls] {
+        drafts.push(routines::accepted(&mut rng, size));
+    }
     drafts
 }
 
@@ -177,7 +234,10 @@ impl Driver<'_> {
 
     fn try_drawn(&mut self, kind: &'static str, index: u64, input: &Input) -> Compared {
         let checked = self.try_one(kind, index, input)?;
-        self.tally.drawn.count(input, &checked.written);
+        let Checked {
+            answer, written, ..
+        } = &checked;
+        self.tally.drawn.count(input, *answer, written);
         Ok(())
     }
 
@@ -349,7 +409,7 @@ impl Driver<'_> {
 
     /// Every byte and length of the routines with a name and a path of each, and of the path.
     fn damaged_runs(&mut self) -> Compared {
-        for (draft, paths) in named() {
+        for (draft, paths) in damaged() {
             let file = draft.bytes();
             let path = path_bytes(&paths[0]);
             let run = |file| Input::run(file, path.clone());
@@ -382,15 +442,20 @@ impl Driver<'_> {
                     let path = path_bytes(&paths::any(&mut rng, &draft));
                     ("run, two arrays of each kind", draft.bytes(), path)
                 }
-                1 => {
+                1 | 2 => {
                     let draft = routines::read_only(&mut rng, size);
                     let path = path_bytes(&paths::to_exit(&mut rng, &draft));
                     ("run, in arguments to the exit", draft.bytes(), path)
                 }
-                2..=6 => {
+                3..=5 => {
                     let draft = routines::accepted(&mut rng, size);
                     let path = path_bytes(&paths::any(&mut rng, &draft));
                     ("run, path along edges", draft.bytes(), path)
+                }
+                6 => {
+                    let draft = routines::accepted(&mut rng, size);
+                    let path = path_bytes(&paths::into_call(&mut rng, &draft));
+                    ("run, path into a call", draft.bytes(), path)
                 }
                 7 | 8 => {
                     let draft = routines::accepted(&mut rng, size);

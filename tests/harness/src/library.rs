@@ -62,7 +62,7 @@ impl Input {
 /// Which form of the label rules says what is expected.
 #[derive(Clone, Copy, Debug, PartialEq, Eq)]
 pub enum Form {
-    /// The file is refused by 10 to 19, before the rules are asked.
+    /// The file is refused by 10 to 19 or 22, before the rules are asked.
     NotAsked,
     /// By listing paths: the words of the rules, and slow.
     Literal,

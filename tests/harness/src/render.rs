@@ -4,8 +4,9 @@ use crate::check::{Called, Difference};
 use crate::drive::Mismatch;
 use crate::library::Input;
 use oracle::builder::Draft;
+use oracle::calls::Call;
 use oracle::outcome::Outcome;
-use oracle::routine::Action;
+use oracle::routine::{Action, Reference};
 use oracle::run::{MAX_PATH, vertices};
 use std::fmt::{self, Write};
 
@@ -43,6 +44,11 @@ fn action(byte: u8) -> String {
         Some(Action::Nothing) => String::from("-"),
         Some(Action::Reference(reference)) => format!("{reference:?}").to_lowercase(),
         Some(Action::Remap(version)) => format!("remap {version}"),
+        Some(Action::Call(Call { version, intent })) => match intent {
+            Reference::Read => format!("call in {version}"),
+            Reference::Define => format!("call out {version}"),
+            Reference::Modify => format!("call inout {version}"),
+        },
         None => format!("unknown {byte:02x}"),
     }
 }

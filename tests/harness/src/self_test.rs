@@ -1,6 +1,7 @@
 //! The comparison itself, tried on the oracle with faults put in.
 
 mod calls;
+mod interfaces;
 mod plans;
 mod runs;
 
@@ -8,7 +9,10 @@ use crate::drawn::Drawn;
 use crate::drive::{Mismatch, Options, compare, compare_plans, compare_runs};
 use crate::library::{Form, Input, Library, ORACLE, Plan, Run};
 use oracle::builder::{self, Draft};
+use oracle::calls::Room;
+use oracle::labels::fixpoint;
 use oracle::outcome::Outcome;
+use oracle::routine::Routine;
 
 const FEW: Options = Options {
     routines: 2000,
@@ -57,6 +61,13 @@ fn labelled_home(file: &[u8]) -> Vec<u8> {
     draft.bytes()
 }
 
+/// Shows an accepted file's routine with its calls expanded.
+fn with_expanded<T>(file: &[u8], show: impl FnOnce(&Routine) -> T) -> T {
+    let mut room = Room::EMPTY;
+    let routine = Routine::parse(file).unwrap();
+    show(&fixpoint::expanded(&routine, &mut room))
+}
+
 fn outcome(number: u64, first: u64, second: u64) -> Outcome {
     Outcome {
         number,
@@ -71,21 +82,22 @@ fn the_oracle_agrees_with_itself() {
     let tally = compare(&ORACLE, FEW).unwrap();
     assert_eq!(tally.missing(), [""; 0], "{tally}");
     // 255 values for each byte, and every length up to eight more but its own: P, Q, S, T, T
-    // without its read, U and the read-only argument have 62, 52, 48, 42, 42, 58 and 38 bytes, and
-    // paths of 18, 8, 10, 8, 6, 14 and 6; the four further routines that are drawn have 280.
-    let (files, paths, drawn) = (342, 70, 280);
-    let four_vertices = 4 * 6 * 6 * (1 << 9);
+    // without its read, U, the read-only argument, the call, the calls in a loop and the ambiguous
+    // call have 62, 52, 48, 42, 42, 58, 38, 48, 61 and 50 bytes, and paths of 18, 8, 10, 8, 6, 14,
+    // 6, 16, 30 and 10; the four further routines that are drawn have 340.
+    let (files, paths, drawn) = (501, 126, 340);
+    let four_vertices = (4 * 36 + 2 * 45) * (1 << 9);
     let expected = [
         ("plan, all of four vertices", four_vertices),
-        ("plan, all of two rows", 3 * 8u64.pow(4)),
+        ("plan, all of two rows", 3 * 11u64.pow(4)),
         ("plan, every byte damaged", 255 * (files + drawn)),
-        ("plan, every length", files + drawn + 11 * 8),
+        ("plan, every length", files + drawn + 14 * 8),
         ("plan, far too long", 3),
         ("plan, graph as drawn", 200),
         ("plan, graph made acceptable", 200),
         ("plan, in arguments", 200),
-        ("plan, limits", 31 + 7),
-        ("plan, named", 7),
+        ("plan, limits", 53 + 11),
+        ("plan, named", 15),
         ("plan, program as drawn", 400),
         ("plan, program made acceptable", 200),
         ("plan, refused by number", 400),
@@ -94,14 +106,15 @@ fn the_oracle_agrees_with_itself() {
         ("run, all of four vertices", four_vertices),
         ("run, damaged path", 200),
         ("run, every byte damaged", 255 * files),
-        ("run, every length", files + 7 * 8),
+        ("run, every length", files + 10 * 8),
         ("run, every path byte damaged", 255 * paths),
-        ("run, every path length", paths + 7 * 8),
+        ("run, every path length", paths + 10 * 8),
         ("run, far too long", 6),
-        ("run, in arguments to the exit", 100),
-        ("run, limits", 7 + 31),
-        ("run, named", 17),
-        ("run, path along edges", 500),
+        ("run, in arguments to the exit", 200),
+        ("run, limits", 7 + 53),
+        ("run, named", 35),
+        ("run, path along edges", 300),
+        ("run, path into a call", 100),
         ("run, refused routine", 100),
         ("run, two arrays of each kind", 100),
     ];
@@ -117,12 +130,19 @@ fn a_poor_generator() {
     for input in [Input::plan(file.clone()), Input::run(file, path)] {
         let mut written = vec![0; 100];
         let answer = input.call(&ORACLE, &mut written);
-        drawn.count(&input, &written[..answer.first as usize]);
+        drawn.count(&input, answer, &written[..answer.first as usize]);
     }
     assert_eq!(
         drawn.lacking(),
         [
+            "plans drawn: with calls",
             "plans drawn: two arrays of each kind",
+            "plans drawn: refused by 22",
+            "accepted plans: with calls",
+            "  one that no path gets to",
+            "  one in a loop",
+            "  two in a row",
+            "  one that does not pass every array",
             "labels of accepted plans: D",
             "labels of accepted plans: R",
             "labels of accepted plans: W",
@@ -134,6 +154,9 @@ fn a_poor_generator() {
             "accepted runs: to the exit, in argument",
             "  its last label not home",
             "  with a copy of it",
+            "accepted runs: through a call",
+            "accepted runs: end at a call's first vertex",
+            "accepted runs: end at a call's second vertex",
         ]
     );
 }
@@ -147,6 +170,7 @@ fn small_routines_are_expected_literally() {
         builder::s(),
         builder::t(),
         builder::u(),
+        builder::calls_in_a_loop(),
     ] {
         assert_eq!(Form::of(&draft.bytes()), Form::Literal);
     }

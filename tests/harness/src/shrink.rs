@@ -1,7 +1,8 @@
 //! Makes an input small while library and oracle still differ on it.
 
 use crate::library::Input;
-use oracle::builder::{Draft, LOCAL, path_bytes, remap};
+use oracle::builder::{Draft, LOCAL, call_in, path_bytes, remap};
+use oracle::calls::{Part, Place, is_call};
 
 /// So many bytes of smaller inputs are tried at most.
 const BUDGET: usize = 50_000_000;
@@ -10,21 +11,55 @@ const BUDGET: usize = 50_000_000;
 #[derive(Clone)]
 struct Parts {
     routine: Result<Draft, Vec<u8>>,
-    path: Option<Vec<u16>>,
+    /// By the file's vertices, so that it keeps its meaning where other rows change. Numbers beyond
+    /// the expanded routine's follow on the file's last vertex.
+    path: Option<Vec<Place>>,
     odd_byte: bool,
+}
+
+/// The vertices that the rows of a routine become, and the first one's number for each row.
+fn numbering(routine: &Result<Draft, Vec<u8>>) -> (Vec<Place>, Vec<usize>) {
+    let places = routine.as_ref().map_or_else(|_| Vec::new(), Draft::places);
+    let is_first = |&number: &usize| matches!(places[number].part, Part::Whole | Part::Before);
+    let firsts = (0..places.len()).filter(is_first).collect();
+    (places, firsts)
 }
 
 impl Parts {
     fn of(input: &Input) -> Parts {
-        let vertices = |path: &Vec<u8>| {
-            let words = path.as_chunks().0.iter();
-            words.map(|&word| u16::from_le_bytes(word)).collect()
+        let routine = Draft::from_bytes(&input.routine).ok_or_else(|| input.routine.clone());
+        let (places, firsts) = numbering(&routine);
+        let step = |&word: &[u8; 2]| {
+            let number = usize::from(u16::from_le_bytes(word));
+            places.get(number).copied().unwrap_or_else(|| Place {
+                vertex: number - places.len() + firsts.len(),
+                part: Part::Whole,
+            })
         };
+        let path = |path: &Vec<u8>| path.as_chunks().0.iter().map(step).collect();
         Parts {
-            routine: Draft::from_bytes(&input.routine).ok_or_else(|| input.routine.clone()),
-            path: input.path.as_ref().map(vertices),
+            path: input.path.as_ref().map(path),
+            routine,
             odd_byte: input.path.as_ref().is_some_and(|path| path.len() % 2 == 1),
         }
+    }
+
+    /// The path's numbers. Of a call whose row is none any more the first vertex is left.
+    fn numbers(&self, path: &[Place]) -> Vec<u16> {
+        let (places, firsts) = numbering(&self.routine);
+        let number = |step: &Place| {
+            let Some(&first) = firsts.get(step.vertex) else {
+                return Some(step.vertex - firsts.len() + places.len());
+            };
+            let is_call = places[first].part == Part::Before;
+            match step.part {
+                Part::Whole | Part::Before => Some(first),
+                Part::Inside => is_call.then_some(first + 1),
+                Part::After => is_call.then_some(first + 2),
+            }
+        };
+        let numbers = path.iter().filter_map(number);
+        numbers.map(|number| number as u16).collect()
     }
 
     fn input(&self) -> Input {
@@ -34,7 +69,7 @@ impl Parts {
                 Err(bytes) => bytes.clone(),
             },
             path: self.path.as_ref().map(|path| {
-                let mut bytes = path_bytes(path);
+                let mut bytes = path_bytes(&self.numbers(path));
                 bytes.extend(self.odd_byte.then_some(0));
                 bytes
             }),
@@ -190,9 +225,9 @@ impl Shrinker<'_> {
                         drop_vertex(draft, vertex as u16, bypass);
                     }
                     if let Some(path) = &mut parts.path {
-                        path.retain(|&other| usize::from(other) != vertex);
-                        for other in path {
-                            *other = renumbered(*other, vertex as u16);
+                        path.retain(|step| step.vertex != vertex);
+                        for step in path {
+                            step.vertex -= usize::from(step.vertex > vertex);
                         }
                     }
                 });
@@ -235,15 +270,21 @@ impl Shrinker<'_> {
             .map_or((0, 0), |draft| (draft.rows.len(), draft.arrays.len()));
         for vertex in 0..vertices {
             for array in 0..arrays {
-                for byte in [0, remap(0), remap(1)] {
-                    let lower = |draft: &mut Draft| {
-                        let old = &mut draft.rows[vertex][array];
-                        *old = byte.min(*old);
-                    };
-                    if self.attempt_draft(lower) {
-                        break;
-                    }
-                }
+                self.lower_action(vertex, array);
+            }
+        }
+    }
+
+    /// A lower byte, of another family first; of a call also with a lower version.
+    fn lower_action(&mut self, vertex: usize, array: usize) {
+        let old = self.draft().map_or(0, |draft| draft.rows[vertex][array]);
+        let mut bytes = vec![0, remap(0), remap(1), call_in(0), call_in(1)];
+        if is_call(&[old]) {
+            bytes.extend([old & 0xe0, old & 0xe0 | 1]);
+        }
+        for byte in bytes {
+            if self.attempt_draft(|draft| draft.rows[vertex][array] = byte.min(old)) {
+                break;
             }
         }
     }

@@ -8,9 +8,9 @@ use std::collections::BTreeMap;
 use std::fmt;
 
 /// Every answer of a call, 0 being success.
-const PLAN_ANSWERS: [u64; 14] = [0, 1, 10, 11, 12, 13, 14, 15, 16, 17, 18, 19, 20, 21];
-const RUN_ANSWERS: [u64; 17] = [
-    0, 2, 10, 11, 12, 13, 14, 15, 16, 17, 18, 19, 20, 21, 30, 31, 32,
+const PLAN_ANSWERS: [u64; 15] = [0, 1, 10, 11, 12, 13, 14, 15, 16, 17, 18, 19, 20, 21, 22];
+const RUN_ANSWERS: [u64; 18] = [
+    0, 2, 10, 11, 12, 13, 14, 15, 16, 17, 18, 19, 20, 21, 22, 30, 31, 32,
 ];
 
 #[derive(Clone, Debug, Default)]

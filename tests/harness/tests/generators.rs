@@ -2,6 +2,7 @@
 
 use harness::library::{Input, ORACLE};
 use oracle::builder::{Draft, path_bytes};
+use oracle::calls::{Part, is_call};
 use oracle::generate::rng::Rng;
 use oracle::generate::routines::{self, Size};
 use oracle::generate::{damage, limits, paths};
@@ -44,7 +45,8 @@ fn refusals_have_any_place() {
         let routine = Routine::parse(file).unwrap();
         let place = Input::plan(file.clone()).call(&ORACLE, &mut []).first;
         let row = routine.row(place as usize).iter().zip(routine.arrays());
-        row.filter(|(byte, array)| array.kind == Kind::In && **byte > 0x10)
+        let changes = |byte: u8| !matches!(byte, 0x00 | 0x10 | 0x60..=0x7f);
+        row.filter(|(byte, array)| array.kind == Kind::In && changes(**byte))
             .count()
             > 1
     });
@@ -91,7 +93,8 @@ fn routines_of_four_vertices_differ() {
     let files: HashSet<Vec<u8>> = routines::all_of_four_vertices()
         .map(|draft| draft.bytes())
         .collect();
-    assert_eq!(files.len(), 4 * 6 * 6 * (1 << 9));
+    // 36 pairs of actions without calls, of each kind, and 45 with them, of two.
+    assert_eq!(files.len(), (4 * 36 + 2 * 45) * (1 << 9));
 }
 
 /// The counts that the comparison is to meet.
@@ -99,17 +102,26 @@ fn routines_of_four_vertices_differ() {
 fn limits_have_their_counts() {
     let drafts = limits::at_limits(&mut Rng::new(SEED));
     let counts = |draft: &Draft| (draft.rows.len(), draft.edges.len());
-    let met: HashSet<(usize, usize)> = drafts
+    let accepted = |draft: &&Draft| answer(&Input::plan(draft.bytes())) == 1;
+    let has_calls = |draft: &&Draft| draft.rows.iter().any(|row| is_call(row));
+    let met: HashSet<(usize, usize)> = drafts.iter().filter(accepted).map(counts).collect();
+    let with_calls: HashSet<(usize, usize)> = drafts
         .iter()
-        .filter(|draft| answer(&Input::plan(draft.bytes())) == 1)
-        .map(counts)
+        .filter(accepted)
+        .filter(has_calls)
+        .map(|draft| counts(&draft.expanded()))
         .collect();
     for vertices in [32, 33] {
         for edges in [127, 128, 129] {
-            assert!(met.contains(&(vertices, edges)), "{vertices} {edges}");
+            let both = (vertices, edges);
+            assert!(met.contains(&both), "{vertices} {edges}");
+            assert!(with_calls.contains(&both), "{vertices} {edges}");
         }
     }
     assert!(met.contains(&(2, 0)) && met.contains(&(256, 1024)));
+    for edges in [1023, 1024, 1025, 1026, 1191, 1192] {
+        assert!(with_calls.contains(&(256, edges)), "{edges}");
+    }
     assert_eq!(counts(&limits::chain_from_entry()), (256, 508));
     assert_eq!(counts(&limits::chain_both_ways()), (256, 1013));
 }
@@ -129,4 +141,26 @@ fn paths_follow_edges() {
         refused[answer(&Input::run(draft.bytes(), damaged)) as usize] += 1;
     }
     assert!(refused[30..].iter().all(|&count| count > 20), "{refused:?}");
+}
+
+/// Paths into a call end at its first and at its second vertex.
+#[test]
+fn paths_end_inside_calls() {
+    let seed = SEED + 3;
+    let mut ends = [0; 2];
+    for index in 0..500 {
+        let mut rng = Rng::for_input(seed, index);
+        let size = Size::any(&mut rng);
+        let draft = routines::accepted(&mut rng, size);
+        let path = paths::into_call(&mut rng, &draft);
+        let last = path.last().map_or(0, |&vertex| usize::from(vertex));
+        match draft.places()[last].part {
+            Part::Before => ends[0] += 1,
+            Part::Inside => ends[1] += 1,
+            Part::Whole | Part::After => {}
+        }
+        let input = Input::run(draft.bytes(), path_bytes(&path));
+        assert_eq!(answer(&input), 2, "seed {seed}, index {index}\n{input}");
+    }
+    assert!(ends.iter().all(|&count| count > 80), "{ends:?}");
 }

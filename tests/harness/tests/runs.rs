@@ -3,26 +3,32 @@
 use harness::library::Input;
 use harness::shrink::demand;
 use oracle::builder::{self, Draft, path_bytes};
+use oracle::calls::Room;
 use oracle::demand3;
 use oracle::generate::rng::Rng;
 use oracle::generate::routines::{self, Size};
 use oracle::generate::{limits, paths};
-use oracle::labels::fixpoint::Solved;
+use oracle::labels::fixpoint::{self, Solved};
 use oracle::routine::Routine;
-use oracle::run::{LONGEST_REPORT, check_path, run};
+use oracle::run::{LONGEST_REPORT, MAX_PATH, check_path, run};
 
 const SEED: u64 = 2;
 
-/// Demand 3 of the run and of the report's bytes, where routine and path are well formed.
+/// Demand 3 of the run and of the report's bytes, where routine and path are well formed. A refused
+/// routine without calls is run too.
 fn holds(file: &[u8], path: &[u8]) -> Result<(), String> {
-    let Ok(routine) = Routine::parse(file) else {
+    let Ok(parsed) = Routine::parse(file) else {
         return Ok(());
+    };
+    let (mut solved, mut room) = (Solved::EMPTY, Room::EMPTY);
+    let (accepted, routine) = match solved.accept(&parsed, &mut room) {
+        Ok(routine) => (true, routine),
+        Err(_) if parsed.call_count() == 0 => (false, parsed),
+        Err(_) => return Ok(()),
     };
     if check_path(&routine, path).is_err() {
         return Ok(());
     }
-    let mut solved = Solved::EMPTY;
-    let accepted = solved.accept(&routine).is_ok();
     demand3::of_run(&routine, &solved, path)?;
     if !accepted {
         return Ok(());
@@ -38,8 +44,11 @@ fn holds(file: &[u8], path: &[u8]) -> Result<(), String> {
 /// `name` says where routine and path come from.
 fn demand_3(name: &str, draft: &Draft, path: &[u16]) {
     let (file, path) = (draft.bytes(), path_bytes(path));
-    let well_formed =
-        Routine::parse(&file).is_ok_and(|routine| check_path(&routine, &path).is_ok());
+    let well_formed = Routine::parse(&file).is_ok_and(|routine| {
+        let mut room = Room::EMPTY;
+        let routine = fixpoint::expanded(&routine, &mut room);
+        check_path(&routine, &path).is_ok()
+    });
     let input = Input::run(file, path);
     assert!(well_formed, "{name}\n{input}");
     demand(name, input, &|input| {
@@ -68,19 +77,22 @@ fn in_arguments_to_the_exit() {
         let size = Size::any(&mut rng);
         let draft = routines::read_only(&mut rng, size);
         let path = paths::to_exit(&mut rng, &draft);
-        full += u64::from(path.last() == Some(&(draft.rows.len() as u16 - 1)));
+        full += u64::from(path.last() == Some(&(draft.places().len() as u16 - 1)));
         demand_3(&format!("seed {seed}, index {index}"), &draft, &path);
     }
     assert!(full > 3000, "{full} full paths");
 }
 
-/// Demand 3 needs neither 20 nor 21.
+/// Without calls demand 3 needs neither 20 nor 21.
 #[test]
 fn paths_through_refused_routines() {
     let seed = SEED + 1;
     for index in 0..4000 {
         let mut rng = Rng::for_input(seed, index);
-        let size = Size::any(&mut rng);
+        let size = Size {
+            calls: 0,
+            ..Size::any(&mut rng)
+        };
         let draft = if rng.chance(50) {
             routines::program(&mut rng, size)
         } else {
@@ -96,6 +108,10 @@ fn the_longest_paths() {
     let (report, ring) = (limits::largest_report(), limits::ring_of_labels());
     demand_3("the largest report", &report, &limits::longest_path());
     demand_3("the ring", &ring, &limits::round_the_ring());
+    let mut rng = Rng::new(SEED);
+    let calls = limits::most_calls(&mut rng);
+    let path = paths::walk(&mut rng, &calls, MAX_PATH);
+    demand_3("the most calls", &calls, &path);
 }
 
 /// Every step round the ring copies: the machine does no more.

@@ -1,6 +1,8 @@
 //! Routine files made from their parts, and the routines that have names.
 
-use crate::routine::HEAD;
+use crate::calls::{self, Place, Room};
+use crate::labels::fixpoint;
+use crate::routine::{HEAD, Routine};
 
 pub const READ: u8 = 0x10;
 pub const DEFINE: u8 = 0x20;
@@ -14,6 +16,19 @@ pub const INOUT: u8 = 3;
 /// The byte of a remap to a version.
 pub const fn remap(version: u8) -> u8 {
     0x40 + version
+}
+
+/// The bytes that pass an array in a version, with intent in, out and inout.
+pub const fn call_in(version: u8) -> u8 {
+    0x60 + version
+}
+
+pub const fn call_out(version: u8) -> u8 {
+    0xa0 + version
+}
+
+pub const fn call_inout(version: u8) -> u8 {
+    0xc0 + version
 }
 
 /// The parts of a routine file, right or wrong.
@@ -105,6 +120,29 @@ impl Draft {
         (draft.bytes() == file).then_some(draft)
     }
 
+    /// The vertices once the calls are expanded, for paths.
+    pub fn places(&self) -> Vec<Place> {
+        calls::places(self.rows.iter().map(Vec::as_slice))
+    }
+
+    /// A well-formed routine with its calls expanded; what 20 and 21 ask of it is not looked at.
+    pub fn expanded(&self) -> Draft {
+        let file = self.bytes();
+        let routine = Routine::parse(&file).expect("the routine is well formed");
+        let mut room = Room::EMPTY;
+        let routine = fixpoint::expanded(&routine, &mut room);
+        Draft {
+            arrays: self.arrays.clone(),
+            rows: (0..routine.vertex_count())
+                .map(|vertex| routine.row(vertex).to_vec())
+                .collect(),
+            edges: routine
+                .edges()
+                .map(|(from, to)| (from as u16, to as u16))
+                .collect(),
+        }
+    }
+
     /// The successors of each vertex.
     pub fn successors(&self) -> Vec<Vec<u16>> {
         let mut successors = vec![Vec::new(); self.rows.len()];
@@ -187,5 +225,90 @@ pub fn u() -> Draft {
         2,
         0,
         &[DEFINE, remap(1), DEFINE, READ, remap(0), READ],
+    )
+}
+
+/// Routine K: a call in a loop that passes one array as inout and another as in.
+pub fn k() -> Draft {
+    Draft {
+        arrays: vec![[INOUT, 2, 0, 0], [IN, 2, 0, 0]],
+        rows: vec![
+            vec![0, 0],
+            vec![call_inout(1), call_in(1)],
+            vec![READ, READ],
+            vec![0, 0],
+        ],
+        edges: vec![(0, 1), (1, 2), (2, 1), (2, 3)],
+    }
+}
+
+/// A call between two references of an array in another version.
+pub fn call() -> Draft {
+    Draft::chain(INOUT, 3, 1, &[DEFINE, remap(2), call_inout(0), READ])
+}
+
+/// Two calls in a row, and another on a branch that comes back before them: a loop of calls.
+pub fn calls_in_a_loop() -> Draft {
+    Draft::one_array(
+        LOCAL,
+        3,
+        0,
+        &[call_out(1), remap(2), call_in(1), call_inout(2), READ],
+        &[
+            (0, 1),
+            (1, 2),
+            (2, 3),
+            (3, 4),
+            (4, 3),
+            (4, 5),
+            (5, 2),
+            (5, 6),
+        ],
+    )
+}
+
+/// T with a call that passes a second array too, to which one version comes.
+pub fn ambiguous_call() -> Draft {
+    Draft {
+        arrays: vec![[INOUT, 2, 1, 0], [LOCAL, 2, 0, 0]],
+        rows: vec![
+            vec![0, 0],
+            vec![0, remap(1)],
+            vec![call_in(0), call_out(1)],
+            vec![0, 0],
+        ],
+        edges: vec![(0, 1), (0, 2), (1, 2), (2, 3)],
+    }
+}
+
+/// The same with a call that does not pass the second array: it is accepted.
+pub fn call_beside_two_versions() -> Draft {
+    let mut draft = ambiguous_call();
+    draft.rows[2][1] = 0;
+    draft
+}
+
+/// A call hands on both versions that come to it: it is ambiguous, and so is the read behind it.
+/// One is vertex 2 and the other 3.
+pub fn ambiguous_behind_a_call(read: usize) -> Draft {
+    let call = 5 - read;
+    let mut actions = [0; 4];
+    actions[0] = remap(1);
+    actions[read - 1] = READ;
+    actions[call - 1] = call_in(1);
+    let (read, call) = (read as u16, call as u16);
+    let mut edges = vec![(0, 1), (0, 4), (1, 4), (4, call), (call, read), (read, 5)];
+    edges.sort_unstable();
+    Draft::one_array(LOCAL, 2, 0, &actions, &edges)
+}
+
+/// A call that no path gets to, beside one of an in argument; `intent` passes the argument there.
+pub fn unreached_call(intent: fn(u8) -> u8) -> Draft {
+    Draft::one_array(
+        IN,
+        3,
+        2,
+        &[remap(1), call_in(0), intent(1), READ],
+        &[(0, 1), (1, 2), (2, 5), (3, 4), (4, 5)],
     )
 }

@@ -71,18 +71,40 @@ impl Labels for Vec<Vec<Option<Label>>> {
     }
 }
 
-/// The first define or modify of an in argument, by vertex, then array.
-pub fn refusal_20(routine: &Routine) -> Option<Refusal> {
-    for vertex in 0..routine.vertex_count() {
-        for array in 0..routine.array_count() {
-            let changes = matches!(
-                routine.event(vertex, array),
-                Event::Reference(Reference::Define | Reference::Modify)
-            );
-            if changes && routine.array(array).kind == Kind::In {
-                return Some(Refusal::at_two(20, vertex, array));
+/// The first event of a file's routine that passes a test, by vertex, then array, as a refusal.
+fn first_event(
+    number: u64,
+    file: &Routine,
+    test: impl Fn(usize, usize, Event) -> bool,
+) -> Option<Refusal> {
+    for vertex in 0..file.vertex_count() {
+        for array in 0..file.array_count() {
+            if test(vertex, array, file.event(vertex, array)) {
+                return Some(Refusal::at_two(number, vertex, array));
             }
         }
     }
     None
+}
+
+/// The first define or modify of an in argument, or call that passes one as out or inout.
+pub fn refusal_20(file: &Routine) -> Option<Refusal> {
+    first_event(20, file, |_, array, event| {
+        let changes = match event {
+            Event::Reference(reference) => reference != Reference::Read,
+            Event::Call(call) => call.intent != Reference::Read,
+            Event::Nothing | Event::Label(_) => false,
+        };
+        changes && file.array(array).kind == Kind::In
+    })
+}
+
+/// The first reference, or array passed to a call, that two versions may come to. `arriving` gives
+/// those that come, by vertex and array: of the last labels before it on paths from the entry,
+/// dropped ones included. A call is no label, and hands on all that come.
+fn refusal_21(file: &Routine, arriving: impl Fn(usize, usize) -> u16) -> Option<Refusal> {
+    first_event(21, file, |vertex, array, event| {
+        let names_one = matches!(event, Event::Reference(_) | Event::Call(_));
+        names_one && arriving(vertex, array).count_ones() > 1
+    })
 }

@@ -1,4 +1,4 @@
-//! An implementation of document 01, the users' specification, with requests 1 and 2 of document
+//! An implementation of document 01, the users' specification, with requests 1 to 3 of document
 //! 02, in Rust, written from their words and from the readings in docs/DECISIONS.md, to hold the
 //! verified library against.
 //!
@@ -6,6 +6,7 @@
 //! times: by listing paths, by searching explicit path states, and as fast data flow.
 
 pub mod builder;
+pub mod calls;
 pub mod demand3;
 pub mod generate;
 pub mod labels;

@@ -1,5 +1,5 @@
 //! The machine that copies at every remapping ("Run", second part). It is fed the arrays,
-//! the action bytes and the path, and nothing of the plan or of the run.
+//! the action bytes, with calls expanded, and the path, and nothing of the plan or of the run.
 
 use crate::record::Record;
 use crate::routine::{Action, Array, Reference};
@@ -35,7 +35,7 @@ pub fn run(arrays: &[Array], actions: &[u8], path: &[usize]) -> (Vec<Machine>, V
                 Some(Action::Reference(reference)) => {
                     records.push(machine.reference(step, array, reference));
                 }
-                Some(Action::Nothing) | None => {}
+                Some(Action::Nothing | Action::Call(_)) | None => {}
             }
         }
     }

@@ -1,5 +1,6 @@
 //! The plan's bytes ("Plan and report") and refusal 1.
 
+use crate::calls::Room;
 use crate::labels::fixpoint::Solved;
 use crate::labels::{Labels, literal};
 use crate::outcome::{Outcome, Refusal};
@@ -11,8 +12,8 @@ pub const LONGEST_PLAN: usize = 8 + 4 * MAX_VERTICES + 8 * MAX_ARRAYS * MAX_VERT
 /// Writes the plan of a routine file over the front of `out`.
 pub fn plan(file: &[u8], out: &mut [u8]) -> Outcome {
     Outcome::of(Routine::parse(file).and_then(|routine| {
-        let mut solved = Solved::EMPTY;
-        solved.accept(&routine)?;
+        let (mut solved, mut room) = (Solved::EMPTY, Room::EMPTY);
+        let routine = solved.accept(&routine, &mut room)?;
         write(&routine, &solved, out)
     }))
 }
@@ -20,8 +21,9 @@ pub fn plan(file: &[u8], out: &mut [u8]) -> Outcome {
 /// The same with the labels by listing paths, for small routines.
 pub fn plan_by_paths(file: &[u8], out: &mut [u8]) -> Outcome {
     Outcome::of(Routine::parse(file).and_then(|routine| {
-        let labels = literal::accept(&routine)?;
-        write(&routine, &labels, out)
+        let mut room = Room::EMPTY;
+        let routine = literal::accept(&routine, &mut room)?;
+        write(&routine, &literal::labels(&routine), out)
     }))
 }
 

@@ -1,11 +1,18 @@
-//! The routine file ("Routine file") and refusals 10 to 19.
+//! The routine file ("Routine file") and refusals 10 to 19 and 22.
 
+use crate::calls::Call;
 use crate::outcome::Refusal;
 
 pub const MAX_ARRAYS: usize = 8;
 pub const MAX_VERSIONS: usize = 16;
 pub const MAX_VERTICES: usize = 256;
 pub const MAX_EDGES: usize = 1024;
+
+/// The most calls: each becomes three of the vertices between entry and exit.
+pub const MAX_CALLS: usize = (MAX_VERTICES - 2) / 3;
+
+/// The most edges of a routine whose calls are expanded, two more for each.
+pub const MAX_EXPANDED_EDGES: usize = MAX_EDGES + 2 * MAX_CALLS;
 
 /// Mark, edition and table of contents: the bodies follow from here.
 pub const HEAD: usize = 18;
@@ -59,6 +66,7 @@ pub enum Action {
     Nothing,
     Reference(Reference),
     Remap(u8),
+    Call(Call),
 }
 
 impl Action {
@@ -70,6 +78,9 @@ impl Action {
             0x20 => Some(Action::Reference(Reference::Define)),
             0x30 => Some(Action::Reference(Reference::Modify)),
             0x40..=0x4f => Some(Action::Remap(byte - 0x40)),
+            0x60..=0x7f => Some(Action::Call(Call::new(byte - 0x60, Reference::Read))),
+            0xa0..=0xbf => Some(Action::Call(Call::new(byte - 0xa0, Reference::Define))),
+            0xc0..=0xdf => Some(Action::Call(Call::new(byte - 0xc0, Reference::Modify))),
             _ => None,
         }
     }
@@ -77,22 +88,28 @@ impl Action {
 
 const REFERENCE: u8 = 1;
 const REMAP: u8 = 2;
-const UNKNOWN: u8 = 4;
+const CALL: u8 = 4;
+const UNKNOWN: u8 = 8;
 
-/// For each byte the kind of its action, 0 for nothing.
-const ACTION_KINDS: [u8; 256] = {
-    let mut kinds = [UNKNOWN; 256];
+/// A bit for each union of families that a row may have: none, or one that is known.
+const ALLOWED: u16 = 1 << 0 | 1 << REFERENCE | 1 << REMAP | 1 << CALL;
+
+/// For each byte the family of its action, 0 for nothing, and the version that it names, 0 if it
+/// names none.
+const ACTIONS: [(u8, u8); 256] = {
+    let mut actions = [(UNKNOWN, 0); 256];
     let mut byte = 0;
     while byte < 256 {
         match Action::from_byte(byte as u8) {
-            Some(Action::Nothing) => kinds[byte] = 0,
-            Some(Action::Reference(_)) => kinds[byte] = REFERENCE,
-            Some(Action::Remap(_)) => kinds[byte] = REMAP,
+            Some(Action::Nothing) => actions[byte] = (0, 0),
+            Some(Action::Reference(_)) => actions[byte] = (REFERENCE, 0),
+            Some(Action::Remap(version)) => actions[byte] = (REMAP, version),
+            Some(Action::Call(call)) => actions[byte] = (CALL, call.version),
             None => {}
         }
         byte += 1;
     }
-    kinds
+    actions
 };
 
 /// What a vertex does with one array: entry and exit labels are counted as labels.
@@ -102,15 +119,19 @@ pub enum Event {
     Reference(Reference),
     /// A label with its version.
     Label(u8),
+    /// The array is passed to a call. A routine whose calls are expanded has none.
+    Call(Call),
 }
 
-/// An accepted routine file, read in place.
+/// An accepted routine file, read in place, or one whose calls are expanded.
 #[derive(Clone, Copy)]
 pub struct Routine<'a> {
     arrays: &'a [[u8; 4]],
     actions: &'a [u8],
     vertices: usize,
     edges: &'a [[u8; 4]],
+    /// How many rows are calls.
+    calls: usize,
 }
 
 /// The number of an action byte that has a fault, the lowest of those that meet in it: 15 unknown,
@@ -118,7 +139,11 @@ pub struct Routine<'a> {
 fn action_fault(byte: u8, versions: u8, zero_row: bool) -> u64 {
     match Action::from_byte(byte) {
         None => 15,
-        Some(Action::Remap(version)) if version >= versions => 17,
+        Some(Action::Remap(version) | Action::Call(Call { version, .. }))
+            if version >= versions =>
+        {
+            17
+        }
         Some(_) if zero_row => 18,
         Some(_) => 19,
     }
@@ -129,7 +154,8 @@ fn word(bytes: &[u8], at: usize) -> usize {
 }
 
 impl<'a> Routine<'a> {
-    /// The routine in a file, or the first refusal of 10 to 19: 17 to 19 are checked with 15.
+    /// The routine in a file, or the first refusal of 10 to 19 and 22: 17 to 19 are checked with
+    /// 15, and 22 is last.
     pub fn parse(file: &'a [u8]) -> Result<Routine<'a>, Refusal> {
         if file.len() < HEAD {
             return Err(Refusal::at(10, file.len()));
@@ -161,22 +187,39 @@ impl<'a> Routine<'a> {
         if file.len() != end {
             return Err(Refusal::at(13, 18));
         }
-        let routine = Routine {
+        let mut routine = Routine {
             arrays: file[HEAD..first_row].as_chunks().0,
             actions: &file[first_row..first_edge],
             vertices,
             edges: file[first_edge..].as_chunks().0,
+            calls: 0,
         };
         if let Some(byte) = routine.bad_array_byte() {
             return Err(Refusal::at(14, HEAD + byte));
         }
-        if let Some((number, byte)) = routine.bad_action_byte() {
-            return Err(Refusal::at(number, first_row + byte));
+        match routine.count_calls() {
+            Ok(calls) => routine.calls = calls,
+            Err((number, byte)) => return Err(Refusal::at(number, first_row + byte)),
         }
         if let Some(edge) = routine.bad_edge() {
             return Err(Refusal::at(16, first_edge + 4 * edge));
         }
+        let expanded = vertices + 2 * routine.calls;
+        if expanded > MAX_VERTICES {
+            return Err(Refusal::at(22, expanded));
+        }
         Ok(routine)
+    }
+
+    /// The same arrays with other rows, none of which is a call, and other edges.
+    pub(crate) fn with(&self, actions: &'a [u8], edges: &'a [[u8; 4]]) -> Routine<'a> {
+        Routine {
+            arrays: self.arrays,
+            actions,
+            vertices: actions.len() / self.arrays.len(),
+            edges,
+            calls: 0,
+        }
     }
 
     fn bad_array_byte(&self) -> Option<usize> {
@@ -194,23 +237,26 @@ impl<'a> Routine<'a> {
         None
     }
 
-    /// The first action byte with a fault, and the fault's number.
-    fn bad_action_byte(&self) -> Option<(u64, usize)> {
+    /// How many rows are calls, or the first action byte with a fault, after the fault's number.
+    fn count_calls(&self) -> Result<usize, (u64, usize)> {
         let arrays = self.arrays.len();
+        let mut calls = 0;
         for (vertex, row) in self.actions.chunks_exact(arrays).enumerate() {
             let zero_row = vertex == 0 || vertex == self.exit();
-            let mut kinds = 0;
+            let mut families = 0;
             for (array, (&byte, record)) in row.iter().zip(self.arrays).enumerate() {
-                kinds |= ACTION_KINDS[usize::from(byte)];
-                let unknown_or_mixed = kinds > REMAP;
-                let version_too_large = byte >= 0x40 + record[1];
+                let (family, version) = ACTIONS[usize::from(byte)];
+                families |= family;
+                let unknown_or_mixed = ALLOWED >> families & 1 == 0;
+                let version_too_large = version >= record[1];
                 if unknown_or_mixed | version_too_large | (zero_row & (byte != 0)) {
                     let number = action_fault(byte, record[1], zero_row);
-                    return Some((number, vertex * arrays + array));
+                    return Err((number, vertex * arrays + array));
                 }
             }
+            calls += usize::from(families == CALL);
         }
-        None
+        Ok(calls)
     }
 
     fn bad_edge(&self) -> Option<usize> {
@@ -262,6 +308,11 @@ impl<'a> Routine<'a> {
         self.vertices - 1
     }
 
+    /// How many rows are calls.
+    pub fn call_count(&self) -> usize {
+        self.calls
+    }
+
     /// All action bytes, by vertex, then array.
     pub fn action_bytes(&self) -> &'a [u8] {
         self.actions
@@ -282,6 +333,7 @@ impl<'a> Routine<'a> {
         match Action::from_byte(self.row(vertex)[array]) {
             Some(Action::Reference(reference)) => Event::Reference(reference),
             Some(Action::Remap(version)) => Event::Label(version),
+            Some(Action::Call(call)) => Event::Call(call),
             Some(Action::Nothing) | None => Event::Nothing,
         }
     }

@@ -1,5 +1,6 @@
 //! The run rules ("Run", first part), the report's bytes and refusals 30 to 32 and 2.
 
+use crate::calls::Room;
 use crate::labels::fixpoint::Solved;
 use crate::labels::{Label, Labels, Use, literal};
 use crate::outcome::{Outcome, Refusal};
@@ -198,8 +199,8 @@ pub fn walk(
 /// Writes the report of a path through a routine file over the front of `out`.
 pub fn run(file: &[u8], path: &[u8], out: &mut [u8]) -> Outcome {
     Outcome::of(Routine::parse(file).and_then(|routine| {
-        let mut solved = Solved::EMPTY;
-        solved.accept(&routine)?;
+        let (mut solved, mut room) = (Solved::EMPTY, Room::EMPTY);
+        let routine = solved.accept(&routine, &mut room)?;
         write(&routine, &solved, path, out)
     }))
 }
@@ -207,8 +208,9 @@ pub fn run(file: &[u8], path: &[u8], out: &mut [u8]) -> Outcome {
 /// The same with the labels by listing paths, for small routines.
 pub fn run_by_paths(file: &[u8], path: &[u8], out: &mut [u8]) -> Outcome {
     Outcome::of(Routine::parse(file).and_then(|routine| {
-        let labels = literal::accept(&routine)?;
-        write(&routine, &labels, path, out)
+        let mut room = Room::EMPTY;
+        let routine = literal::accept(&routine, &mut room)?;
+        write(&routine, &literal::labels(&routine), path, out)
     }))
 }
 

@@ -122,20 +122,35 @@ fn several_faults_of_action_bytes() {
     assert_eq!(answer([none, [READ, 0], [0, remap(0)], none]), (16, 46, 0));
 }
 
-/// The faults of each action byte with its place, each asked by itself in the words of request 2.
+/// The family of an action byte that is known, 0 for nothing, and the version that it names.
+fn family(byte: u8) -> Option<(u8, u8)> {
+    match byte {
+        0x00 => Some((0, 0)),
+        0x10 | 0x20 | 0x30 => Some((1, 0)),
+        0x40..=0x4f => Some((2, byte - 0x40)),
+        0x60..=0x7f => Some((3, byte - 0x60)),
+        0xa0..=0xbf => Some((3, byte - 0xa0)),
+        0xc0..=0xdf => Some((3, byte - 0xc0)),
+        _ => None,
+    }
+}
+
+/// The faults of each action byte with its place, each asked by itself in the words of requests 2
+/// and 3.
 fn faults(draft: &Draft) -> Vec<(usize, Vec<u64>)> {
-    let is_reference = |byte: u8| matches!(byte, 0x10 | 0x20 | 0x30);
-    let is_remap = |byte: u8| matches!(byte, 0x40..=0x4f);
+    let differ = |one: u8, other: u8| match (family(one), family(other)) {
+        (Some((one, _)), Some((other, _))) => one != 0 && other != 0 && one != other,
+        _ => false,
+    };
     let mut all = Vec::new();
     for (vertex, row) in draft.rows.iter().enumerate() {
         for (array, &byte) in row.iter().enumerate() {
             let place = 18 + 4 * draft.arrays.len() + vertex * row.len() + array;
-            let unknown = byte != 0 && !is_reference(byte) && !is_remap(byte);
-            let too_large = is_remap(byte) && byte - 0x40 >= draft.arrays[array][1];
+            let unknown = family(byte).is_none();
+            let versions = draft.arrays[array][1];
+            let too_large = family(byte).is_some_and(|(_, version)| version >= versions);
             let at_entry_or_exit = byte != 0 && (vertex == 0 || vertex == draft.rows.len() - 1);
-            let mixed = row[..array].iter().any(|&earlier| {
-                is_reference(earlier) && is_remap(byte) || is_remap(earlier) && is_reference(byte)
-            });
+            let mixed = row[..array].iter().any(|&earlier| differ(earlier, byte));
             let numbers = [
                 (15, unknown),
                 (17, too_large),
@@ -200,14 +215,16 @@ fn any_action_bytes_by_words() {
             vertices: rng.between(2, 8),
             arrays: rng.between(1, 8),
             versions: rng.between(1, 16),
+            calls: rng.pick(&[0, 50]),
         };
         let mut draft = routines::any_graph(&mut rng, size);
         for _ in 0..rng.between(1, 6) {
             let vertex = rng.below(draft.rows.len());
             let array = rng.below(draft.arrays.len());
             let remap = remap(rng.below(16) as u8);
+            let call = rng.pick(&routines::INTENTS)(rng.below(32) as u8);
             let byte = rng.byte();
-            draft.rows[vertex][array] = rng.pick(&[byte, remap, READ, DEFINE]);
+            draft.rows[vertex][array] = rng.pick(&[byte, remap, call, READ, DEFINE]);
         }
         is_answered_by_words(&draft);
         answered.insert(plan_answer(&draft.bytes()).0);
@@ -317,7 +334,11 @@ fn one_beyond_each_limit() {
             (12, 12, 0),
             (12, 12, 0),
             (12, 16, 0),
-            (14, 19, 0)
+            (14, 19, 0),
+            (22, 257, 0),
+            (22, 257, 0),
+            (22, 258, 0),
+            (22, 764, 0)
         ]
     );
 }

@@ -1,4 +1,5 @@
-//! The cases of document 01 by number, routine U, and request 1's smallest case.
+//! The cases of document 01 by number, routine U, request 1's smallest case, and routine K of
+//! request 3.
 
 use oracle::builder::{self, Draft, IN, LOCAL, READ, path_bytes, remap};
 use oracle::listing;
@@ -254,4 +255,27 @@ fn the_callers_copy() {
     let heads = |path: &[u16]| listing::report(&ran(&live, path), 1);
     assert_eq!(heads(&[0, 1, 2]), "1 3 0\n3 0 0 1 65535 0\n");
     assert_eq!(heads(&[0, 1, 2, 5]), "1 2 1\n3 0 0 1 65535 0\n");
+}
+
+/// Case 10: routine K, a call in a loop.
+#[test]
+fn case_10_a_call_in_a_loop() {
+    let draft = builder::k();
+    assert_eq!(
+        listing::plan(&planned(&draft)),
+        "vertex array use leave reach keep\n\
+         0 0 N - 0001 0002\n\
+         0 1 N - 0001 0003\n\
+         1 0 W 1 0001 0002\n\
+         1 1 R 1 0001 0003\n\
+         3 0 R 0 0002 0003\n\
+         3 1 R 0 0002 0003\n\
+         5 0 W 0 0001 0001\n"
+    );
+    assert_eq!(
+        listing::report(&ran(&draft, &[0, 1, 2, 3, 4, 1, 2, 3, 4, 5]), 2),
+        "3 1 0\n1 1 0\n\
+         3 0 1 3 65535 3\n3 1 1 1 65535 0\n5 0 0 1 3 0\n5 1 0 1 65535 0\n\
+         7 0 1 3 3 7\n7 1 1 1 65535 0\n9 0 0 1 7 0\n9 1 0 1 65535 0\n"
+    );
 }

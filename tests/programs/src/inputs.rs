@@ -23,6 +23,7 @@ pub fn all(seed: u64) -> Vec<Group> {
         ("runner, short paths", short_paths()),
         ("runner, paths about 512 vertices", long_paths()),
         ("runner, path along edges", accepted_runs(seed)),
+        ("runner, path into a call", runs_into_calls(seed)),
         ("runner, damaged path", damaged_paths(seed)),
         ("runner, refused routine", refused_runs(seed)),
     ]
@@ -113,6 +114,7 @@ fn short_paths() -> Vec<Input> {
     let files = [
         builder::p().bytes(),
         builder::t().bytes(),
+        builder::calls_in_a_loop().bytes(),
         limits::largest_report().bytes(),
         lengthened(&builder::p(), LONGEST_FILE + 1),
         b"HPFR".to_vec(),
@@ -149,10 +151,18 @@ fn long_paths() -> Vec<Input> {
         &[builder::MODIFY],
         &[(0, 1), (1, 1), (1, 2)],
     );
+    let call = Draft::one_array(
+        builder::INOUT,
+        2,
+        0,
+        &[builder::call_inout(1)],
+        &[(0, 1), (1, 1), (1, 2)],
+    );
     let files = [
         limits::largest_report().bytes(),
         limits::largest_plan().bytes(),
         loops.bytes(),
+        call.bytes(),
         builder::p().bytes(),
         builder::t().bytes(),
         b"HPFR".to_vec(),
@@ -166,7 +176,10 @@ fn long_paths() -> Vec<Input> {
         odd.push(0);
         let mut stays = [1, 0].repeat(length);
         stays[0] = 0;
-        paths.extend([round, odd, stays]);
+        // Round the one call.
+        let steps = (0..length as u16 - 1).map(|step| 1 + step % 3);
+        let calls: Vec<u16> = [0].into_iter().chain(steps).collect();
+        paths.extend([round, odd, stays, path_bytes(&calls)]);
     }
     paths.extend([vec![0; 1024], vec![0; 1026], vec![0; 8194], vec![0; 80_000]]);
     let mut inputs = Vec::new();
@@ -182,6 +195,15 @@ fn accepted_runs(seed: u64) -> Vec<Input> {
         let draft = routines::every_kind(rng, 80);
         let wanted = rng.between(1, LONGEST_PATH + 8);
         let path = paths::walk(rng, &draft, wanted);
+        Input::run(draft.bytes(), path_bytes(&path))
+    })
+}
+
+fn runs_into_calls(seed: u64) -> Vec<Input> {
+    drawn(seed, 80, |rng, _| {
+        let draft = routines::every_kind(rng, 40);
+        let mut path = paths::into_call(rng, &draft);
+        path.truncate(LONGEST_PATH);
         Input::run(draft.bytes(), path_bytes(&path))
     })
 }

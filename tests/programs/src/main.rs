@@ -11,6 +11,8 @@ use expected::{Answer, Met, Printed, program};
 use folder::{Folder, Left};
 use harness::library::Input;
 use harness::shrink::shrink;
+use oracle::builder::Draft;
+use oracle::calls::is_call;
 use oracle::generate::damage::FILE_REFUSALS;
 use oracle::routine::LONGEST_FILE;
 use std::collections::BTreeMap;
@@ -20,8 +22,23 @@ use std::path::PathBuf;
 use std::process::ExitCode;
 use std::time::Instant;
 
-/// How often each program gave each answer, and the lines of its longest output.
-type Tally = BTreeMap<(&'static str, Answer), (u64, usize)>;
+/// What the inputs with one answer of a program were.
+#[derive(Default)]
+struct Inputs {
+    count: u64,
+    /// With calls in the routine.
+    with_calls: u64,
+    /// The lines of the longest output.
+    lines: usize,
+}
+
+/// How often each program gave each answer.
+type Tally = BTreeMap<(&'static str, Answer), Inputs>;
+
+fn has_calls(input: &Input) -> bool {
+    let draft = Draft::from_bytes(&input.routine).unwrap_or_default();
+    draft.rows.iter().any(|row| is_call(row))
+}
 
 fn seed() -> Option<u64> {
     let arguments: Vec<String> = env::args().skip(1).collect();
@@ -111,9 +128,10 @@ fn hold(folder: &Folder, seed: u64, tally: &mut Tally) -> Result<Option<String>>
                 return Ok(Some(found));
             }
             let (answer, text) = expected::output(&input);
-            let (count, longest) = tally.entry((program(&input), answer)).or_default();
-            *count += 1;
-            *longest = text.lines().count().max(*longest);
+            let inputs = tally.entry((program(&input), answer)).or_default();
+            inputs.count += 1;
+            inputs.with_calls += u64::from(has_calls(&input));
+            inputs.lines = text.lines().count().max(inputs.lines);
         }
     }
     Ok(None)
@@ -144,21 +162,33 @@ fn run(seed: u64) -> Result<ExitCode> {
         return Ok(ExitCode::FAILURE);
     }
     println!(
-        "{:<10}{:<10}{:>10}{:>10}",
-        "program", "answer", "inputs", "lines"
+        "{:<10}{:<10}{:>10}{:>12}{:>10}",
+        "program", "answer", "inputs", "with calls", "lines"
     );
-    for ((program, answer), (count, longest)) in &tally {
+    for ((program, answer), inputs) in &tally {
+        let Inputs {
+            count,
+            with_calls,
+            lines,
+        } = inputs;
         println!(
-            "{program:<10}{:<10}{count:>10}{longest:>10}",
+            "{program:<10}{:<10}{count:>10}{with_calls:>12}{lines:>10}",
             answer.to_string()
         );
     }
     let seconds = start.elapsed().as_secs_f64();
-    let inputs: u64 = tally.values().map(|entry| entry.0).sum();
+    let inputs: u64 = tally.values().map(|inputs| inputs.count).sum();
     println!("{inputs} outputs agree, {seconds:.1} seconds");
     for (program, answer) in due() {
         if !tally.contains_key(&(program, answer)) {
             println!("never answered: {program} {answer}");
+            return Ok(ExitCode::FAILURE);
+        }
+    }
+    for program in ["planner", "runner"] {
+        let done = &tally[&(program, Answer::Done)];
+        if 3 * done.with_calls < done.count {
+            println!("too few calls: {program}");
             return Ok(ExitCode::FAILURE);
         }
     }

@@ -22,6 +22,7 @@ fn inputs() -> Vec<Input> {
     vec![
         Input::plan(builder::p().bytes()),
         Input::plan(limits::largest_plan().bytes()),
+        Input::plan(builder::calls_in_a_loop().bytes()),
         Input::plan(builder::t().bytes()),
         Input::plan(vec![]),
         Input::run(builder::p().bytes(), path_bytes(&[0, 1, 2, 3])),

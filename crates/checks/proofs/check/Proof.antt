@@ -1,14 +1,10 @@
 -- `checks::check` meets its contract: 20 is answered first, then 21, by the reaching sets of all arrays.
 -- Assumes nothing.
-use mathlib.Core.Path.{_≡_, _∙_}
-use Prim.Native.Nat.{ℕ}
-use native.Mathlib.Omega.{arith}
+use mathlib.Core.Path.{_∙_}
 use borrow.Author.Needs.{needs}
 use Rattle.labels.specs.Checks.{check21, programmerCheck}
 use Rattle.refusal.proofs.Checks.{fails, passes}
-use Rattle.refusal.specs.declared.Refusal.{Refusal}
-use Rattle.refusal.specs.declared.Verdict.{Verdict}
-use Rattle.refusal.specs.declared.Verdict.the-variants.{Passed, Failed}
+use Rattle.checks.proofs.Rows.{not-passed, reaching-there}
 use Rattle.checks.proofs.check.Statement.{statement}
 use Rattle.checks.proofs.check.Tie as tie
 
@@ -28,9 +24,6 @@ check-writes-requires c κs =
     (p .0, p .1 .1 .1 .0)
 
 -- ---- 20
-
-not-passed : {A : Type 0} {v : Verdict} {r : Refusal} → v ≡ Failed r → v ≡ Passed → A
-not-passed f e = absurd (let z : _≡_ {A = ℕ} 0 1 = cc in omega arith)
 
 enum-told : tie.Need-enum-told
 enum-told c = search needs
@@ -75,7 +68,7 @@ check-ambiguous-requires : tie.Need-check-ambiguous-requires
 check-ambiguous-requires c κs =
     let r = c .before .before .before .before .before .before .before in
     let p = start (lettered r) .pre in
-    (p .0, (p .1 .1 .1 .0, r .reaching2 .ensures))
+    (p .0, (p .1 .1 .1 .0, reaching-there (r .reaching2 .ensures)))
 
 same-length : tie.Need-same-length
 same-length c = reached c .before .before .before .before .before .before .before .before .reorder .kept .1 .1 .0

@@ -60,14 +60,14 @@ leaving-absent file a proper v =
     go R n h e = absurd (omega arith)
     go W n h e = absurd (omega arith)
 
-pub demand2 : (file : List ℕ) → WellFormed file → Demand2 file
-demand2 file well = record {
-  letters = λ a v h. use-exact file a (proper file well a h) v;
-  leaving = λ a v h. leaving-version file a v;
-  leaving-none = λ a v h. leaving-absent file a (proper file well a h) v;
-  reaching = λ a v h. reaching-exact file a (proper file well a h) v;
-  kept = λ a v h. kept-exact file a (proper file well a h) v;
-  dropped = λ a v h l e. Iff·trans (dropped-n file a v l) (dropped-exact file a (proper file well a h) v e);
-  unambiguous = check21-passed file (proper file well);
-  ambiguous = check21-failed file (proper file well);
+pub demand2 : (routine judged : List ℕ) → WellFormed routine → WellFormed judged → Demand2 routine judged
+demand2 routine judged well formed = record {
+  letters = λ a v h. use-exact routine a (proper routine well a h) v;
+  leaving = λ a v h. leaving-version routine a v;
+  leaving-none = λ a v h. leaving-absent routine a (proper routine well a h) v;
+  reaching = λ a v h. reaching-exact routine a (proper routine well a h) v;
+  kept = λ a v h. kept-exact routine a (proper routine well a h) v;
+  dropped = λ a v h l e. Iff·trans (dropped-n routine a v l) (dropped-exact routine a (proper routine well a h) v e);
+  unambiguous = check21-passed judged (proper judged formed);
+  ambiguous = check21-failed judged (proper judged formed);
 }

@@ -1,15 +1,20 @@
--- `plan` meets its contract: the reader's refusal is handed on, and a routine that was read is planned.
+-- `plan` meets its contract: the reader's refusal is handed on, and a routine that was read is planned, or the one that it expands to.
 -- Assumes nothing.
-use mathlib.Core.Path.{sym, ap, _∙_}
-use lib.ListN.{length}
-use Rattle.refusal.specs.Replies.{replyOutcome}
-use Rattle.planned.specs.Calls.{planOf, planCheck, plannerCheck}
-use Rattle.planbytes.specs.Plan.{planBytes, planLength}
-use Rattle.labels.proofs.Rules.Demand.{demand2}
-use Rattle.routine.proofs.Accepted.{accepted, passed-read, refused-way, read-way, unwritten}
+use mathlib.Core.Path.{_≡_, sym, ap, _∙_}
+use Rattle.planned.proofs.Ways.{read-denied, plain-planned}
+use Rattle.refusal.specs.declared.Verdict.the-variants.{Passed}
+use Rattle.routine.proofs.Accepted.{accepted, read-passed, read-failed}
+use Rattle.routine.specs.Reader.{readCheck, deniedOf}
 use borrow.Author.Needs.{needs}
 use Rattle.plan.proofs.plan.Statement.{statement}
 use Rattle.plan.proofs.plan.Tie as tie
+
+abbrev start : tie.After-any → tie.Start
+start c = c .before .before .before .before .before .before .before
+
+-- the routine was read
+passed : (c : tie.After-any) → readCheck (start c .args .file .now) ≡ Passed
+passed c = read-passed (start c .args .file .now) (sym (c .before .before .before .before .read .ensures) ∙ c .before .before .answer .given .1)
 
 read-requires : tie.Need-read-requires
 read-requires c κs = search needs
@@ -24,41 +29,40 @@ denied-requires : tie.Need-denied-requires
 denied-requires c κs = search needs
 
 returns : tie.Need-returns
-unfolding planOf planCheck
 returns c =
     let s = c .before .before .before .before .before .before in
-    let file = s .args .file .now in
     let e = c .before .enum-told .given .1 in
-    let same = c .denied .ensures ∙ refused-way file (c .before .before .before .read .ensures) (plannerCheck file (length (s .args .out .now))) (planLength file) e in
-    record {
-      answer = same;
-      outcome = ap replyOutcome same;
-      buffer = unwritten (planBytes file) (s .args .out .now) (c .denied .ensures) e;
-      demand = λ r. demand2 file (passed-read file r);
-    }
+    read-denied (s .args .file .now) (s .args .out .now) (read-failed (s .args .file .now) (sym (c .before .before .before .read .ensures) ∙ e)) (c .denied .ensures ∙ ap deniedOf e)
 
-plan-read-requires : tie.Need-plan-read-requires
-plan-read-requires c κs =
-    let s = c .before .before .before .before .before .before .before in
-    let r = accepted (s .args .file .now) (sym (c .before .before .before .before .read .ensures) ∙ c .before .before .answer .given .1) in
-    record { well = r .0; heads = r .1 }
+any-requires : tie.Need-any-requires
+any-requires c κs = accepted (c .before .before .before .before .before .before .args .file .now) (sym (c .before .before .before .read .ensures) ∙ c .before .answer .given .1) .1
+
+plan-calls-requires : tie.Need-plan-calls-requires
+plan-calls-requires c κs =
+    let n = c .before .before in
+    let r = accepted (start n .args .file .now) (sym (n .before .before .before .before .read .ensures) ∙ n .before .before .answer .given .1) in
+    record { read = record { well = r .0; heads = r .1 }; passed = passed n; some = sym (n .any .ensures) ∙ c .before .if1 .taken }
 
 same-length : tie.Need-same-length
 same-length c = search needs
 
 returns-2 : tie.Need-returns-2
-unfolding planOf planCheck
-returns-2 c =
-    let s = c .before .before .before .before .before .before .before .before .before .before in
-    let file = s .args .file .now in
-    let p = c .before .before .plan-read .ensures in
-    let same = p .answer ∙ read-way file (c .before .before .before .before .before .before .before .read .ensures) (plannerCheck file (length (s .args .out .now))) (planLength file) (c .before .before .before .before .before .answer .given .1) in
-    record {
-      answer = same;
-      outcome = ap replyOutcome same;
-      buffer = p .buffer;
-      demand = λ r. demand2 file (passed-read file r);
-    }
+returns-2 c = search needs
+
+plan-read-requires : tie.Need-plan-read-requires
+plan-read-requires c κs =
+    let n = c .before .before in
+    let r = accepted (start n .args .file .now) (sym (n .before .before .before .before .read .ensures) ∙ n .before .before .answer .given .1) in
+    record { well = r .0; heads = r .1 }
+
+same-length-2 : tie.Need-same-length-2
+same-length-2 c = search needs
+
+returns-3 : tie.Need-returns-3
+returns-3 c =
+    let p = c .before .before in
+    let n = p .before .before .before in
+    plain-planned (start n .args .file .now) (start n .args .out .now) (passed n) (sym (n .any .ensures) ∙ p .before .before .if1 .left) (p .plan-read .ensures)
 
 pub plan-spec : {M : Type 1} → statement M
 plan-spec =
@@ -69,6 +73,10 @@ plan-spec =
     enum-told
     denied-requires
     returns
-    plan-read-requires
+    any-requires
+    plan-calls-requires
     same-length
-    returns-2)
+    returns-2
+    plan-read-requires
+    same-length-2
+    returns-3)

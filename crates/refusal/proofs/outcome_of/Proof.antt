@@ -51,17 +51,20 @@ enum-known-r-11 c = search needs
 enum-known-r-12 : tie.Need-enum-known-r-12
 enum-known-r-12 c = search needs
 
-enum-told-4 : tie.Need-enum-told-4
-enum-told-4 c = search needs
-
 enum-known-r-13 : tie.Need-enum-known-r-13
 enum-known-r-13 c = search needs
+
+enum-told-4 : tie.Need-enum-told-4
+enum-told-4 c = search needs
 
 enum-known-r-14 : tie.Need-enum-known-r-14
 enum-known-r-14 c = search needs
 
 enum-known-r-15 : tie.Need-enum-known-r-15
 enum-known-r-15 c = search needs
+
+enum-known-r-16 : tie.Need-enum-known-r-16
+enum-known-r-16 c = search needs
 
 returns : tie.Need-returns
 returns c = sym (ap outcomeOf (c .before .r .given .1))
@@ -109,16 +112,19 @@ returns-15 : tie.Need-returns-15
 returns-15 c = sym (ap outcomeOf (c .before .r12 .given .1))
 
 returns-16 : tie.Need-returns-16
-returns-16 c = sym (ap outcomeOf (c .enum-told4 .given .1))
+returns-16 c = sym (ap outcomeOf (c .before .r13 .given .1))
 
 returns-17 : tie.Need-returns-17
-returns-17 c = sym (ap outcomeOf (c .before .r13 .given .1))
+returns-17 c = sym (ap outcomeOf (c .enum-told4 .given .1))
 
 returns-18 : tie.Need-returns-18
 returns-18 c = sym (ap outcomeOf (c .before .r14 .given .1))
 
 returns-19 : tie.Need-returns-19
 returns-19 c = sym (ap outcomeOf (c .before .r15 .given .1))
+
+returns-20 : tie.Need-returns-20
+returns-20 c = sym (ap outcomeOf (c .before .r16 .given .1))
 
 pub outcome-of-spec : {M : Type 1} → statement M
 outcome-of-spec =
@@ -139,10 +145,11 @@ outcome-of-spec =
     enum-known-r-10
     enum-known-r-11
     enum-known-r-12
-    enum-told-4
     enum-known-r-13
+    enum-told-4
     enum-known-r-14
     enum-known-r-15
+    enum-known-r-16
     returns
     returns-2
     returns-3
@@ -161,4 +168,5 @@ outcome-of-spec =
     returns-16
     returns-17
     returns-18
-    returns-19)
+    returns-19
+    returns-20)

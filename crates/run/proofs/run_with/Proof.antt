@@ -138,7 +138,7 @@ returns-2 c =
     let t = keeps (c .before .before) in
     let q = replied t in
     let s = start (prepared q) in
-    written-ran (s .args .file .now) (s .args .path .now) (s .args .out .now) (q .reply .ensures) (t .before .before .before .before .before .before .before .enum-told2 .given .1) (s .pre .0 .well) (c .before .before .write .ensures)
+    written-ran (s .args .file .now) (s .args .path .now) (s .args .out .now) (q .reply .ensures) (t .before .before .before .before .before .before .before .enum-told2 .given .1) (c .before .before .write .ensures)
 
 pub run-with-spec : {M : Type 1} → statement M
 run-with-spec =

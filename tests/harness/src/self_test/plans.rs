@@ -1,6 +1,6 @@
 //! Faults of a planner.
 
-use super::{labelled_home, outcome, planner};
+use super::{labelled_home, outcome, planner, with_expanded};
 use crate::check::Difference;
 use crate::drive::Mismatch;
 use crate::library::Plan;
@@ -11,11 +11,11 @@ use oracle::routine::{Action, Event, Kind, Reference, Routine};
 use std::sync::Mutex;
 
 /// The labels of a plan that was written: vertex and record.
-fn labels<'a>(file: &[u8], out: &'a mut [u8]) -> Vec<(usize, &'a mut [u8])> {
-    let routine = Routine::parse(file).unwrap();
-    let (head, records) = out.split_at_mut(8 + 4 * routine.vertex_count());
+fn labels(out: &mut [u8]) -> Vec<(usize, &mut [u8])> {
+    let vertex_count = usize::from(u16::from_le_bytes([out[4], out[5]]));
+    let (head, records) = out.split_at_mut(8 + 4 * vertex_count);
     let word = |at: usize| usize::from(u16::from_le_bytes([head[at], head[at + 1]]));
-    let counts = (0..routine.vertex_count()).map(|vertex| (vertex, word(10 + 4 * vertex)));
+    let counts = (0..vertex_count).map(|vertex| (vertex, word(10 + 4 * vertex)));
     let vertices = counts.flat_map(|(vertex, count)| std::iter::repeat_n(vertex, count));
     vertices.zip(records.chunks_exact_mut(8)).collect()
 }
@@ -33,7 +33,7 @@ fn old_value_read(routine: &Routine, array: usize, vertex: usize, seen: &mut Vec
             match routine.event(next, array) {
                 Event::Reference(Reference::Read | Reference::Modify) => true,
                 Event::Nothing => old_value_read(routine, array, next, seen),
-                Event::Reference(Reference::Define) | Event::Label(_) => false,
+                Event::Reference(Reference::Define) | Event::Label(_) | Event::Call(_) => false,
             }
         })
 }
@@ -44,16 +44,17 @@ fn define_on_one_branch_only() {
     fn faulty(file: &[u8], out: &mut [u8]) -> Outcome {
         let answer = plan::plan(file, out);
         if answer.number == 0 {
-            let routine = Routine::parse(file).unwrap();
-            for (vertex, label) in labels(file, out) {
-                let array = usize::from(label[0]);
-                if label[1] == b'W'
-                    && vertex != routine.exit()
-                    && !old_value_read(&routine, array, vertex, &mut Vec::new())
-                {
-                    label[1] = b'D';
+            with_expanded(file, |routine| {
+                for (vertex, label) in labels(out) {
+                    let array = usize::from(label[0]);
+                    if label[1] == b'W'
+                        && vertex != routine.exit()
+                        && !old_value_read(routine, array, vertex, &mut Vec::new())
+                    {
+                        label[1] = b'D';
+                    }
                 }
-            }
+            });
         }
         answer
     }
@@ -73,13 +74,14 @@ fn plan_before_request_1(file: &[u8], out: &mut [u8]) -> Outcome {
     let home = labelled_home(file);
     let answer = plan::plan(&home, out);
     if answer.number == 0 {
-        let routine = Routine::parse(file).unwrap();
-        for (vertex, label) in labels(&home, out) {
-            let kind = routine.array(usize::from(label[0])).kind;
-            if vertex == routine.exit() && kind == Kind::In {
-                label[1] = b'R';
+        with_expanded(file, |routine| {
+            for (vertex, label) in labels(out) {
+                let kind = routine.array(usize::from(label[0])).kind;
+                if vertex == routine.exit() && kind == Kind::In {
+                    label[1] = b'R';
+                }
             }
-        }
+        });
     }
     answer
 }
@@ -111,17 +113,18 @@ fn kept_for_a_label_that_is_gone() {
     fn faulty(file: &[u8], out: &mut [u8]) -> Outcome {
         let answer = plan::plan(file, out);
         if answer.number == 0 {
-            let routine = Routine::parse(file).unwrap();
             let mut before = vec![0; plan::LONGEST_PLAN];
             plan_before_request_1(file, &mut before);
-            let before = labels(&labelled_home(file), &mut before);
-            let left = before.iter().filter(|(vertex, label)| {
-                let kind = routine.array(usize::from(label[0])).kind;
-                *vertex != routine.exit() || kind != Kind::In
+            let before = labels(&mut before);
+            with_expanded(file, |routine| {
+                let left = before.iter().filter(|(vertex, label)| {
+                    let kind = routine.array(usize::from(label[0])).kind;
+                    *vertex != routine.exit() || kind != Kind::In
+                });
+                for ((_, label), (_, before)) in labels(out).into_iter().zip(left) {
+                    label[6..8].copy_from_slice(&before[6..8]);
+                }
             });
-            for ((_, label), (_, before)) in labels(file, out).into_iter().zip(left) {
-                label[6..8].copy_from_slice(&before[6..8]);
-            }
         }
         answer
     }
@@ -138,7 +141,7 @@ fn nothing_kept_at_a_dropped_label() {
     fn faulty(file: &[u8], out: &mut [u8]) -> Outcome {
         let answer = plan::plan(file, out);
         if answer.number == 0 {
-            for (_, label) in labels(file, out) {
+            for (_, label) in labels(out) {
                 if label[1] == b'N' {
                     label[6..8].fill(0);
                 }
@@ -157,7 +160,7 @@ fn last_of_eight_arrays() {
     fn faulty(file: &[u8], out: &mut [u8]) -> Outcome {
         let answer = plan::plan(file, out);
         if answer.number == 0 {
-            for (_, label) in labels(file, out) {
+            for (_, label) in labels(out) {
                 if label[0] == 7 && label[1] == b'R' {
                     label[4] ^= 1;
                 }
@@ -230,13 +233,18 @@ fn row_of(draft: &Draft, place: u64) -> (usize, usize) {
     (index / draft.arrays.len(), index % draft.arrays.len())
 }
 
-fn is_remap(byte: u8) -> bool {
-    (0x40..0x50).contains(&byte)
+/// References, remappings, calls.
+fn family(byte: u8) -> u8 {
+    match byte {
+        0..0x40 => 1,
+        0x40..0x60 => 2,
+        _ => 3,
+    }
 }
 
-/// Whether a row has a reference or a remapping beside this byte, which is of the other kind.
+/// Where a row has a byte of another family than this one.
 fn mixed_with(row: &[u8], byte: u8) -> Option<usize> {
-    let other = |&earlier: &u8| earlier != 0 && is_remap(earlier) != is_remap(byte);
+    let other = |&earlier: &u8| earlier != 0 && family(earlier) != family(byte);
     row.iter().position(other)
 }
 
@@ -408,8 +416,8 @@ fn an_exact_buffer_refused() {
 fn wrong_with<const VERTICES: usize, const EDGES: usize>(file: &[u8], out: &mut [u8]) -> Outcome {
     let answer = plan::plan(file, out);
     if answer.number == 0 {
-        let routine = Routine::parse(file).unwrap();
-        out[7] ^= u8::from(routine.vertex_count() == VERTICES && routine.edge_count() == EDGES);
+        let counts = |routine: &Routine| (routine.vertex_count(), routine.edge_count());
+        out[7] ^= u8::from(with_expanded(file, counts) == (VERTICES, EDGES));
     }
     answer
 }
@@ -425,6 +433,8 @@ fn a_table_that_ends_too_early() {
         wrong_with::<33, 129>,
         wrong_with::<128, 512>,
         wrong_with::<129, 513>,
+        wrong_with::<256, 1025>,
+        wrong_with::<256, 1192>,
     ] {
         let (mismatch, _) = planner(faulty);
         assert_eq!(mismatch.fault.difference, Difference::Written(7));
@@ -440,10 +450,12 @@ fn the_last_array_of_20() {
         if answer.number == 20 {
             let routine = Routine::parse(file).unwrap();
             let is_changed = |array: &usize| {
-                let event = routine.event(answer.first as usize, *array);
-                let change = Event::Reference(Reference::Define);
-                routine.array(*array).kind == Kind::In
-                    && (event == change || event == Event::Reference(Reference::Modify))
+                let changes = match routine.event(answer.first as usize, *array) {
+                    Event::Reference(reference) => reference != Reference::Read,
+                    Event::Call(call) => call.intent != Reference::Read,
+                    _ => false,
+                };
+                routine.array(*array).kind == Kind::In && changes
             };
             let last = (0..routine.array_count()).rfind(is_changed);
             answer.second = last.unwrap() as u64;

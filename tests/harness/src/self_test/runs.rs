@@ -1,6 +1,6 @@
 //! Faults of a runner.
 
-use super::{labelled_home, outcome, runner};
+use super::{labelled_home, outcome, runner, with_expanded};
 use crate::check::Difference;
 use crate::library::Run;
 use oracle::builder;
@@ -76,7 +76,7 @@ fn change_callers(
     if answer.number == 0 {
         let routine = Routine::parse(file).unwrap();
         let steps = run::vertices(path).len();
-        if run::vertices(path).last() == Some(routine.exit()) {
+        if run::vertices(path).last() == Some(with_expanded(file, |routine| routine.exit())) {
             let mut before = vec![0; LONGEST_REPORT];
             run::run(file, &path[..2 * (steps - 1)], &mut before);
             let heads = out.chunks_exact_mut(6).zip(before.chunks_exact(6));

@@ -1,27 +1,35 @@
 //! Files and paths that are refused.
 
 use super::rng::Rng;
-use super::routines::{self, Size};
-use crate::builder::{DEFINE, Draft, IN, INOUT, LOCAL, MODIFY, READ, remap};
-use crate::labels::fixpoint;
-use crate::routine::{HEAD, MAX_VERSIONS, Routine};
-
-/// The refusals that a routine file can meet.
-pub const FILE_REFUSALS: [u64; 12] = [10, 11, 12, 13, 14, 15, 16, 17, 18, 19, 20, 21];
-
-/// Action bytes that stand for nothing.
-const UNKNOWN: [u8; 7] = [0x01, 0x0f, 0x11, 0x3f, 0x50, 0x80, 0xff];
-
-const SMALL: Size = Size {
-    vertices: 12,
-    arrays: 3,
-    versions: 4,
+use super::routines::{self, INTENTS, Size};
+use crate::builder::{
+    DEFINE, Draft, IN, INOUT, LOCAL, MODIFY, READ, call_in, call_inout, call_out, remap,
 };
+use crate::calls::is_call;
+use crate::labels::fixpoint;
+use crate::routine::{HEAD, MAX_VERSIONS, MAX_VERTICES, Routine};
+
+/// The refusals that a routine file can meet, 21 last.
+pub const FILE_REFUSALS: [u64; 13] = [10, 11, 12, 13, 14, 15, 16, 17, 18, 19, 20, 22, 21];
+
+/// Action bytes that stand for nothing, about those that do.
+const UNKNOWN: [u8; 12] = [
+    0x01, 0x0f, 0x11, 0x3f, 0x50, 0x5f, 0x80, 0x81, 0x9f, 0xe0, 0xef, 0xff,
+];
+
+/// The versions that a call's byte has room for.
+const CALL_VERSIONS: usize = 32;
 
 /// A well-formed routine with at least three vertices and two edges.
 fn base(rng: &mut Rng) -> Draft {
+    let size = Size {
+        vertices: 16,
+        arrays: 3,
+        versions: 4,
+        calls: routines::any_calls(rng),
+    };
     loop {
-        let draft = routines::accepted(rng, SMALL);
+        let draft = routines::accepted(rng, size);
         if draft.rows.len() > 2 && draft.edges.len() > 1 {
             return draft;
         }
@@ -59,13 +67,14 @@ pub fn refused(rng: &mut Rng, number: u64) -> Vec<u8> {
     file
 }
 
-/// A fault with one of the numbers 14 to 20.
+/// A fault with one of the numbers 14 to 20 and 22.
 fn damage_parts(rng: &mut Rng, draft: &mut Draft, number: u64) {
     match number {
         14 => damage_array(rng, draft),
         15 | 17 | 18 | 19 => damage_action(rng, draft, number),
         16 => damage_edge(rng, draft),
         20 => change_in_argument(rng, draft),
+        22 => add_calls(rng, draft),
         _ => {}
     }
 }
@@ -121,12 +130,17 @@ fn damage_action(rng: &mut Rng, draft: &mut Draft, number: u64) {
     match number {
         15 => draft.rows[rng.below(exit + 1)][array] = rng.pick(&UNKNOWN),
         17 => {
-            let version = rng.between(usize::from(versions), MAX_VERSIONS - 1) as u8;
-            draft.rows[rng.below(exit + 1)][array] = remap(version);
+            let (action, room) = match rng.below(2) {
+                0 => (remap as fn(u8) -> u8, MAX_VERSIONS),
+                _ => (rng.pick(&INTENTS), CALL_VERSIONS),
+            };
+            let version = rng.between(usize::from(versions), room - 1) as u8;
+            draft.rows[rng.below(exit + 1)][array] = action(version);
         }
         18 => {
             let version = rng.below(usize::from(versions)) as u8;
-            let action = rng.pick(&[READ, DEFINE, MODIFY, remap(version)]);
+            let call = rng.pick(&INTENTS)(version);
+            let action = rng.pick(&[READ, DEFINE, MODIFY, remap(version), call, call]);
             draft.rows[rng.pick(&[0, exit])][array] = action;
         }
         _ => {
@@ -137,7 +151,14 @@ fn damage_action(rng: &mut Rng, draft: &mut Draft, number: u64) {
             }
             let row = &mut draft.rows[rng.between(1, exit - 1)];
             row.fill(0);
-            let pair = rng.pick(&[[READ, remap(0)], [remap(0), DEFINE]]);
+            let pair = rng.pick(&[
+                [READ, remap(0)],
+                [remap(0), DEFINE],
+                [MODIFY, call_in(0)],
+                [call_out(0), READ],
+                [remap(0), call_inout(0)],
+                [call_in(0), remap(0)],
+            ]);
             row[array] = pair[0];
             *row.last_mut().expect("there is an array") = pair[1];
         }
@@ -148,11 +169,23 @@ fn damage_action(rng: &mut Rng, draft: &mut Draft, number: u64) {
 /// each other have rows of these bytes: faults of 15, 17, 18 and 19 in every order, and several in
 /// one byte.
 pub fn all_of_two_rows() -> impl Iterator<Item = Vec<u8>> {
-    const BYTES: [u8; 8] = [0, READ, MODIFY, remap(0), remap(1), remap(2), 0x0f, 0xff];
-    (0..3 * 8usize.pow(4)).map(|index| {
-        let byte = |place: u32| BYTES[index / 8usize.pow(place) % 8];
+    const BYTES: [u8; 11] = [
+        0,
+        READ,
+        MODIFY,
+        remap(0),
+        remap(1),
+        remap(2),
+        call_in(1),
+        call_out(0),
+        call_inout(31),
+        0x80,
+        0xff,
+    ];
+    (0..3 * 11usize.pow(4)).map(|index| {
+        let byte = |place: u32| BYTES[index / 11usize.pow(place) % 11];
         let mut rows = vec![vec![0, 0]; 4];
-        let first = index / 8usize.pow(4);
+        let first = index / 11usize.pow(4);
         rows[first] = vec![byte(3), byte(2)];
         rows[first + 1] = vec![byte(1), byte(0)];
         let draft = Draft {
@@ -179,8 +212,8 @@ fn damage_edge(rng: &mut Rng, draft: &mut Draft) {
     }
 }
 
-/// A define or modify of an in argument, often of several in one row, beside references that
-/// are allowed.
+/// A define or modify of an in argument, or a call that passes one as out or inout, often of several
+/// in one row, beside references or calls that are allowed.
 fn change_in_argument(rng: &mut Rng, draft: &mut Draft) {
     let always = rng.below(draft.arrays.len());
     for (array, record) in draft.arrays.iter_mut().enumerate() {
@@ -190,14 +223,42 @@ fn change_in_argument(rng: &mut Rng, draft: &mut Draft) {
     }
     for _ in 0..rng.between(1, 3) {
         let vertex = rng.between(1, draft.rows.len() - 2);
+        let calls = rng.chance(50);
         for (array, action) in draft.rows[vertex].iter_mut().enumerate() {
+            let version = rng.below(usize::from(draft.arrays[array][1]));
+            let [read, define, modify] = match calls {
+                true => INTENTS.map(|intent| intent(version as u8)),
+                false => [READ, DEFINE, MODIFY],
+            };
             *action = if array == always {
-                rng.pick(&[DEFINE, MODIFY])
+                rng.pick(&[define, modify])
             } else {
-                rng.pick(&[0, READ, DEFINE, MODIFY])
+                rng.pick(&[0, read, define, modify])
             };
         }
     }
+}
+
+/// Puts vertices that no edge leaves before the exit, calls among them: there are more than 256
+/// once the calls are expanded, often one or two more. An edge to the exit leads to the first.
+fn add_calls(rng: &mut Rng, draft: &mut Draft) {
+    let exit = draft.rows.pop().expect("there is an exit");
+    let mut expanded = draft.places().len() + 1;
+    let beyond = match rng.below(4) {
+        0 => 1,
+        1 => 2,
+        _ => rng.between(1, 200),
+    };
+    while expanded < MAX_VERTICES + beyond {
+        let row = if MAX_VERTICES + beyond - expanded < 3 {
+            vec![0; draft.arrays.len()]
+        } else {
+            routines::row(rng, &draft.arrays, 85)
+        };
+        expanded += if is_call(&row) { 3 } else { 1 };
+        draft.rows.push(row);
+    }
+    draft.rows.push(exit);
 }
 
 /// A routine with an ambiguous reference.
@@ -212,11 +273,14 @@ fn ambiguous(rng: &mut Rng) -> Vec<u8> {
     }
 }
 
-/// A file with two to four faults of any numbers: the one that is checked first wins.
+/// A file with two to four faults of any numbers, or of those behind the head's: the one that is
+/// checked first wins.
 pub fn several_faults(rng: &mut Rng) -> Vec<u8> {
-    let mut numbers: Vec<u64> = (0..rng.between(2, 4))
-        .map(|_| rng.pick(&FILE_REFUSALS[..11]))
-        .collect();
+    let numbers = match rng.below(2) {
+        0 => &FILE_REFUSALS[..12],
+        _ => &FILE_REFUSALS[4..12],
+    };
+    let mut numbers: Vec<u64> = (0..rng.between(2, 4)).map(|_| rng.pick(numbers)).collect();
     // Faults of the head last: they can cut the file short.
     numbers.sort_unstable_by(|one, other| other.cmp(one));
     let mut draft = base(rng);

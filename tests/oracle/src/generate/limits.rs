@@ -2,8 +2,10 @@
 
 use super::rng::Rng;
 use super::routines::{self, Size};
-use crate::builder::{DEFINE, Draft, INOUT, LOCAL, MODIFY, READ, remap};
-use crate::routine::{MAX_ARRAYS, MAX_EDGES, MAX_VERSIONS, MAX_VERTICES};
+use crate::builder::{DEFINE, Draft, IN, INOUT, LOCAL, MODIFY, READ, call_in, remap};
+use crate::routine::{
+    MAX_ARRAYS, MAX_CALLS, MAX_EDGES, MAX_EXPANDED_EDGES, MAX_VERSIONS, MAX_VERTICES,
+};
 
 /// Eight inout arrays, 256 vertices and 1,024 edges: each vertex has edges to the next
 /// three and to vertex 1, some to themselves.
@@ -150,6 +152,7 @@ fn about_powers_of_two(rng: &mut Rng) -> Vec<Draft> {
                 vertices,
                 arrays: MAX_ARRAYS,
                 versions: 4,
+                calls: 0,
             };
             drafts.extend(edges.map(|edges| {
                 let mut draft = routines::graph_of(rng, size, edges);
@@ -159,6 +162,116 @@ fn about_powers_of_two(rng: &mut Rng) -> Vec<Draft> {
         }
     }
     drafts
+}
+
+/// Rows of eight arrays that become so many vertices once so many calls are expanded. Vertex 1
+/// remaps every array, calls and references follow in any order, and no other row is a label.
+fn rows_of_calls(rng: &mut Rng, vertices: usize, calls: usize) -> Draft {
+    let arrays = routines::arrays(rng, Size::LARGEST);
+    let exit = vertices - 2 * calls - 1;
+    let mut rows = vec![vec![0; MAX_ARRAYS]; exit + 1];
+    let remaps = |&[_, versions, ..]: &[u8; 4]| remap(rng.below(usize::from(versions)) as u8);
+    rows[1] = arrays.iter().map(remaps).collect();
+    let mut calls_left = calls;
+    for (vertex, row) in rows.iter_mut().enumerate().take(exit).skip(2) {
+        if rng.below(exit - vertex) < calls_left {
+            calls_left -= 1;
+            *row = routines::call_row(rng, &arrays);
+        } else {
+            let references = arrays.iter().map(|&[kind, ..]| match kind {
+                IN => READ,
+                _ => rng.pick(&[0, READ, DEFINE, MODIFY]),
+            });
+            *row = references.collect();
+        }
+    }
+    Draft {
+        arrays,
+        rows,
+        edges: Vec::new(),
+    }
+}
+
+/// A routine that becomes so many vertices and edges once so many calls are expanded. The entry
+/// leads to vertex 1 alone, which remaps every array: it is accepted.
+fn graph_of_calls(rng: &mut Rng, vertices: usize, calls: usize, edges: usize) -> Draft {
+    let mut draft = rows_of_calls(rng, vertices, calls);
+    let exit = draft.rows.len() - 1;
+    let mut list: Vec<(u16, u16)> = (0..exit as u16)
+        .map(|vertex| (vertex, vertex + 1))
+        .collect();
+    while list.len() < edges - 2 * calls {
+        let edge = (rng.between(1, exit - 1) as u16, rng.between(1, exit) as u16);
+        if let Err(place) = list.binary_search(&edge) {
+            list.insert(place, edge);
+        }
+    }
+    draft.edges = list;
+    routines::make_acceptable(rng, &mut draft);
+    draft
+}
+
+/// 88 vertices, of which 84 are calls, and 1,024 edges: 256 and 1,192 once they are expanded.
+pub fn most_calls(rng: &mut Rng) -> Draft {
+    graph_of_calls(rng, MAX_VERTICES, MAX_CALLS, MAX_EXPANDED_EDGES)
+}
+
+/// Routines with calls that have a count at its limit, or about one where a smaller table may end,
+/// once the calls are expanded; each is well formed.
+fn calls_at_limits(rng: &mut Rng) -> Vec<Draft> {
+    let counts = [
+        (MAX_VERTICES, MAX_CALLS, MAX_EXPANDED_EDGES),
+        (MAX_VERTICES, MAX_CALLS, MAX_EXPANDED_EDGES - 1),
+        (MAX_VERTICES, MAX_CALLS, 300),
+        (MAX_VERTICES - 1, MAX_CALLS, MAX_EXPANDED_EDGES),
+        (MAX_VERTICES, 1, MAX_EDGES + 2),
+        (MAX_VERTICES, 40, MAX_EDGES - 1),
+        (MAX_VERTICES, 40, MAX_EDGES),
+        (MAX_VERTICES, 40, MAX_EDGES + 1),
+        (32, 8, 127),
+        (32, 8, 128),
+        (32, 8, 129),
+        (33, 8, 127),
+        (33, 8, 128),
+        (33, 8, 129),
+        (34, 10, 128),
+    ];
+    let graphs = counts.map(|(vertices, calls, edges)| graph_of_calls(rng, vertices, calls, edges));
+    let mut drafts = graphs.to_vec();
+    // No path gets to any of the calls.
+    let mut unreached = drafts[0].clone();
+    unreached.edges.remove(0);
+    drafts.push(unreached);
+    // Calls in a row, numbered along the path and against it.
+    let mut chain = rows_of_calls(rng, MAX_VERTICES, MAX_CALLS);
+    let exit = chain.rows.len() as u16 - 1;
+    chain.edges = (0..exit).map(|vertex| (vertex, vertex + 1)).collect();
+    routines::make_acceptable(rng, &mut chain);
+    drafts.push(chain.clone());
+    chain.edges = (2..exit).map(|vertex| (vertex, vertex - 1)).collect();
+    chain.edges.extend([(0, exit - 1), (1, exit)]);
+    chain.edges.sort_unstable();
+    drafts.push(chain);
+    // As drawn, nearly all rows are calls.
+    let size = Size {
+        calls: 98,
+        ..Size::LARGEST
+    };
+    let mut draft = routines::graph_of(rng, size, MAX_EDGES);
+    drafts.push(draft.clone());
+    routines::make_acceptable(rng, &mut draft);
+    drafts.push(draft);
+    drafts
+}
+
+/// Routines with more than 256 vertices once their calls are expanded: 257, with the most calls and
+/// with one; 258; and the most.
+fn too_many_calls() -> [Draft; 4] {
+    [(87, 85), (255, 1), (256, 1), (256, 254)].map(|(vertices, calls)| {
+        let mut actions = vec![READ; vertices - 2];
+        actions[..calls].fill(call_in(1));
+        Draft::chain(LOCAL, 2, 0, &actions)
+    })
 }
 
 /// Routines with a count at its limit; each is well formed.
@@ -185,10 +298,17 @@ pub fn at_limits(rng: &mut Rng) -> Vec<Draft> {
         drafts.push(draft.clone());
         routines::make_acceptable(rng, &mut draft);
         drafts.push(draft);
-        let mut draft = routines::program(rng, Size::LARGEST);
-        routines::make_acceptable(rng, &mut draft);
-        drafts.push(draft);
+        for calls in [0, 40] {
+            let size = Size {
+                calls,
+                ..Size::LARGEST
+            };
+            let mut draft = routines::program(rng, size);
+            routines::make_acceptable(rng, &mut draft);
+            drafts.push(draft);
+        }
     }
+    drafts.extend(calls_at_limits(rng));
     drafts
 }
 
@@ -200,7 +320,7 @@ pub fn beyond_limits() -> Vec<Draft> {
         change(&mut draft);
         draft
     };
-    vec![
+    let mut drafts = vec![
         with(&|draft| {
             draft.arrays.clear();
             draft.rows.iter_mut().for_each(Vec::clear);
@@ -224,5 +344,7 @@ pub fn beyond_limits() -> Vec<Draft> {
             draft.edges = all.take(MAX_EDGES + 1).collect();
         }),
         with(&|draft| draft.arrays[0][1] = MAX_VERSIONS as u8 + 1),
-    ]
+    ];
+    drafts.extend(too_many_calls());
+    drafts
 }

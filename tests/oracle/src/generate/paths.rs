@@ -1,7 +1,8 @@
-//! Random paths along the edges of a routine, and damaged ones.
+//! Random paths along the edges of a routine whose calls are expanded, and damaged ones.
 
 use super::rng::Rng;
 use crate::builder::{Draft, path_bytes};
+use crate::calls::Part;
 use crate::run::MAX_PATH;
 
 /// How long a path may become: mostly short, sometimes up to the limit.
@@ -28,6 +29,19 @@ pub fn to_exit(rng: &mut Rng, draft: &Draft) -> Vec<u16> {
     follow(rng, draft, wanted, true)
 }
 
+/// A path that ends inside a call, if it meets one: after its first vertex or after its second.
+pub fn into_call(rng: &mut Rng, draft: &Draft) -> Vec<u16> {
+    let mut path = any(rng, draft);
+    let places = draft.places();
+    let is_before = |&index: &usize| places[usize::from(path[index])].part == Part::Before;
+    let calls: Vec<usize> = (0..path.len()).filter(is_before).collect();
+    if !calls.is_empty() {
+        let inside = usize::from(rng.chance(50));
+        path.truncate(rng.pick(&calls) + 1 + inside);
+    }
+    path
+}
+
 /// A path from the entry. It keeps away from dead ends until it has the wanted length, if
 /// it can; then it stops, or takes a shortest way to the exit.
 pub fn walk(rng: &mut Rng, draft: &Draft, wanted: usize) -> Vec<u16> {
@@ -37,6 +51,7 @@ pub fn walk(rng: &mut Rng, draft: &Draft, wanted: usize) -> Vec<u16> {
 
 /// The same; `homewards` says that it is to go on to the exit.
 fn follow(rng: &mut Rng, draft: &Draft, wanted: usize, homewards: bool) -> Vec<u16> {
+    let draft = &draft.expanded();
     let successors = draft.successors();
     let distances = distances_to_exit(draft);
     let mut path = vec![0];
@@ -84,7 +99,8 @@ pub fn damaged(rng: &mut Rng, draft: &Draft) -> Vec<u8> {
     let wanted = rng.between(1, 20);
     let mut path = walk(rng, draft, wanted);
     let place = rng.below(path.len());
-    let any_vertex = |rng: &mut Rng| rng.below(draft.rows.len() + 2) as u16;
+    let vertices = draft.places().len();
+    let any_vertex = |rng: &mut Rng| rng.below(vertices + 2) as u16;
     match rng.below(9) {
         0 => path.clear(),
         1 => path.resize(rng.between(MAX_PATH + 1, MAX_PATH + 9), 0),

@@ -1,16 +1,22 @@
 //! Random routines: like programs, or any graph; as drawn, or made acceptable.
 
 use super::rng::Rng;
-use crate::builder::{DEFINE, Draft, IN, INOUT, MODIFY, READ, remap};
+use crate::builder::{
+    DEFINE, Draft, IN, INOUT, LOCAL, MODIFY, READ, call_in, call_inout, call_out, remap,
+};
+use crate::calls::is_call;
 use crate::labels::fixpoint;
-use crate::routine::{MAX_ARRAYS, MAX_EDGES, MAX_VERSIONS, MAX_VERTICES, Routine};
+use crate::routine::{Action, MAX_ARRAYS, MAX_EDGES, MAX_VERSIONS, MAX_VERTICES, Routine};
 
 /// How large a routine may become.
 #[derive(Clone, Copy, Debug)]
 pub struct Size {
+    /// Once its calls are expanded.
     pub vertices: usize,
     pub arrays: usize,
     pub versions: usize,
+    /// How many of a hundred rows are calls.
+    pub calls: usize,
 }
 
 impl Size {
@@ -18,21 +24,32 @@ impl Size {
         vertices: MAX_VERTICES,
         arrays: MAX_ARRAYS,
         versions: MAX_VERSIONS,
+        calls: 0,
     };
 
-    /// Mostly small, sometimes up to the limits.
+    /// Mostly small, sometimes up to the limits; mostly with calls.
     pub fn any(rng: &mut Rng) -> Size {
         let (vertices, arrays, versions) = match rng.below(20) {
-            0..=9 => (rng.between(3, 12), rng.between(1, 3), rng.between(1, 4)),
-            10..=15 => (rng.between(8, 40), rng.between(1, 4), rng.between(2, 6)),
-            16..=18 => (rng.between(30, 150), rng.between(1, 8), rng.between(2, 16)),
-            _ => return Size::LARGEST,
+            0..=9 => (rng.between(3, 16), rng.between(1, 3), rng.between(1, 4)),
+            10..=15 => (rng.between(8, 60), rng.between(1, 4), rng.between(2, 6)),
+            16..=18 => (rng.between(30, 200), rng.between(1, 8), rng.between(2, 16)),
+            _ => (MAX_VERTICES, MAX_ARRAYS, MAX_VERSIONS),
         };
         Size {
             vertices,
             arrays,
             versions,
+            calls: any_calls(rng),
         }
+    }
+}
+
+/// How many of a hundred rows are calls: none in one routine of five.
+pub fn any_calls(rng: &mut Rng) -> usize {
+    match rng.below(10) {
+        0 | 1 => 0,
+        2..=7 => rng.between(15, 40),
+        _ => rng.between(40, 90),
     }
 }
 
@@ -47,8 +64,32 @@ pub fn arrays(rng: &mut Rng, size: Size) -> Vec<[u8; 4]> {
         .collect()
 }
 
-/// A row of nothing, of references or of remappings.
-pub fn row(rng: &mut Rng, arrays: &[[u8; 4]]) -> Vec<u8> {
+/// The bytes that pass an array with each intent.
+pub const INTENTS: [fn(u8) -> u8; 3] = [call_in, call_out, call_inout];
+
+/// A row that passes some arrays to a call.
+pub fn call_row(rng: &mut Rng, arrays: &[[u8; 4]]) -> Vec<u8> {
+    let mut row = vec![0; arrays.len()];
+    let always = rng.below(arrays.len());
+    for (array, &[kind, versions, ..]) in arrays.iter().enumerate() {
+        if array == always || rng.chance(40) {
+            let version = rng.below(usize::from(versions)) as u8;
+            let intent = if kind == IN && !rng.chance(1) {
+                call_in
+            } else {
+                rng.pick(&INTENTS)
+            };
+            row[array] = intent(version);
+        }
+    }
+    row
+}
+
+/// A row of nothing, of references, of remappings or, in so many of a hundred, of calls.
+pub fn row(rng: &mut Rng, arrays: &[[u8; 4]], calls: usize) -> Vec<u8> {
+    if calls > 0 && rng.chance(calls) {
+        return call_row(rng, arrays);
+    }
     let mut row = vec![0; arrays.len()];
     let remaps = match rng.below(20) {
         0..=2 => return row,
@@ -70,23 +111,37 @@ pub fn row(rng: &mut Rng, arrays: &[[u8; 4]]) -> Vec<u8> {
     row
 }
 
+/// How many vertices a row becomes.
+fn width(row: &[u8]) -> usize {
+    if is_call(row) { 3 } else { 1 }
+}
+
+/// A row after so many expanded vertices: no call where there is no room for it and the exit.
+fn fitting_row(rng: &mut Rng, arrays: &[[u8; 4]], size: Size, expanded: usize) -> Vec<u8> {
+    let has_room = expanded + 4 <= size.vertices;
+    row(rng, arrays, if has_room { size.calls } else { 0 })
+}
+
 /// A program under way: its rows and edges, and who returns to the exit.
 struct Program<'a> {
     rng: &'a mut Rng,
     draft: Draft,
-    limit: usize,
+    size: Size,
+    /// The vertices so far, once the calls are expanded.
+    expanded: usize,
     returns: Vec<u16>,
 }
 
 impl Program<'_> {
     fn is_full(&self) -> bool {
-        self.draft.rows.len() + 1 >= self.limit
+        self.expanded + 1 >= self.size.vertices
     }
 
     /// A new vertex with edges from the open ends.
     fn vertex(&mut self, open: &[u16]) -> u16 {
         let vertex = self.draft.rows.len() as u16;
-        let row = row(self.rng, &self.draft.arrays);
+        let row = fitting_row(self.rng, &self.draft.arrays, self.size, self.expanded);
+        self.expanded += width(&row);
         self.draft.rows.push(row);
         self.edges(open, vertex);
         vertex
@@ -165,7 +220,8 @@ pub fn program(rng: &mut Rng, size: Size) -> Draft {
             edges: Vec::new(),
         },
         rng,
-        limit: size.vertices,
+        size,
+        expanded: 1,
         returns: Vec::new(),
     };
     let mut open = vec![0];
@@ -201,11 +257,18 @@ fn edge(rng: &mut Rng, vertices: usize) -> (u16, u16) {
     (from as u16, to as u16)
 }
 
-/// Any graph with about so many edges; `spine` joins all vertices in order first.
+/// Any graph with about so many edges; `spine` joins all vertices in order first. Once its calls are
+/// expanded, it has as many vertices as it may.
 pub fn graph(rng: &mut Rng, size: Size, edges: usize, spine: bool) -> Draft {
-    let vertices = size.vertices;
     let arrays = arrays(rng, size);
-    let mut rows: Vec<Vec<u8>> = (0..vertices).map(|_| row(rng, &arrays)).collect();
+    let mut rows = vec![row(rng, &arrays, 0)];
+    let mut expanded = 1;
+    while expanded < size.vertices {
+        let row = fitting_row(rng, &arrays, size, expanded);
+        expanded += width(&row);
+        rows.push(row);
+    }
+    let vertices = rows.len();
     rows[0].fill(0);
     rows[vertices - 1].fill(0);
     let mut list: Vec<(u16, u16)> = Vec::new();
@@ -227,7 +290,7 @@ pub fn graph(rng: &mut Rng, size: Size, edges: usize, spine: bool) -> Draft {
 pub fn graph_of(rng: &mut Rng, size: Size, edges: usize) -> Draft {
     let mut draft = graph(rng, size, edges, true);
     while draft.edges.len() < edges {
-        let edge = edge(rng, size.vertices);
+        let edge = edge(rng, draft.rows.len());
         if let Err(place) = draft.edges.binary_search(&edge) {
             draft.edges.insert(place, edge);
         }
@@ -242,7 +305,7 @@ pub fn any_graph(rng: &mut Rng, size: Size) -> Draft {
     graph(rng, size, edges, spine)
 }
 
-/// Takes what 20 and 21 refuse out of a routine, one reference after the other.
+/// Takes what 20 and 21 refuse out of a routine, one reference or call after the other.
 pub fn make_acceptable(rng: &mut Rng, draft: &mut Draft) {
     loop {
         let file = draft.bytes();
@@ -253,7 +316,10 @@ pub fn make_acceptable(rng: &mut Rng, draft: &mut Draft) {
         let (vertex, array) = (refusal.first as usize, refusal.second as usize);
         let row = &mut draft.rows[vertex];
         if refusal.number == 20 {
-            row[array] = READ;
+            row[array] = match Action::from_byte(row[array]) {
+                Some(Action::Call(call)) => call_in(call.version),
+                _ => READ,
+            };
         } else if rng.chance(50) {
             row[array] = 0;
         } else {
@@ -282,6 +348,7 @@ pub fn every_kind(rng: &mut Rng, vertices: usize) -> Draft {
         vertices: rng.between(3, vertices),
         arrays: MAX_ARRAYS,
         versions: rng.between(1, MAX_VERSIONS),
+        calls: any_calls(rng),
     };
     let mut draft = program(rng, size);
     for (array, record) in draft.arrays.iter_mut().enumerate() {
@@ -309,20 +376,35 @@ pub fn read_only(rng: &mut Rng, size: Size) -> Draft {
     }
 }
 
-/// Every routine of one array with two versions, initial 0, and four vertices.
+/// Every routine of one array with two versions, initial 0, and four vertices. With calls, which
+/// pass the array in version 1, it is local or inout.
 pub fn all_of_four_vertices() -> impl Iterator<Item = Draft> {
-    const ACTIONS: [u8; 6] = [0, READ, DEFINE, MODIFY, remap(0), remap(1)];
+    const ACTIONS: [u8; 9] = [
+        0,
+        READ,
+        DEFINE,
+        MODIFY,
+        remap(0),
+        remap(1),
+        call_in(1),
+        call_out(1),
+        call_inout(1),
+    ];
     let all_edges: Vec<(u16, u16)> = (0..3)
         .flat_map(|from| (1..4).map(move |to| (from, to)))
         .collect();
     let edge_sets = 1 << all_edges.len();
-    (0..4 * 6 * 6 * edge_sets).map(move |index: usize| {
+    (0..4 * 9 * 9 * edge_sets).filter_map(move |index: usize| {
         let (chosen, rest) = (index % edge_sets, index / edge_sets);
-        let actions = [ACTIONS[rest % 6], ACTIONS[rest / 6 % 6]];
+        let actions = [ACTIONS[rest % 9], ACTIONS[rest / 9 % 9]];
+        let kind = (rest / 81) as u8;
+        if is_call(&actions) && kind != LOCAL && kind != INOUT {
+            return None;
+        }
         let edges: Vec<(u16, u16)> = (0..all_edges.len())
             .filter(|edge| chosen >> edge & 1 == 1)
             .map(|edge| all_edges[edge])
             .collect();
-        Draft::one_array((rest / 36) as u8, 2, 0, &actions, &edges)
+        Some(Draft::one_array(kind, 2, 0, &actions, &edges))
     })
 }

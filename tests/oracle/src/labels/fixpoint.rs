@@ -4,10 +4,14 @@
 //! them, from the entry), kept sets (against them). A sweep takes up a vertex again only
 //! when something it depends on has changed. Programs are mostly numbered forwards, so
 //! a sweep along the edges takes vertices by rising number, one against them by falling.
+//!
+//! A routine with calls is swept along the edges once before, for 20, 21 and the versions back;
+//! then its calls are expanded.
 
 use super::{Label, Labels, Use};
+use crate::calls::{self, Room};
 use crate::outcome::Refusal;
-use crate::routine::{Array, Kind, MAX_ARRAYS, MAX_EDGES, MAX_VERTICES, Routine};
+use crate::routine::{Array, Kind, MAX_ARRAYS, MAX_EXPANDED_EDGES, MAX_VERTICES, Routine};
 
 /// A version set for each array, 16 bits each.
 type Sets = u128;
@@ -124,7 +128,7 @@ impl Vertices {
 struct Graph {
     vertices: usize,
     first: [u16; MAX_VERTICES + 1],
-    to: [u8; MAX_EDGES],
+    to: [u8; MAX_EXPANDED_EDGES],
     before: [Vertices; MAX_VERTICES],
 }
 
@@ -133,7 +137,7 @@ impl Graph {
         let mut graph = Graph {
             vertices: routine.vertex_count(),
             first: [0; MAX_VERTICES + 1],
-            to: [0; MAX_EDGES],
+            to: [0; MAX_EXPANDED_EDGES],
             before: [Vertices::EMPTY; MAX_VERTICES],
         };
         for (index, (from, to)) in routine.edges().enumerate() {
@@ -161,14 +165,30 @@ fn meets(reference: Arrays, change: Arrays, old_value: Arrays) -> Meets {
     Meets::from_le_bytes([reference, change, old_value, 0])
 }
 
+/// Up to eight bytes as a word.
+#[inline(always)]
+fn word(bytes: &[u8]) -> u64 {
+    let mut eight = [0; MAX_ARRAYS];
+    eight[..bytes.len()].copy_from_slice(bytes);
+    u64::from_le_bytes(eight)
+}
+
+/// One bit of every byte, brought together by the product into its highest byte.
+#[inline(always)]
+fn gather(word: u64, bit: u32) -> Arrays {
+    let bits = word >> bit & 0x0101_0101_0101_0101;
+    (bits.wrapping_mul(0x0102_0408_1020_4080) >> 56) as Arrays
+}
+
 /// What one vertex does with the arrays.
 #[derive(Clone, Copy)]
 struct Row {
     /// The version of each label, as a set of one; empty without a label.
     version: Sets,
     labels: Arrays,
+    /// References, and what is passed to a call.
     references: Arrays,
-    /// Defines and modifies.
+    /// Defines and modifies, and what is passed as out or inout.
     changes: Arrays,
     /// Kept labels.
     kept: Arrays,
@@ -195,22 +215,15 @@ impl Row {
         ahead: 0,
     };
 
-    /// The row of up to eight action bytes: reads and modifies have bit 4, defines and
-    /// modifies bit 5, remappings bit 6.
+    /// The row of up to eight action bytes, none of which is a call: reads and modifies have bit
+    /// 4, defines and modifies bit 5, remappings bit 6.
     #[inline(always)]
     fn of_actions(bytes: &[u8]) -> Row {
-        let mut eight = [0; MAX_ARRAYS];
-        eight[..bytes.len()].copy_from_slice(bytes);
-        let word = u64::from_le_bytes(eight);
-        // One bit of every byte, brought together by the product into its highest byte.
-        let gather = |bit: u32| {
-            let bits = word >> bit & 0x0101_0101_0101_0101;
-            (bits.wrapping_mul(0x0102_0408_1020_4080) >> 56) as Arrays
-        };
-        let (sees, changes, labels) = (gather(4), gather(5), gather(6));
+        let word = word(bytes);
+        let (sees, changes, labels) = (gather(word, 4), gather(word, 5), gather(word, 6));
         let mut version = 0;
         for array in members(labels) {
-            version |= only(array, 1 << (eight[array] & 15));
+            version |= only(array, 1 << (bytes[array] & 15));
         }
         Row {
             version,
@@ -219,6 +232,21 @@ impl Row {
             changes,
             here: meets(sees | changes, changes, sees | labels),
             stops: meets(labels, labels, labels | changes & !sees),
+            ..Row::EMPTY
+        }
+    }
+
+    /// The row of up to eight action bytes of a file. Calls with intent in have bits 5 and 6, the
+    /// others bit 7; one of 5 and 6 they have too.
+    fn of_file(bytes: &[u8]) -> Row {
+        let word = word(bytes);
+        let (low, high, change) = (gather(word, 5), gather(word, 6), gather(word, 7));
+        if low & high == 0 && change == 0 {
+            return Row::of_actions(bytes);
+        }
+        Row {
+            references: low | high,
+            changes: change,
             ..Row::EMPTY
         }
     }
@@ -267,10 +295,11 @@ impl Solved {
     };
 
     /// Reads the action bytes, the entry's labels and the exit's.
-    fn read_rows(&mut self, routine: &Routine) {
+    #[inline(always)]
+    fn read_rows(&mut self, routine: &Routine, of_bytes: impl Fn(&[u8]) -> Row) {
         let bytes = routine.action_bytes().chunks_exact(routine.array_count());
         for (row, bytes) in self.rows.iter_mut().zip(bytes) {
-            *row = Row::of_actions(bytes);
+            *row = of_bytes(bytes);
         }
         let initial = sets(routine, |array| 1 << array.initial);
         let all = arrays(routine, |_| true);
@@ -361,7 +390,7 @@ impl Solved {
         }
     }
 
-    /// The first define or modify of an in argument, by vertex, then array.
+    /// The first change of an in argument, by vertex, then array.
     fn refusal_20(&self, routine: &Routine) -> Option<Refusal> {
         let ins = arrays(routine, |array| array.kind == Kind::In);
         let mut rows = self.rows[..routine.vertex_count()].iter();
@@ -370,35 +399,65 @@ impl Solved {
         Some(Refusal::at_two(20, vertex, array as usize))
     }
 
-    /// The first ambiguous reference, by vertex, then array.
-    fn refusal_21(&self, routine: &Routine) -> Option<Refusal> {
-        for vertex in 0..routine.vertex_count() {
-            for array in members(self.rows[vertex].references) {
-                if set_of(self.last[vertex], array).count_ones() > 1 {
-                    return Some(Refusal::at_two(21, vertex, array));
-                }
-            }
-        }
-        None
+    /// The ambiguous references and calls, by vertex, then array.
+    fn ambiguous(&self, file: &Routine) -> impl Iterator<Item = (usize, usize)> {
+        (0..file.vertex_count()).flat_map(move |vertex| {
+            let last = self.last[vertex];
+            members(self.rows[vertex].references)
+                .filter(move |&array| set_of(last, array).count_ones() > 1)
+                .map(move |array| (vertex, array))
+        })
     }
 
-    /// Works out the labels of a routine, refused by 20 and 21 or not.
+    /// Works out the labels of a routine without calls, refused by 20 and 21 or not.
     pub fn solve(&mut self, routine: &Routine) {
         let graph = Graph::new(routine);
-        self.read_rows(routine);
+        self.read_rows(routine, Row::of_actions);
         self.find_letters(&graph);
         self.find_arriving(routine, &graph);
         self.find_kept(&graph);
     }
 
-    /// Works out the labels of a routine, or gives refusal 20 or 21.
-    pub fn accept(&mut self, routine: &Routine) -> Result<(), Refusal> {
-        self.solve(routine);
-        let refusal = self.refusal_20(routine);
-        match refusal.or_else(|| self.refusal_21(routine)) {
-            Some(refusal) => Err(refusal),
-            None => Ok(()),
+    /// Works out the last versions in a file's routine alone: its rows have no letters yet.
+    fn arrive(&mut self, file: &Routine) {
+        self.read_rows(file, Row::of_file);
+        self.find_arriving(file, &Graph::new(file));
+    }
+
+    fn refusal(&self, file: &Routine) -> Option<Refusal> {
+        let refusal = self.refusal_20(file);
+        refusal.or_else(|| {
+            let (vertex, array) = self.ambiguous(file).next()?;
+            Some(Refusal::at_two(21, vertex, array))
+        })
+    }
+
+    /// A file's routine with its calls expanded, by the last versions that were worked out.
+    fn expanded<'a>(&self, file: &Routine<'a>, room: &'a mut Room) -> Routine<'a> {
+        calls::expanded(file, |vertex, array| set_of(self.last[vertex], array), room)
+    }
+
+    /// Works out the labels of a file's routine with its calls expanded, and gives that, or refusal
+    /// 20 or 21. The labels of a refused routine without calls are worked out too.
+    pub fn accept<'a>(
+        &mut self,
+        file: &Routine<'a>,
+        room: &'a mut Room,
+    ) -> Result<Routine<'a>, Refusal> {
+        let has_calls = file.call_count() > 0;
+        if has_calls {
+            self.arrive(file);
+        } else {
+            self.solve(file);
         }
+        if let Some(refusal) = self.refusal(file) {
+            return Err(refusal);
+        }
+        let routine = self.expanded(file, room);
+        if has_calls {
+            self.solve(&routine);
+        }
+        Ok(routine)
     }
 }
 
@@ -434,7 +493,7 @@ fn sets(routine: &Routine, set: impl Fn(Array) -> u16) -> Sets {
     sets.fold(0, |sets, (index, array)| sets | only(index, set(array)))
 }
 
-/// The labels of every array, by array, then vertex.
+/// The labels of every array of a routine without calls, by array, then vertex.
 pub fn labels(routine: &Routine) -> Vec<Vec<Option<Label>>> {
     let mut solved = Solved::EMPTY;
     solved.solve(routine);
@@ -453,8 +512,23 @@ pub fn labels(routine: &Routine) -> Vec<Vec<Option<Label>>> {
         .collect()
 }
 
-/// Refusal 20 or 21, if there is one.
-pub fn refusal(routine: &Routine) -> Option<Refusal> {
+/// Refusal 20 or 21 of a file's routine, if there is one.
+pub fn refusal(file: &Routine) -> Option<Refusal> {
     let mut solved = Solved::EMPTY;
-    solved.accept(routine).err()
+    solved.arrive(file);
+    solved.refusal(file)
+}
+
+/// The ambiguous references and calls of a file's routine, by vertex, then array.
+pub fn ambiguous(file: &Routine) -> Vec<(usize, usize)> {
+    let mut solved = Solved::EMPTY;
+    solved.arrive(file);
+    solved.ambiguous(file).collect()
+}
+
+/// A file's routine that is not refused, with its calls expanded.
+pub fn expanded<'a>(file: &Routine<'a>, room: &'a mut Room) -> Routine<'a> {
+    let mut solved = Solved::EMPTY;
+    solved.arrive(file);
+    solved.expanded(file, room)
 }

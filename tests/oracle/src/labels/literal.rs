@@ -4,7 +4,8 @@
 //! entry to a last label, and on from a label. Cutting a loop out of a stretch keeps what
 //! the rules ask of it, so the paths on which each vertex stands at most twice decide.
 
-use super::{Label, Use, refusal_20};
+use super::{Label, Use, refusal_20, refusal_21};
+use crate::calls::{self, Room};
 use crate::outcome::Refusal;
 use crate::routine::{Array, Event, Kind, Reference, Routine};
 
@@ -177,35 +178,35 @@ impl View {
     }
 }
 
-/// The labels of every array, by array, then vertex.
-pub fn labels(routine: &Routine) -> Vec<Vec<Option<Label>>> {
+fn views(routine: &Routine) -> Vec<View> {
     (0..routine.array_count())
-        .map(|array| View::new(routine, array).labels())
+        .map(|array| View::new(routine, array))
         .collect()
 }
 
-/// Refusal 20 or 21, if there is one.
-pub fn refusal(routine: &Routine) -> Option<Refusal> {
-    let views: Vec<View> = (0..routine.array_count())
-        .map(|array| View::new(routine, array))
-        .collect();
-    let ambiguous = || {
-        let arrays = 0..routine.array_count();
-        (0..routine.vertex_count())
-            .flat_map(|vertex| arrays.clone().map(move |array| (vertex, array)))
-            .find(|&(vertex, array)| {
-                matches!(views[array].events[vertex], Event::Reference(_))
-                    && views[array].last_versions(vertex).count_ones() > 1
-            })
-            .map(|(vertex, array)| Refusal::at_two(21, vertex, array))
-    };
-    refusal_20(routine).or_else(ambiguous)
+/// The labels of every array of a routine without calls, by array, then vertex.
+pub fn labels(routine: &Routine) -> Vec<Vec<Option<Label>>> {
+    views(routine).iter().map(View::labels).collect()
 }
 
-/// The labels of a routine, or refusal 20 or 21.
-pub fn accept(routine: &Routine) -> Result<Vec<Vec<Option<Label>>>, Refusal> {
-    match refusal(routine) {
+/// Refusal 20 or 21 of a file's routine, if there is one.
+pub fn refusal(file: &Routine) -> Option<Refusal> {
+    let views = views(file);
+    let arriving = |vertex, array: usize| views[array].last_versions(vertex);
+    refusal_20(file).or_else(|| refusal_21(file, arriving))
+}
+
+/// A file's routine that is not refused, with its calls expanded.
+pub fn expanded<'a>(file: &Routine<'a>, room: &'a mut Room) -> Routine<'a> {
+    let views = views(file);
+    let arriving = |vertex, array: usize| views[array].last_versions(vertex);
+    calls::expanded(file, arriving, room)
+}
+
+/// A file's routine with its calls expanded, or refusal 20 or 21.
+pub fn accept<'a>(file: &Routine<'a>, room: &'a mut Room) -> Result<Routine<'a>, Refusal> {
+    match refusal(file) {
         Some(refusal) => Err(refusal),
-        None => Ok(labels(routine)),
+        None => Ok(expanded(file, room)),
     }
 }

@@ -3,7 +3,8 @@
 //! A state is a vertex and what the path that arrived there has met so far. Each rule is
 //! asked for each vertex by itself, from the words of "Labels".
 
-use super::{Label, Use, refusal_20};
+use super::{Label, Use, refusal_20, refusal_21};
+use crate::calls::{self, Room};
 use crate::outcome::Refusal;
 use crate::routine::{Array, Event, MAX_VERSIONS, Reference, Routine};
 
@@ -54,7 +55,7 @@ impl View<'_> {
             states::<2>(self.events.len(), (first, 0), |(vertex, defined), next| {
                 let mut defined_after = defined;
                 match self.events[vertex] {
-                    Event::Nothing => {}
+                    Event::Nothing | Event::Call(_) => {}
                     Event::Label(_) => {
                         met.old_value |= defined == 0;
                         return;
@@ -177,7 +178,7 @@ fn views<'a>(routine: &Routine, successors: &'a [Vec<usize>]) -> Vec<View<'a>> {
         .collect()
 }
 
-/// The labels of every array, by array, then vertex.
+/// The labels of every array of a routine without calls, by array, then vertex.
 pub fn labels(routine: &Routine) -> Vec<Vec<Option<Label>>> {
     views(routine, &successors(routine))
         .iter()
@@ -185,20 +186,23 @@ pub fn labels(routine: &Routine) -> Vec<Vec<Option<Label>>> {
         .collect()
 }
 
-/// Refusal 20 or 21, if there is one.
-pub fn refusal(routine: &Routine) -> Option<Refusal> {
-    let successors = successors(routine);
-    let views = views(routine, &successors);
-    let ambiguous = || {
-        let arriving: Vec<Vec<u16>> = views.iter().map(View::last_versions).collect();
-        let arrays = 0..routine.array_count();
-        (0..routine.vertex_count())
-            .flat_map(|vertex| arrays.clone().map(move |array| (vertex, array)))
-            .find(|&(vertex, array)| {
-                matches!(views[array].events[vertex], Event::Reference(_))
-                    && arriving[array][vertex].count_ones() > 1
-            })
-            .map(|(vertex, array)| Refusal::at_two(21, vertex, array))
-    };
-    refusal_20(routine).or_else(ambiguous)
+/// Versions of the last label on the paths to each vertex, by array.
+fn last_versions(file: &Routine) -> Vec<Vec<u16>> {
+    views(file, &successors(file))
+        .iter()
+        .map(View::last_versions)
+        .collect()
+}
+
+/// Refusal 20 or 21 of a file's routine, if there is one.
+pub fn refusal(file: &Routine) -> Option<Refusal> {
+    let arriving = last_versions(file);
+    let refusal_21 = || refusal_21(file, |vertex, array| arriving[array][vertex]);
+    refusal_20(file).or_else(refusal_21)
+}
+
+/// A file's routine that is not refused, with its calls expanded.
+pub fn expanded<'a>(file: &Routine<'a>, room: &'a mut Room) -> Routine<'a> {
+    let arriving = last_versions(file);
+    calls::expanded(file, |vertex, array| arriving[array][vertex], room)
 }

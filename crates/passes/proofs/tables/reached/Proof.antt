@@ -29,7 +29,8 @@ returns c =
     let f = c .before .before .before .before .before .before .before .before .before .before in
     let p = f .before .before .before .before .before .before .before .before .pre in
     let well = p .0 .well in
-    reached-sets well (reached-gives well (p .1 .1 .1 .0) (f .fill-reached .ensures .0)) (reached-passes well (p .1 .1 .1 .0) (f .fill-reached .ensures .1)) (c .before .before .solve .ensures .0)
+    let v = c .before .before .solve .ensures in
+    (reached-sets well (reached-gives well (p .1 .1 .1 .0) (f .fill-reached .ensures .0)) (reached-passes well (p .1 .1 .1 .0) (f .fill-reached .ensures .1)) (v .0), v .1)
 
 pub reached-spec : {M : Type 1} → statement M
 reached-spec =

@@ -29,7 +29,7 @@ fill-requires c κs =
     let x = c .before .before .before .before .before .before .before .before .before in
     let q = start x .pre .1 .1 in
     let all = sym (q .0 .size) in
-    (x .reached .ensures .size ∙ all, (q .1 .0 .size ∙ all, (x .reached .kept .1 .1 .1 .1 .0 ∙ q .1 .1 .1 .0 ∙ all, x .reached .kept .1 .1 .1 .1 .1 .0 ∙ q .1 .1 .1 .1 ∙ all)))
+    (x .reached .ensures .0 .size ∙ all, (q .1 .0 .size ∙ all, (x .reached .kept .1 .1 .1 .1 .0 ∙ q .1 .1 .1 .0 ∙ all, x .reached .kept .1 .1 .1 .1 .1 .0 ∙ q .1 .1 .1 .1 ∙ all)))
 
 enter-gives-requires : tie.Need-enter-gives-requires
 enter-gives-requires c κs =
@@ -48,7 +48,7 @@ solve-requires c κs =
     let q = p .1 .1 in
     let well = p .0 .well in (
       p .0,
-      (p .1 .0, (reach-gives well (q .0) (q .1 .0) (x .reached .ensures) (f .fill .ensures .0) (g .enter-gives .ensures) .size, (reach-passes well (q .0) (q .1 .0) (f .fill .ensures .1) .size, x .reached .ensures .size))),
+      (p .1 .0, (reach-gives well (q .0) (q .1 .0) (x .reached .ensures .0) (f .fill .ensures .0) (g .enter-gives .ensures) .size, (reach-passes well (q .0) (q .1 .0) (f .fill .ensures .1) .size, x .reached .ensures .0 .size))),
     )
 
 enter-requires : tie.Need-enter-requires
@@ -81,7 +81,7 @@ returns c =
     let p = start x .pre in
     let q = p .1 .1 in
     let well = p .0 .well in
-    reaching-sets well (reach-gives well (q .0) (q .1 .0) (x .reached .ensures) (f .fill .ensures .0) (g .enter-gives .ensures)) (reach-passes well (q .0) (q .1 .0) (f .fill .ensures .1))
+    reaching-sets well (reach-gives well (q .0) (q .1 .0) (x .reached .ensures .0) (f .fill .ensures .0) (g .enter-gives .ensures)) (reach-passes well (q .0) (q .1 .0) (f .fill .ensures .1))
     (v .solve .ensures .0) (c .before .before .enter .ensures)
 
 pub reaching-spec : {M : Type 1} → statement M

@@ -1,9 +1,8 @@
 -- `check_layout` meets its contract, by cases of the tests.
 -- Assumes nothing.
-use mathlib.Core.Path.{_≡_, sym, ap, ap₂, _∙_}
+use mathlib.Core.Path.{_≡_, sym, ap, _∙_}
 use mathlib.Core.Bool.{true}
-use Prim.Native.Nat.{ℕ, _+_, _*_}
-use native.Mathlib.Omega.{arith}
+use Prim.Native.Nat.{_+_, _*_}
 use borrow.Author.Needs.{needs}
 use borrow.Author.Tests.{eq-eqb, ne-eqb}
 use lib.Dec.{eqb}
@@ -12,7 +11,6 @@ use Rattle.words.specs.Words.{word}
 use Rattle.routine.specs.declared.header.Header.{Header}
 use Rattle.routine.specs.Layout.{actionsAt, edgesAt, endAt, check13}
 use Rattle.routine.specs.Reader.{Limits}
-use Rattle.routine.proofs.Form.{few-actions}
 use Rattle.routine.proofs.header.check_layout.Statement.{statement}
 use Rattle.routine.proofs.header.check_layout.Tie as tie
 
@@ -45,12 +43,10 @@ second c = eq-eqb _ _ (sym (c .before .before .at2 .ensures) ∙ c .if2 .left �
 third : (c : tie.Else3) → let file = c .before .before .before .before .before .before .before .before .before .before .args .file .now in eqb (word file 14) (edgesAt file) ≡ true
 third c = eq-eqb _ _ (sym (c .before .before .at3 .ensures) ∙ c .if3 .left ∙ edges (c .before))
 
-end : (c : tie.After-struct-known) →
-    let o = c .before .before .before .before .before .before .before .before .before in
-    c .before .before .edges-at .result + 4 * o .of .result .edges ≡ endAt (o .before .before .args .file .now)
+end : (c : tie.After-end-at) → c .end-at .result ≡ endAt (c .before .before .before .before .before .before .before .before .before .before .before .args .file .now)
 end c =
-    let o = c .before .before .before .before .before .before .before .before .before in
-    ap₂ (λ (m n : ℕ). m + 4 * n) (edges (c .before .before)) (ap (λ (h : Header). h .edges) (o .of .ensures))
+    c .end-at .ensures
+    ∙ ap (λ (h : Header). 18 + 4 * h .arrays + h .vertices * h .arrays + 4 * h .edges) (c .before .before .before .before .before .before .before .before .before .of .ensures)
 
 returns : tie.Need-returns
 unfolding check13
@@ -78,13 +74,8 @@ returns-3 c =
     let v = c .before .before .before in
     rw (first (v .before .before .before), second v, ← c .before .before .at3 .ensures, ← edges (c .before), ne-eqb _ _ (c .if3 .taken))
 
-mul-if4 : tie.Need-mul-if4
-mul-if4 c = omega (arith, limits (c .before .before .before .before .before .before .before .before .before))
-
-add-if4 : tie.Need-add-if4
-add-if4 c =
-    let l = limits (c .before .before .before .before .before .before .before .before .before) in
-    omega (arith, few-actions l)
+end-at-requires : tie.Need-end-at-requires
+end-at-requires c κs = limits (c .before .before .before .before .before .before .before .before)
 
 returns-4 : tie.Need-returns-4
 unfolding check13
@@ -117,7 +108,6 @@ check-layout-spec =
     at-requires-3
     edges-at-requires
     returns-3
-    mul-if4
-    add-if4
+    end-at-requires
     returns-4
     returns-5)

@@ -6,6 +6,7 @@ use mathlib.Core.Bool.{true, _&&_, cond}
 use mathlib.Core.List.{List, [], _∷_}
 use mathlib.Core.Logic.{_↔_, _⊎_, inl, inr, ⊎-elim}
 use Prim.Native.Nat.{ℕ, zero, suc, _+_, _*_, _≤_, _<_}
+use native.Mathlib.Nat.{eq-or-lt-of-le}
 use native.Mathlib.Numerals.{add-one}
 use native.Mathlib.Omega.{arith}
 use borrow.Author.Count.{below-more}
@@ -128,6 +129,12 @@ module _ (file : List ℕ) (w : WellFormed file) where
       (λ j g. less-trans (edgeOf file j) (edgeOf file k) (edgeOf file (suc k)) (file-rises j k g (omega arith)) (file-next k l))
       (file-next k l)
       i (omega arith)
+
+  pub from-rises : (i k : ℕ) → i ≤ k → k < edges file → edgeOf file i .from ≤ edgeOf file k .from
+  from-rises i k h l = ⊎-elim
+      (λ (e : i ≡ k). omega (arith, ap (λ (j : ℕ). edgeOf file j .from) e))
+      (λ (g : i < k). ⊎-elim (λ less. omega arith) (λ same. omega (arith, same .0)) (file-rises i k g l))
+      (eq-or-lt-of-le h)
 
   -- of two that leave one vertex the earlier enters a lower one
   to-rises : {v : ℕ} (i k : ℕ) → i < k → k < edges file → edgeOf file i .from ≡ v → edgeOf file k .from ≡ v → edgeOf file i .to < edgeOf file k .to

@@ -1,0 +1,97 @@
+-- The file with calls as references, judged by what was read of the file itself; and the ways out of `expand`: what the checks say, as the
+-- definition's answer.
+-- Assumes nothing.
+use mathlib.Core.Path.{_≡_, refl, sym, ap, _∙_}
+use mathlib.Core.List.{List}
+use Prim.Native.Nat.{ℕ, _+_, _*_, _≤_, _<_}
+use native.Mathlib.Nat.{mul-le-mul-right}
+use native.Mathlib.Omega.{arith}
+use borrow.Author.Tests.{le-leb, lt-leb}
+use lib.ListN.{length, getD}
+use Rattle.calls.proofs.Referring.{same-arrays, same-vertices, same-count, referring-formed}
+use Rattle.calls.specs.Checks.{check22, callsCheck}
+use Rattle.calls.specs.Expanded.{expanded}
+use Rattle.calls.specs.Interfaces.{Interfaces, Expandable}
+use Rattle.calls.specs.Parts.{expandedVertices}
+use Rattle.calls.specs.Referring.{referring, arriving}
+use Rattle.calls.specs.Writing.{Arrivals}
+use Rattle.checks.specs.Rows.{Judged}
+use Rattle.expansion.specs.Expansion.{JudgedCalls, Expansion}
+use Rattle.labels.specs.Ambiguity.{broughtOf}
+use Rattle.labels.specs.Checks.{programmerCheck}
+use Rattle.labels.specs.Routines.{ReadAs}
+use Rattle.passes.specs.Tables.{Cells}
+use Rattle.refusal.specs.declared.Refusal.{Refusal}
+use Rattle.refusal.specs.declared.Refusal.the-variants.{TooManyVertices}
+use Rattle.refusal.specs.declared.Verdict.{Verdict}
+use Rattle.refusal.specs.declared.Verdict.the-variants.{Passed, Failed}
+use Rattle.routine.specs.Layout.{arrays, headerOf}
+use Rattle.routine.specs.declared.header.Header.{Header}
+use Rattle.routine.specs.declared.reader.Answer.the-variants.{Routine, Refused}
+use Rattle.words.specs.Tables.{wrote}
+
+-- ---- the file with calls as references
+
+module _ {file : List ℕ} {h : Header} (read : ReadAs file h) (interfaces : Interfaces file) where
+  pub refers-read : ReadAs (referring file) h
+  refers-read =
+      let w = referring-formed file (read .well) interfaces in
+      record {
+        well = w;
+        heads = record {
+          laid = w .laid;
+          arrays-are = read .heads .arrays-are ∙ sym (same-arrays file (read .well .laid));
+          vertices-are = read .heads .vertices-are ∙ sym (same-vertices file (read .well .laid));
+          edges-are = read .heads .edges-are ∙ sym (same-count file (read .well .laid));
+        };
+      }
+
+  arrivals : {s : List ℕ} → Cells (referring file) (broughtOf (referring file)) s → Arrivals file s
+  unfolding arriving
+  arrivals c =
+      let arrays-same = same-arrays file (read .well .laid) in
+      let vertices-same = same-vertices file (read .well .laid) in
+      record {
+        room = omega (arith, c .size, vertices-same);
+        are = λ a v in-a in-v. c .cells a v (omega (arith, arrays-same)) (omega (arith, vertices-same));
+      }
+
+  pub judged-calls : {answer : Verdict} {s : List ℕ} → Judged (referring file) answer s → JudgedCalls file answer s
+  judged-calls j = record { answers = j .answers; arrivals-are = λ e. arrivals (j .brought-are e) }
+
+-- ---- the buffer holds a file
+
+pub file-fits : {file : List ℕ} → Expandable file → length file ≤ 6866
+file-fits {file} can =
+    let laid = can .well .laid in
+    omega (arith, laid .ends, laid .limits, can .few-edges, mul-le-mul-right (arrays file) (laid .limits .few-vertices))
+
+-- ---- the answer
+
+module _ (file : List ℕ) where
+  -- no routine is written
+  refused : {r : Refusal} {after : List ℕ} → callsCheck file ≡ Failed r → Expansion file (Refused r) after
+  refused {r} e = record {
+    answers = sym (rw e);
+    bytes = λ p. absurd (let z : _≡_ {A = ℕ} 0 1 = cc in omega arith);
+  }
+
+  -- 22
+  pub too-many : {after : List ℕ} → 256 < expandedVertices file → Expansion file (Refused (TooManyVertices (expandedVertices file))) after
+  unfolding callsCheck check22
+  too-many h = refused (rw (lt-leb (expandedVertices file) 256 h))
+
+  module _ (few : expandedVertices file ≤ 256) {v : Verdict} (is : v ≡ programmerCheck (referring file)) where
+    same-check : callsCheck file ≡ v
+    unfolding callsCheck check22
+    same-check = rw (le-leb (expandedVertices file) 256 few) (sym is)
+
+    -- 20 or 21
+    pub calls-refused : {r : Refusal} {after : List ℕ} → v ≡ Failed r → Expansion file (Refused r) after
+    calls-refused e = refused (same-check ∙ e)
+
+    pub calls-expanded : {h : Header} (before : List ℕ) {after : List ℕ} → v ≡ Passed → h ≡ headerOf (expanded file) → after ≡ wrote before (expanded file) → Expansion file (Routine h) after
+    calls-expanded before e g w = record {
+      answers = ap Routine g ∙ sym (rw (same-check ∙ e));
+      bytes = λ _. (before, w);
+    }
