@@ -5,14 +5,14 @@
 mod order;
 mod rounds;
 
-use std::collections::HashSet;
+use std::collections::{BTreeSet, HashSet};
 use std::hint::black_box;
 use std::time::{Duration, Instant};
 
 use compare::VERIFIED;
 use harness::library::{Input, Library, ORACLE};
-use oracle::builder::{self, Draft};
-use oracle::calls::{Room, is_call};
+use oracle::builder::{self, DEFINE, Draft, LOCAL, MODIFY, READ, call_in, call_inout, call_out};
+use oracle::calls::Room;
 use oracle::generate::rng::Rng;
 use oracle::generate::routines::{self, Size};
 use oracle::generate::{limits, paths};
@@ -43,25 +43,55 @@ fn structured(rng: &mut Rng, vertices: usize) -> Draft {
     }
 }
 
-/// A structured program of eight arrays and 40 calls with as many vertices as there may be once they
-/// are expanded, and a path of as many as there may be: the first ones drawn.
-fn structured_with_calls() -> (Draft, Vec<u16>) {
-    let size = Size {
-        calls: 30,
-        ..Size::LARGEST
+/// A row that has three of eight arrays, drawn, each with one of these bytes.
+fn three_of_eight(rng: &mut Rng, bytes: &[u8]) -> Vec<u8> {
+    let mut row = vec![0; 8];
+    for _ in 0..3 {
+        row[rng.below(8)] = bytes[rng.below(bytes.len())];
+    }
+    row
+}
+
+/// A program of eight arrays and 40 calls, with as many vertices as there may be once they are
+/// expanded, and a path of as many as there may be. It is a chain with branches ahead and loops
+/// back, so that a path gets to every vertex.
+fn chain_with_calls() -> (Draft, Vec<u16>) {
+    const CALLS: usize = 40;
+    const LAST: usize = MAX_VERTICES - 2 * CALLS - 1;
+    let calls = [call_in(1), call_out(2), call_inout(3)];
+    let mut rng = Rng::new(SEED);
+    let mut rows = vec![vec![0; 8]; LAST + 1];
+    for (vertex, row) in rows.iter_mut().enumerate().take(LAST).skip(1) {
+        let call = vertex % 4 == 1 && vertex < 4 * CALLS;
+        let bytes: &[u8] = if call {
+            &calls
+        } else {
+            &[READ, DEFINE, MODIFY]
+        };
+        *row = three_of_eight(&mut rng, bytes);
+    }
+    let mut edges: BTreeSet<_> = (0..LAST).map(|vertex| (vertex, vertex + 1)).collect();
+    edges.extend(
+        (1..LAST - 9)
+            .step_by(6)
+            .map(|from| (from, from + rng.between(2, 8))),
+    );
+    edges.extend(
+        (12..LAST)
+            .step_by(9)
+            .map(|from| (from, from - rng.between(2, 10))),
+    );
+    let draft = Draft {
+        arrays: vec![[LOCAL, 4, 0, 0]; 8],
+        rows,
+        edges: edges
+            .iter()
+            .map(|&(from, to)| (from as u16, to as u16))
+            .collect(),
     };
-    let drawn = (0..).map(|index| {
-        let mut rng = Rng::for_input(SEED, index);
-        let mut draft = routines::program(&mut rng, size);
-        routines::make_acceptable(&mut rng, &mut draft);
-        let path = paths::walk(&mut rng, &draft, MAX_PATH);
-        (draft, path)
-    });
-    let mut fitting = drawn.filter(|(draft, path)| {
-        let calls = draft.rows.iter().filter(|row| is_call(row)).count();
-        draft.places().len() == MAX_VERTICES && calls == 40 && path.len() == MAX_PATH
-    });
-    fitting.next().expect("there is one")
+    assert_eq!(draft.places().len(), MAX_VERTICES);
+    let path = paths::walk(&mut rng, &draft, MAX_PATH);
+    (draft, path)
 }
 
 /// So many different routines of one array with as many vertices as P, all accepted.
@@ -101,7 +131,7 @@ fn run(name: &'static str, draft: Draft, path: &[u16]) -> Line {
 
 /// Lines of routines with calls.
 fn calls() -> Vec<Line> {
-    let (draft, path) = structured_with_calls();
+    let (draft, path) = chain_with_calls();
     vec![
         plan("plan, one call", builder::call().bytes()),
         plan("plan, 40 calls, 256 vertices", draft.bytes()),

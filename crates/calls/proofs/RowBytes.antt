@@ -8,13 +8,14 @@ use native.Mathlib.Nat.{mul-comm}
 use native.Mathlib.Omega.{arith}
 use borrow.Author.Tests.{eq-eqb, ne-eqb}
 use lib.Count.{trailingZeros}
-use lib.ListN.{length, set, length-append}
+use lib.ListN.{length, getD, set, take, drop, length-append, length-drop}
+use lib.Seq.{length-take-le, getD-take, getD-drop, ext-getD}
 use Rattle.routine.specs.Arrays.{initial}
-use Rattle.routine.specs.Layout.{arrays, vertices}
+use Rattle.routine.specs.Layout.{arrays, vertices, actionAt}
 use Rattle.sets.specs.Sets.{width}
-use Rattle.words.specs.Tables.{rows, wrote}
+use Rattle.words.specs.Tables.{table, rows, wrote}
 use Rattle.words.proofs.Buffers.{Filled}
-use Rattle.words.proofs.Tables.{rows-more, rows-length, table-length}
+use Rattle.words.proofs.Tables.{rows-more, rows-length, table-length, table-at}
 use Rattle.words.proofs.Tests.{by-test}
 use Rattle.words.proofs.Written.{write-one}
 use Rattle.calls.specs.Calls.{isCallRow}
@@ -64,6 +65,16 @@ module _ (file : List ℕ) where
   pub row-length : (p : Part) → length (partRow file p) ≡ arrays file
   unfolding partRow
   row-length p = table-length (λ a. expandedByte file a p) (arrays file)
+
+  -- the row of a vertex that is no call is the file's
+  pub plain-bytes : (v : ℕ) {at m : ℕ} → m ≡ arrays file → at ≡ actionAt file 0 v → at + m ≤ length file → take m (drop at file) ≡ partRow file (plain v)
+  unfolding partRow
+  plain-bytes v {at} {m} e here room =
+      let byte : ℕ → ℕ = λ a. expandedByte file a (plain v) in
+      let size = length-take-le m (drop at file) (omega (arith, length-drop at file)) in
+      ext-getD 0 (take m (drop at file)) (table byte (arrays file)) (size ∙ e ∙ sym (table-length byte (arrays file))) (λ a h.
+      let i : at + a ≡ actionAt file a v = omega arith in
+      getD-take m (drop at file) a 0 (omega arith) ∙ getD-drop at file a 0 ∙ ap (λ (k : ℕ). getD file k 0) i ∙ sym (table-at byte (arrays file) a (omega arith)))
 
   pub call-length : (v : ℕ) → length (callRows file v) ≡ 3 * arrays file
   call-length v =

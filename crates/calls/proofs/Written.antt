@@ -8,8 +8,8 @@ use Prim.Native.Nat.{ℕ, zero, suc, _+_, _-_, _*_, _≤_, _<_}
 use native.Mathlib.Nat.{le-refl, eq-or-lt-of-le, mul-le-mul-right}
 use native.Mathlib.Numerals.{add-one}
 use native.Mathlib.Omega.{arith}
-use borrow.Author.Tests.{eqb-true, eqb-false, eq-eqb, ne-eqb}
-use lib.Dec.{eqb}
+use borrow.Author.Tests.{eqb-true, eqb-false, eq-eqb, ne-eqb, lt-ltb, le-ltb}
+use lib.Dec.{eqb, ltb}
 use lib.ListN.{length, take, drop, length-append, length-drop}
 use lib.Seq.{take-all, length-take-le}
 use Rattle.routine.specs.Edges.{edgeOf}
@@ -20,7 +20,7 @@ use Rattle.routine.specs.declared.header.Header.{Header}
 use Rattle.words.proofs.Buffers.{Front, more}
 use Rattle.words.proofs.Sums.{count-few}
 use Rattle.words.proofs.Tables.{rows-empty}
-use Rattle.words.proofs.Tests.{at-cond}
+use Rattle.words.proofs.Tests.{at-cond, by-test}
 use Rattle.words.proofs.Written.{partFrom}
 use Rattle.words.specs.Tables.{rows, wrote}
 use Rattle.words.specs.Words.{bytes16}
@@ -66,6 +66,12 @@ firsts-few file few v h = ⊎-elim
 module _ (file : List ℕ) (v : ℕ) where
   pub first-after : firstOf file (v + 1) ≡ lastOf file v + 1
   first-after = ap (firstOf file) (add-one v) ∙ first-next file v
+
+  -- a call becomes more than one
+  pub more-than-one : ltb (firstOf file v + 1) (firstOf file (v + 1)) ≡ isCallRow file v
+  more-than-one = by-test (isCallRow file v)
+      (λ call. lt-ltb (firstOf file v + 1) (firstOf file (v + 1)) (omega (arith, first-after, call-last file v call)) ∙ sym call)
+      (λ row. le-ltb (firstOf file v + 1) (firstOf file (v + 1)) (omega (arith, first-after, plain-last file v row)) ∙ sym row)
 
   -- no call: one vertex
   pub none-inside : firstOf file (v + 1) ≡ firstOf file v + 1 → innerEdges file v ≡ []

@@ -10,11 +10,10 @@ use Rattle.calls.specs.Expanded.{expandedByte}
 use Rattle.calls.specs.Parts.{Part, plain, passing, calling, returning}
 use Rattle.calls.specs.Referring.{returnVersion}
 use Rattle.calls.specs.declared.rows.Row.{Row}
-use Rattle.calls.specs.declared.rows.Row.the-variants.{Plain, Passing, Calling, Returning}
+use Rattle.calls.specs.declared.rows.Row.the-variants.{Passing, Calling, Returning}
 
--- the part of vertex v that a row is of
+-- the part of the call at v that a row is of
 abbrev pub partOf : Row → ℕ → Part
-partOf Plain v = plain v
 partOf Passing v = passing v
 partOf Calling v = calling v
 partOf Returning v = returning v

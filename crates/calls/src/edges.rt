@@ -11,6 +11,7 @@ ghost use Rattle.labels.specs.Routines.{ReadAs};
 ghost use Rattle.routine.specs.Edges.{edgeOf};
 ghost use Rattle.routine.specs.Layout.{vertices, edges};
 ghost use Rattle.words.specs.Tables.{wrote};
+ghost use Rattle.calls.specs.Calls.{isCallRow};
 ghost use Rattle.calls.specs.Expanded.{edge, innerEdges, expandedEdges, edgesBytes};
 ghost use Rattle.calls.specs.Parts.{expandedVertices, firstOf, lastOf};
 ghost use Rattle.calls.specs.Writing.{Firsts, Leaves, Placed, Onward};
@@ -32,6 +33,18 @@ fn first_of(file: &[u8], firsts: &[u16], v: usize) -> usize
     ensures { λ r. ⌜ r ≤ 256 ⌝ }
 {
     firsts[v] as usize
+}
+
+// Whether vertex v is a call: it becomes more than one.
+pub fn is_call(file: &[u8], firsts: &[u16], v: usize) -> bool
+    requires { ⌜ Firsts (now file) (now firsts) ⌝ }
+    requires { ⌜ expandedVertices (now file) ≤ 256 ⌝ }
+    requires { ⌜ v < vertices (now file) ⌝ }
+    ensures { λ r. ⌜ r ≡ isCallRow (now (file .entry)) v ⌝ }
+{
+    let first = first_of(file, firsts, v);
+    let next = first_of(file, firsts, v + 1);
+    next > first + 1
 }
 
 // Writes an edge.

@@ -73,7 +73,7 @@ pub fn write(
     let at = h.actions_at();
     let edges_at = at + vertices * h.arrays;
     let count = edges::write(file, h, firsts, &mut out[edges_at..]);
-    rows::write(file, h, arrivals, &mut out[at..]);
+    rows::write(file, h, arrivals, firsts, &mut out[at..]);
     let expanded = Header {
         arrays: h.arrays,
         vertices,

@@ -1,6 +1,6 @@
 // The rows of the expanded routine (document 02, request 3): a call row becomes three, any other is copied.
+use crate::edges;
 use crate::references;
-use crate::scan;
 use routine::action;
 use routine::array;
 use routine::header::Header;
@@ -16,15 +16,13 @@ ghost use Rattle.routine.specs.Reader.{WellFormed};
 ghost use Rattle.sets.specs.Sets.{width};
 ghost use Rattle.words.specs.Tables.{rows, wrote};
 ghost use Rattle.calls.specs.Expanded.{expandedByte, expandedRow};
-ghost use Rattle.calls.specs.Parts.{expandedVertices};
+ghost use Rattle.calls.specs.Parts.{plain, expandedVertices};
 ghost use Rattle.calls.specs.Referring.{returnVersion};
 ghost use Rattle.calls.specs.VertexRows.{partOf, partRow, callRows, vertexRows};
-ghost use Rattle.calls.specs.Writing.{Arrivals};
+ghost use Rattle.calls.specs.Writing.{Firsts, Arrivals};
 
-// A row of those that a vertex becomes: its own; or of a call the remaps to the versions in which it passes the arrays, its references,
-// and the remaps back.
+// A row of those that a call becomes: the remaps to the versions in which it passes the arrays, its references, and the remaps back.
 enum Row {
-    Plain,
     Passing,
     Calling,
     Returning,
@@ -68,7 +66,7 @@ fn return_version(file: &[u8], a: usize, v: usize, arrivals: &[Set]) -> u8
     sets::lowest(arriving)
 }
 
-// The byte of array a in a row of vertex v.
+// The byte of array a in a row of the call at v.
 fn expanded_byte(file: &[u8], h: Header, a: usize, v: usize, row: Row, arrivals: &[Set]) -> u8
     requires { ⌜ ReadAs (now file) h ⌝ }
     requires { ⌜ Arrivals (now file) (now arrivals) ⌝ }
@@ -78,14 +76,13 @@ fn expanded_byte(file: &[u8], h: Header, a: usize, v: usize, row: Row, arrivals:
 {
     let b = action_byte(file, h, a, v);
     match row {
-        Row::Plain => b,
         Row::Passing => if_passed(b, 0x40 + b % 32),
         Row::Calling => if_passed(b, references::intent_byte(b)),
         Row::Returning => if_passed(b, 0x40 + return_version(file, a, v, arrivals)),
     }
 }
 
-// Writes a row of vertex v at the front of what is lent.
+// Writes a row of the call at v at the front of what is lent.
 fn write_row(file: &[u8], h: Header, v: usize, row: Row, arrivals: &[Set], out: &mut [u8])
     requires { ⌜ ReadAs (now file) h ⌝ }
     requires { ⌜ Arrivals (now file) (now arrivals) ⌝ }
@@ -116,28 +113,51 @@ fn write_call(file: &[u8], h: Header, v: usize, arrivals: &[Set], out: &mut [u8]
     write_row(file, h, v, Row::Returning, arrivals, &mut out[last..]);
 }
 
+// Writes the row of vertex v, which is no call, at the front of what is lent.
+fn write_plain(file: &[u8], h: Header, v: usize, out: &mut [u8])
+    requires { ⌜ ReadAs (now file) h ⌝ }
+    requires { ⌜ v < vertices (now file) ⌝ }
+    requires { ⌜ arrays (now file) ≤ length (now out) ⌝ }
+    ensures { λ _. ⌜ now (out .exit) ≡ wrote (now (out .entry)) (partRow (now (file .entry)) (plain v)) ⌝ }
+{
+    let at = h.actions_at() + v * h.arrays;
+    let end = at + h.arrays;
+    bytes::copy(&file[at..end], out);
+}
+
 // Writes the rows of what vertex v becomes, and returns how many bytes these are.
-fn write_vertex(file: &[u8], h: Header, v: usize, arrivals: &[Set], out: &mut [u8]) -> usize
+fn write_vertex(
+    file: &[u8],
+    h: Header,
+    arrivals: &[Set],
+    firsts: &[u16],
+    v: usize,
+    out: &mut [u8],
+) -> usize
     requires { ⌜ ReadAs (now file) h ⌝ }
     requires { ⌜ Arrivals (now file) (now arrivals) ⌝ }
+    requires { ⌜ Firsts (now file) (now firsts) ⌝ }
+    requires { ⌜ expandedVertices (now file) ≤ 256 ⌝ }
     requires { ⌜ v < vertices (now file) ⌝ }
     requires { ⌜ length (vertexRows (now file) v) ≤ length (now out) ⌝ }
     ensures { λ r. ⌜ r ≡ length (vertexRows (now (file .entry)) v) ⌝ }
     ensures { λ _. ⌜ now (out .exit) ≡ wrote (now (out .entry)) (vertexRows (now (file .entry)) v) ⌝ }
 {
-    let call = scan::is_call_row(file, h, v);
+    let call = edges::is_call(file, firsts, v);
     if call {
         write_call(file, h, v, arrivals, out);
         return 3 * h.arrays;
     }
-    write_row(file, h, v, Row::Plain, arrivals, out);
+    write_plain(file, h, v, out);
     h.arrays
 }
 
 // Writes the rows of the expanded routine at the front of what is lent.
-pub fn write(file: &[u8], h: Header, arrivals: &[Set], out: &mut [u8])
+pub fn write(file: &[u8], h: Header, arrivals: &[Set], firsts: &[u16], out: &mut [u8])
     requires { ⌜ ReadAs (now file) h ⌝ }
     requires { ⌜ Arrivals (now file) (now arrivals) ⌝ }
+    requires { ⌜ Firsts (now file) (now firsts) ⌝ }
+    requires { ⌜ expandedVertices (now file) ≤ 256 ⌝ }
     requires { ⌜ expandedVertices (now file) * arrays (now file) ≤ length (now out) ⌝ }
     ensures { λ _. ⌜ now (out .exit) ≡ wrote (now (out .entry)) (rows (expandedRow (now (file .entry))) (expandedVertices (now (file .entry)))) ⌝ }
 {
@@ -145,7 +165,7 @@ pub fn write(file: &[u8], h: Header, arrivals: &[Set], out: &mut [u8])
     let mut at = 0;
     let mut v = 0;
     while v < n {
-        at += write_vertex(file, h, v, arrivals, &mut out[at..]);
+        at += write_vertex(file, h, arrivals, firsts, v, &mut out[at..]);
         v += 1;
     }
 }

@@ -35,7 +35,7 @@ pub fn any(file: &[u8], h: Header) -> bool
 }
 
 // Whether vertex v is a call.
-pub fn is_call_row(file: &[u8], h: Header, v: usize) -> bool
+fn is_call_row(file: &[u8], h: Header, v: usize) -> bool
     requires { ⌜ Heads h (now file) ⌝ }
     requires { ⌜ v < vertices (now file) ⌝ }
     ensures { λ r. ⌜ r ≡ isCallRow (now (file .entry)) v ⌝ }

@@ -8,6 +8,7 @@ use native.Mathlib.Omega.{arith}
 use borrow.Author.Tests.{lt-ltb, le-ltb, eq-eqb, ne-eqb}
 use lib.Bits.{bitOr}
 use lib.Dec.{eqb, ltb, eqb·suc-zero}
+use lib.Ieee.Bits.{is-true}
 use lib.ListN.{length, getD}
 use lib.Pow.{pow-pos}
 use Rattle.routine.specs.Layout.{arrays, vertices, entry, exit}
@@ -21,6 +22,7 @@ use Rattle.routine.specs.Arrays.{kind, initial, isInOrInout}
 use Rattle.labels.specs.Kept.{isNOrR, passesKept, leavingSet, keptSets, keptOf}
 use Rattle.labels.specs.Letters.{letterByte, useOfByte}
 use Rattle.labels.specs.Reaching.{reachedSets, isReached, reachGives, reachPasses, reachSets, reachingOf}
+use Rattle.passes.specs.Marks.{AllReached}
 use Rattle.passes.specs.Tables.{Cells, reachedCell, Versions, UseGives, Reached, Letters, Pass}
 use Rattle.labels.specs.declared.Use.the-variants.{W}
 use Rattle.labels.specs.Uses.{useGives, usePasses, passesBy, useSets, letterOf, useOf, isN, isKept}
@@ -86,6 +88,15 @@ module _ {file : List ℕ} (well : WellFormed file) where
         (λ a v in-a in-v.
         ap₂ (λ (b : Bool) (x : ℕ). cond b x 0) (reached-at h a v in-a in-v) (vs .cells a v in-a in-v)
         ∙ cond-and (isReached file v) (isLabel file a v) (2 ^ versionOf (event file a v)))
+
+    -- every vertex is reached
+    pub brought-versions : AllReached file → Cells file (broughtGives file) versions
+    unfolding broughtGives version
+    brought-versions all = record {
+      size = vs .size;
+      cells = λ a v in-a in-v. vs .cells a v in-a in-v
+          ∙ sym (ap (λ (b : Bool). cond (b && isLabel file a v) (2 ^ versionOf (event file a v)) 0) (is-true (isReached file v) (all .reached v in-v)));
+    }
 
     pub brought-passes : {s : List ℕ} → s ≡ table (λ i. cond (eqb (getD versions i 0) 0) everyVersion 0) (length versions) → Cells file (broughtPasses file) s
     unfolding broughtPasses

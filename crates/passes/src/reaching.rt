@@ -41,6 +41,20 @@ fn is_reached(i: usize, set: Set) -> bool
     (i < flow::COLUMNS) | (set % 2 == 1)
 }
 
+// What the vertices pass of what paths bring: what is no label passes every version.
+pub fn fill_passes(versions: &[Set], passes: &mut [Set])
+    requires { ⌜ length (now passes) ≡ length (now versions) ⌝ }
+    ensures { λ _. ⌜ now (passes .exit)
+        ≡ table (λ i. cond (eqb (getD (now (versions .entry)) i 0) 0) everyVersion 0) (length (now (versions .entry))) ⌝ }
+{
+    let n = versions.len();
+    let mut i = 0;
+    while i < n {
+        passes[i] = event::every_if(versions[i] == 0);
+        i += 1;
+    }
+}
+
 // The tables of the pass that finds what paths bring: a label that is reached gives its version, and what is no label passes every version.
 pub fn fill_brought(versions: &[Set], reached: &[Set], gives: &mut [Set], passes: &mut [Set])
     requires { ⌜ length (now reached) ≡ length (now versions) ⌝ }

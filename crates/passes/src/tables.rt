@@ -1,4 +1,5 @@
 // The tables of the label rules, for all arrays: the cell of vertex v and array a stands at 8 v + a.
+use crate::entered;
 use crate::kept;
 use crate::pass;
 use crate::reaching;
@@ -15,6 +16,7 @@ ghost use Rattle.labels.specs.Events.{edgeBytes};
 ghost use Rattle.labels.specs.Kept.{keptOf};
 ghost use Rattle.labels.specs.Reaching.{reachingOf};
 ghost use Rattle.labels.specs.Routines.{ReadAs, EdgeOrder};
+ghost use Rattle.passes.specs.Marks.{AllReached};
 ghost use Rattle.passes.specs.Tables.{Cells, Versions, UseGives, Reached, Letters};
 ghost use Rattle.routine.specs.Layout.{vertices};
 
@@ -40,8 +42,8 @@ fn reached(
     pass::solve(file, h, order, false, gives, passes, sets)
 }
 
-// The versions that paths bring, dropped labels included; no letter is asked. `sets` first holds the table of reached vertices.
-pub fn brought(
+// The versions that paths bring, where a pass is to find the vertices that are reached. `sets` first holds their table.
+fn brought_after_pass(
     file: &[u8],
     h: Header,
     order: &mut [u16],
@@ -63,6 +65,55 @@ pub fn brought(
     pass::reorder(file, h, order, rounds);
     reaching::fill_brought(versions, sets, gives, passes);
     pass::solve(file, h, order, false, gives, passes, sets);
+}
+
+// The versions that paths bring, where every vertex is reached: each label gives its version.
+fn brought_everywhere(
+    file: &[u8],
+    h: Header,
+    order: &[u16],
+    versions: &[Set],
+    sets: &mut [Set],
+    passes: &mut [Set],
+)
+    requires { ⌜ ReadAs (now file) h ⌝ }
+    requires { ⌜ AllReached (now file) ⌝ }
+    requires { ⌜ EdgeOrder (now file) (now order) ⌝ }
+    requires { ⌜ Versions (now file) (now versions) ⌝ }
+    requires { ⌜ length (now sets) ≡ 8 * vertices (now file) ⌝ }
+    requires { ⌜ length (now passes) ≡ 8 * vertices (now file) ⌝ }
+    ensures { λ _. ⌜ Cells (now (file .entry)) (broughtOf (now (file .entry))) (now (sets .exit)) ⌝ }
+{
+    reaching::fill_passes(versions, passes);
+    pass::solve(file, h, order, false, versions, passes, sets);
+}
+
+// The versions that paths bring, dropped labels included; no letter is asked.
+pub fn brought(
+    file: &[u8],
+    h: Header,
+    order: &mut [u16],
+    versions: &[Set],
+    sets: &mut [Set],
+    gives: &mut [Set],
+    passes: &mut [Set],
+)
+    requires { ⌜ ReadAs (now file) h ⌝ }
+    requires { ⌜ EdgeOrder (now file) (now order) ⌝ }
+    requires { ⌜ Versions (now file) (now versions) ⌝ }
+    requires { ⌜ length (now sets) ≡ 8 * vertices (now file) ⌝ }
+    requires { ⌜ length (now gives) ≡ 8 * vertices (now file) ⌝ }
+    requires { ⌜ length (now passes) ≡ 8 * vertices (now file) ⌝ }
+    ensures { λ _. ⌜ EdgeOrder (now (file .entry)) (now (order .exit)) ⌝ }
+    ensures { λ _. ⌜ Cells (now (file .entry)) (broughtOf (now (file .entry))) (now (sets .exit)) ⌝ }
+{
+    let n = h.vertices;
+    let everywhere = entered::all(file, h, &mut gives[..n]);
+    if everywhere {
+        brought_everywhere(file, h, order, versions, sets, passes);
+        return;
+    }
+    brought_after_pass(file, h, order, versions, sets, gives, passes);
 }
 
 // The letters. Returns the number of rounds of their pass.

@@ -117,7 +117,7 @@ write-requires-2 c κs =
     let w = c .before .before .before in
     let a = placed w in
     let s = start a in
-    (s .pre .0, (s .pre .1 .1 .1 .1 .1 .1 .0, omega (arith, room a, row-bytes s, edges-length w, part-length (withEdges w) (a .actions-at .result))))
+    (s .pre .0, (s .pre .1 .1 .1 .1 .1 .1 .0, (s .pre .1 .1 .1 .1 .1 .0, (s .pre .1 .1 .1 .0, omega (arith, room a, row-bytes s, edges-length w, part-length (withEdges w) (a .actions-at .result))))))
 
 abbrev edged : tie.After-write2 → tie.After-write
 edged c = c .before .before .before .before
@@ -126,7 +126,7 @@ abbrev withRows : tie.After-write2 → List ℕ
 withRows c =
     let out = withEdges (edged c) in
     let at = placed (edged c) .actions-at .result in
-    take at out ++ (c .write2 .last .1 .1 .1 .0 ++ drop (length out - at) (drop at out))
+    take at out ++ (c .write2 .last .1 .1 .1 .1 .0 ++ drop (length out - at) (drop at out))
 
 rows-length : (c : tie.After-write2) → length (withRows c) ≡ length (old (start (placed (edged c))))
 rows-length c =
@@ -135,7 +135,7 @@ rows-length c =
     let s = start a in
     let file = s .args .file .now in
     let here = part-length (withEdges w) (a .actions-at .result) in
-    lent-length (withEdges w) (c .write2 .last .1 .1 .1 .0) (a .actions-at .result) (omega (arith, room a, edges-length w))
+    lent-length (withEdges w) (c .write2 .last .1 .1 .1 .1 .0) (a .actions-at .result) (omega (arith, room a, edges-length w))
     (wrote-length (partFrom (withEdges w) (a .actions-at .result)) (rows (expandedRow file) (expandedVertices file)) (c .write2 .ensures)
     (omega (arith, rows-size file (s .pre .0 .well .laid), row-bytes s, room a, edges-length w, here)))
     ∙ edges-length w
@@ -171,7 +171,7 @@ returns c =
       header w ∙ header-is (can s),
       c .before .before .write-head .ensures
           ∙ ap (λ (h : Header). wrote (withRows r) (headBytes file h)) (header w)
-          ∙ write-front (withEdges w) front middle (r .write2 .last .1 .1 .1 .0) (a .actions-at .result) at (omega (arith, room a, edges-length w)) (r .write2 .ensures)
+          ∙ write-front (withEdges w) front middle (r .write2 .last .1 .1 .1 .1 .0) (a .actions-at .result) at (omega (arith, room a, edges-length w)) (r .write2 .ensures)
           ∙ write-front (old s) (front ++ middle) (edgesBytes (expandedEdges file)) (w .write .last .1 .1 .1 .0) (edgesFrom a) edges-at (omega (arith, room a)) (w .write .ensures .1)
           ∙ ap (wrote (old s)) (whole (can s)),
     )

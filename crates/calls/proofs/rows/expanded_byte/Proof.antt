@@ -36,9 +36,6 @@ intent-byte-requires c κs = search needs
 if-passed-requires-2 : tie.Need-if-passed-requires-2
 if-passed-requires-2 c κs = search needs
 
-enum-told-4 : tie.Need-enum-told-4
-enum-told-4 c = search needs
-
 return-version-requires : tie.Need-return-version-requires
 return-version-requires c κs = search needs
 
@@ -58,28 +55,23 @@ passed b byte = cond (isCall b) byte 0x00
 
 returns : tie.Need-returns
 returns c =
-    let s = c .before .before .before .before .before in
-    c .before .before .action-byte .ensures ∙ sym (ap (expected s) (c .enum-told .given .1))
+    let s = c .before .before .before .before .before .before in
+    let is = c .before .before .before .action-byte .ensures in
+    c .if-passed .ensures ∙ ap (λ (b : ℕ). passed b (0x40 + calledVersion b)) is ∙ sym (ap (expected s) (c .before .enum-told .given .1))
 
 returns-2 : tie.Need-returns-2
 returns-2 c =
-    let s = c .before .before .before .before .before .before in
-    let is = c .before .before .before .action-byte .ensures in
-    c .if-passed .ensures ∙ ap (λ (b : ℕ). passed b (0x40 + calledVersion b)) is ∙ sym (ap (expected s) (c .before .enum-told2 .given .1))
+    let s = c .before .before .before .before .before .before .before in
+    let is = c .before .before .before .before .action-byte .ensures in
+    c .if-passed2 .ensures ∙ ap₂ passed is (c .before .intent-byte .ensures ∙ ap intentByte is)
+    ∙ sym (ap (expected s) (c .before .before .enum-told2 .given .1))
 
 returns-3 : tie.Need-returns-3
 returns-3 c =
     let s = c .before .before .before .before .before .before .before in
     let is = c .before .before .before .before .action-byte .ensures in
-    c .if-passed2 .ensures ∙ ap₂ passed is (c .before .intent-byte .ensures ∙ ap intentByte is)
-    ∙ sym (ap (expected s) (c .before .before .enum-told3 .given .1))
-
-returns-4 : tie.Need-returns-4
-returns-4 c =
-    let s = c .before .before .before .before .before .before .before in
-    let is = c .before .before .before .before .action-byte .ensures in
     c .if-passed3 .ensures ∙ ap₂ (λ (b k : ℕ). passed b (0x40 + k)) is (c .before .return-version .ensures .0)
-    ∙ sym (ap (expected s) (c .before .before .enum-told4 .given .1))
+    ∙ sym (ap (expected s) (c .before .before .enum-told3 .given .1))
 
 pub expanded-byte-spec : {M : Type 1} → statement M
 expanded-byte-spec =
@@ -87,17 +79,15 @@ expanded-byte-spec =
     (tie.spec
     action-byte-requires
     enum-told
-    enum-told-2
     add-if-passed
     if-passed-requires
-    enum-told-3
+    enum-told-2
     intent-byte-requires
     if-passed-requires-2
-    enum-told-4
+    enum-told-3
     return-version-requires
     add-if-passed-2
     if-passed-requires-3
     returns
     returns-2
-    returns-3
-    returns-4)
+    returns-3)

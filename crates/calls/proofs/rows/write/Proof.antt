@@ -14,16 +14,16 @@ use Rattle.calls.proofs.rows.write.Statement.{statement}
 use Rattle.calls.proofs.rows.write.Tie as tie
 
 abbrev Inv-loop : tie.InvT-loop
-Inv-loop file h arrivals out₀ n at₀ v₀ out at v = Filled (vertexRows file) (vertices file) out₀ v out × (at ≡ length (rows (vertexRows file) v))
+Inv-loop file h arrivals firsts out₀ n at₀ v₀ out at v = Filled (vertexRows file) (vertices file) out₀ v out × (at ≡ length (rows (vertexRows file) v))
 
 abbrev μ-loop : tie.MeasureT-loop
-μ-loop file h arrivals out₀ n at₀ v₀ out at v = n - v
+μ-loop file h arrivals firsts out₀ n at₀ v₀ out at v = n - v
 
 loop-holds : tie.Need-loop-holds Inv-loop μ-loop
 unfolding rows
 loop-holds c =
-    let s = c .before .before .before in
-    (begin _ _ _ (omega (arith, s .pre .1 .1, all-length (s .args .file .now))), refl)
+    let s = c .before .before .before .before in
+    (begin _ _ _ (omega (arith, s .pre .1 .1 .1 .1, all-length (s .args .file .now))), refl)
 
 sub-write-vertex : tie.Need-sub-write-vertex Inv-loop μ-loop
 sub-write-vertex c = lies (c .before .loop .inv .0) (c .before .loop .inv .1) (omega arith)
@@ -37,8 +37,8 @@ part-write-vertex-end c = search needs
 write-vertex-requires : tie.Need-write-vertex-requires Inv-loop μ-loop
 write-vertex-requires c κs =
     let l = c .before .before in
-    let s = l .before .before .before .before in
-    (s .pre .0, (s .pre .1 .0, (omega arith, lent (l .loop .inv .0) (l .loop .inv .1) (omega arith))))
+    let s = l .before .before .before .before .before in
+    (s .pre .0, (s .pre .1 .0, (s .pre .1 .1 .0, (s .pre .1 .1 .1 .0, (omega arith, lent (l .loop .inv .0) (l .loop .inv .1) (omega arith))))))
 
 add-at : tie.Need-add-at Inv-loop μ-loop
 add-at c =
@@ -63,7 +63,7 @@ same-length c = buffer-length (c .before .loop .inv .0)
 
 returns : tie.Need-returns Inv-loop μ-loop
 returns c =
-    let s = c .before .before .before .before .before in
+    let s = c .before .before .before .before .before .before in
     end (c .before .loop .inv .0) (omega arith) ∙ ap (wrote (s .args .out .now)) (all-by-vertex (s .args .file .now))
 
 pub write-spec : {M : Type 1} → statement M

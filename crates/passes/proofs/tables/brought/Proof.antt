@@ -1,87 +1,102 @@
--- `tables::brought` meets its contract: the reached vertices are found, the edges are ordered anew, and both tables are filled and solved.
+-- `tables::brought` meets its contract, either way.
 -- Assumes nothing.
-use mathlib.Core.Path.{sym, _∙_}
-use Rattle.passes.proofs.Steps.{brought-gives, brought-passes, brought-sets}
+use mathlib.Core.Path.{_≡_, sym, _∙_}
+use mathlib.Core.List.{List, _++_}
+use Prim.Native.Nat.{ℕ, _+_, _≤_}
+use native.Mathlib.Omega.{arith}
+use borrow.Author.Needs.{needs}
+use lib.ListN.{length, take, drop, length-append, length-drop}
+use lib.Seq.{length-take-le}
 use Rattle.passes.proofs.tables.brought.Statement.{statement}
 use Rattle.passes.proofs.tables.brought.Tie as tie
 
--- from each call to the one before
-abbrev start : tie.After-reached → tie.Start
-start x = x .before .before .before .before .before .before .before .before .before .before .before
+-- ---- the part of `gives` that the marks take
 
-abbrev reached : tie.After-reorder → tie.After-reached
-reached o = o .before .before .before .before .before .before .before .before
+room : (s : tie.Start) → s .args .h .vertices ≤ length (s .args .gives .now)
+room s = omega (arith, s .pre .0 .heads .vertices-are, s .pre .1 .1 .1 .1 .0)
 
-abbrev ordered : tie.After-fill-brought → tie.After-reorder
-ordered f = f .before .before .before .before .before .before
+part : (s : tie.Start) → length (take (s .args .h .vertices) (s .args .gives .now)) ≡ s .args .h .vertices
+part s = length-take-le (s .args .h .vertices) (s .args .gives .now) (room s)
 
-abbrev filled : tie.After-solve → tie.After-fill-brought
-filled v = v .before .before .before .before .before .before .before .before .before
+left : (s : tie.Start) (marks : List ℕ) → length marks ≡ length (take (s .args .h .vertices) (s .args .gives .now))
+    → length (marks ++ drop (s .args .h .vertices) (s .args .gives .now)) ≡ length (s .args .gives .now)
+left s marks e =
+    let n = s .args .h .vertices in
+    let gives = s .args .gives .now in
+    let sum : length marks + length (drop n gives) ≡ length gives = omega (arith, e, part s, length-drop n gives, room s) in
+    length-append marks (drop n gives) ∙ sum
 
-reached-requires : tie.Need-reached-requires
-reached-requires c κs =
-    let p = c .before .before .before .before .before .before .before .before .before .before .pre in
-    (p .0, (p .1 .0, p .1 .1 .1))
+slice-relend-prefix-all : tie.Need-slice-relend-prefix-all
+slice-relend-prefix-all c = search needs
 
-reorder-requires : tie.Need-reorder-requires
-reorder-requires c κs =
-    let p = start (c .before .before .before .before .before .before .before) .pre in
-    (p .0, p .1 .0)
+slice-aggregate-all : tie.Need-slice-aggregate-all
+slice-aggregate-all c = sym (part (c .before .before .before .before .before .before .before))
 
-fill-brought-requires : tie.Need-fill-brought-requires
-fill-brought-requires c κs =
-    let x = reached (c .before .before .before .before .before) in
-    let q = start x .pre .1 .1 in
-    let all = sym (q .0 .size) in
-    (x .reached .ensures .0 .size ∙ all, (x .reached .kept .1 .1 .1 .1 .0 ∙ q .1 .1 .0 ∙ all, x .reached .kept .1 .1 .1 .1 .1 .0 ∙ q .1 .1 .1 ∙ all))
+all-requires : tie.Need-all-requires
+all-requires c κs = let s = c .before .before .before .before .before .before .before in (s .pre .0, part s ∙ s .pre .0 .heads .vertices-are)
 
-solve-requires : tie.Need-solve-requires
-solve-requires c κs =
-    let f = c .before .before .before .before .before .before .before .before in
-    let o = ordered f in
-    let x = reached o in
-    let p = start x .pre in
-    let vs = p .1 .1 .0 in
-    let well = p .0 .well in
-    (p .0, (o .reorder .ensures, (brought-gives well vs (x .reached .ensures .0) (f .fill-brought .ensures .0) .size, (brought-passes well vs (f .fill-brought .ensures .1) .size, x .reached .ensures .0 .size))))
+-- ---- every vertex is reached
+
+brought-everywhere-requires : tie.Need-brought-everywhere-requires
+brought-everywhere-requires c κs =
+    let p = c .before .before .before .before .before .before .before .before .before .before .before .before .before .before .pre in
+    (p .0, (c .before .before .before .before .before .before .all .ensures (c .before .before .before .if1 .taken), (p .1 .0, (p .1 .1 .0, (p .1 .1 .1 .0, p .1 .1 .1 .1 .1)))))
 
 same-length : tie.Need-same-length
-same-length c = ordered (filled (c .before .before)) .reorder .kept .1 .1 .0
+same-length c = search needs
 
 same-length-2 : tie.Need-same-length-2
-same-length-2 c = c .before .before .solve .kept .1 .1 .1 .1 .1 .1 .0 ∙ reached (ordered (filled (c .before .before))) .reached .kept .1 .1 .1 .0
+same-length-2 c = c .before .before .before .before .brought-everywhere .kept .1 .1 .1 .1 .0
 
 same-length-3 : tie.Need-same-length-3
-same-length-3 c =
-    let f = filled (c .before .before) in
-    f .fill-brought .kept .1 .1 .0 ∙ reached (ordered f) .reached .kept .1 .1 .1 .1 .0
+same-length-3 c = left (c .before .before .before .before .before .before .before .before .before .before .before .before .before .before .before .before .before .before .before) (c .before .before .before .before .before .before .before .before .before .before .before .all .last .1 .1 .0) (c .before .before .before .before .before .before .before .before .before .before .before .all .kept .1 .1 .0)
 
 same-length-4 : tie.Need-same-length-4
-same-length-4 c =
-    let f = filled (c .before .before) in
-    f .fill-brought .kept .1 .1 .1 .0 ∙ reached (ordered f) .reached .kept .1 .1 .1 .1 .1 .0
+same-length-4 c = c .before .before .before .before .brought-everywhere .kept .1 .1 .1 .1 .1 .0
 
 returns : tie.Need-returns
-returns c =
-    let v = c .before .before in
-    let f = filled v in
-    let o = ordered f in
-    let x = reached o in
-    let p = start x .pre in
-    let vs = p .1 .1 .0 in
-    let well = p .0 .well in
-    (o .reorder .ensures, brought-sets well (brought-gives well vs (x .reached .ensures .0) (f .fill-brought .ensures .0)) (brought-passes well vs (f .fill-brought .ensures .1)) (v .solve .ensures .0))
+returns c = (c .before .before .before .before .before .before .before .before .before .before .before .before .before .before .before .before .before .before .before .pre .1 .0, c .before .before .before .before .brought-everywhere .ensures)
+
+-- ---- a pass is to find it
+
+brought-after-pass-requires : tie.Need-brought-after-pass-requires
+brought-after-pass-requires c κs =
+    let s = c .before .before .before .before .before .before .before .before .before .before .before .before .before .before .before in
+    let p = s .pre in
+    let all = c .before .before .before .before .before .before .before .all in
+    (p .0, (p .1 .0, (p .1 .1 .0, (p .1 .1 .1 .0, (left s (all .last .1 .1 .0) (all .kept .1 .1 .0) ∙ p .1 .1 .1 .1 .0, p .1 .1 .1 .1 .1)))))
+
+same-length-5 : tie.Need-same-length-5
+same-length-5 c = c .before .before .before .before .before .before .before .before .brought-after-pass .kept .1 .1 .0
+
+same-length-6 : tie.Need-same-length-6
+same-length-6 c = c .before .before .before .before .before .before .before .before .brought-after-pass .kept .1 .1 .1 .1 .0
+
+same-length-7 : tie.Need-same-length-7
+same-length-7 c = c .before .before .before .before .before .before .before .before .brought-after-pass .kept .1 .1 .1 .1 .1 .0 ∙ left (c .before .before .before .before .before .before .before .before .before .before .before .before .before .before .before .before .before .before .before .before .before .before .before .before) (c .before .before .before .before .before .before .before .before .before .before .before .before .before .before .before .before .all .last .1 .1 .0) (c .before .before .before .before .before .before .before .before .before .before .before .before .before .before .before .before .all .kept .1 .1 .0)
+
+same-length-8 : tie.Need-same-length-8
+same-length-8 c = c .before .before .before .before .before .before .before .before .brought-after-pass .kept .1 .1 .1 .1 .1 .1 .0
+
+returns-2 : tie.Need-returns-2
+returns-2 c = c .before .before .before .before .before .before .before .before .brought-after-pass .ensures
 
 pub brought-spec : {M : Type 1} → statement M
 brought-spec =
     tie.close
     (tie.spec
-    reached-requires
-    reorder-requires
-    fill-brought-requires
-    solve-requires
+    slice-relend-prefix-all
+    slice-aggregate-all
+    all-requires
+    brought-everywhere-requires
     same-length
     same-length-2
     same-length-3
     same-length-4
-    returns)
+    returns
+    brought-after-pass-requires
+    same-length-5
+    same-length-6
+    same-length-7
+    same-length-8
+    returns-2)
