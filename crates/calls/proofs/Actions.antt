@@ -1,12 +1,12 @@
 -- Action bytes of what calls become.
 -- Assumes nothing.
-use mathlib.Core.Path.{_≡_, refl, ap}
+use mathlib.Core.Path.{_≡_, refl}
 use mathlib.Core.Bool.{Bool, true, false, cond}
 use mathlib.Core.List.{List}
-use Prim.Native.Nat.{ℕ, _+_, _-_, _<_}
+use Prim.Native.Nat.{ℕ, _+_, _<_}
 use native.Mathlib.Omega.{arith}
-use borrow.Author.Tests.{lt-ltb, le-ltb, ne-eqb}
 use lib.Dec.{ltb}
+use Rattle.routine.proofs.Actions.{remap-action}
 use Rattle.routine.specs.Actions.{actionOf}
 use Rattle.routine.specs.Layout.{arrays}
 use Rattle.routine.specs.declared.action.Access.{Access}
@@ -15,19 +15,6 @@ use Rattle.routine.specs.declared.action.Action.the-variants.{Nothing, Referenc
 use Rattle.sets.specs.Sets.{width}
 use Rattle.words.proofs.Sums.{each-fails}
 use Rattle.calls.specs.Calls.{intentByte, passes, isCallRow}
-
-remap-action : (k : ℕ) → k < width → actionOf (0x40 + k) ≡ Remap k
-unfolding actionOf
-remap-action k h =
-    let e : 0x40 + k - 0x40 ≡ k = omega arith in
-    rw (
-      ne-eqb (0x40 + k) 0x00 (λ f. omega arith),
-      ne-eqb (0x40 + k) 0x10 (λ f. omega arith),
-      ne-eqb (0x40 + k) 0x20 (λ f. omega arith),
-      ne-eqb (0x40 + k) 0x30 (λ f. omega arith),
-      le-ltb (0x40 + k) 0x40 (omega arith),
-      lt-ltb (0x40 + k) (0x40 + width) (omega arith),
-    ) (ap Remap e)
 
 -- an intent is a reference
 pub intent-refers : (b : ℕ) → (r : Access) × (actionOf (intentByte b) ≡ Reference r)

@@ -10,7 +10,7 @@ use Rattle.flow.specs.Solver.{solution}
 use Rattle.routine.specs.Actions.{isReference}
 use Rattle.sets.specs.Sets.{several, everyVersion}
 use Rattle.labels.specs.Events.{solvedSets, event, isLabel, version}
-use Rattle.labels.specs.Reaching.{lastVersion, BroughtBy, isReached, reachingOf}
+use Rattle.labels.specs.Reaching.{lastVersion, BroughtBy, isReachedOver, isReached, reachingOf}
 
 -- ---- by paths
 
@@ -31,7 +31,7 @@ pub record Ambiguous (file : List ℕ) (a v : ℕ) : Type 0 where
 
 -- a label that a path from the entry reaches gives its version
 unfoldable pub broughtGives : List ℕ → ℕ → ℕ → ℕ
-unfolding isReached event version
+unfolding isReachedOver event version
 broughtGives file a v = cond (isReached file v && isLabel file a v) (2 ^ version file a v) 0
 
 -- what is no label passes every version

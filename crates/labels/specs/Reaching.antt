@@ -9,18 +9,23 @@ use lib.Dec.{eqb}
 use lib.ListN.{getD}
 use Rattle.flow.specs.Paths.{Joined}
 use Rattle.flow.specs.Solver.{solution}
-use Rattle.routine.specs.Layout.{entry}
+use Rattle.routine.specs.Layout.{vertices, entry}
 use Rattle.sets.specs.Sets.{has, everyVersion}
+use Rattle.words.specs.Tables.{table}
 use Rattle.labels.specs.Events.{edgeBytes, solvedSets, version}
 use Rattle.routine.specs.Arrays.{kind, initial, isInOrInout}
 use Rattle.labels.specs.Uses.{isKept}
 
 -- ---- by paths
 
--- a path from the entry to v, as the list of the vertices before v
+-- a path from the entry to v over the bytes of any edges, as the list of the vertices before v
+abbrev pub Arrives : List ℕ → List ℕ → ℕ → Type 0
+Arrives es [] v = v ≡ entry
+Arrives es (u ∷ us) v = (u ≡ entry) × Joined es u us v
+
+-- over those of a routine
 abbrev pub ArrivesBy : List ℕ → List ℕ → ℕ → Type 0
-ArrivesBy file [] v = v ≡ entry
-ArrivesBy file (u ∷ us) v = (u ≡ entry) × Joined (edgeBytes file) u us v
+ArrivesBy file before v = Arrives (edgeBytes file) before v
 
 -- the later of two versions, if there is one
 abbrev pub orLast : Option ℕ → Option ℕ → Option ℕ
@@ -51,19 +56,26 @@ Reaches file a v k = BroughtBy file (λ before. orInitial file a (lastVersion (i
 
 -- ---- computed: first which vertices some path from the entry reaches
 
--- bit 0 where a path of one edge or more from the entry arrives
-unfoldable pub reachedSets : List ℕ → List ℕ
+-- bit 0 where a path of one edge or more from the entry arrives, over edges among n vertices
+unfoldable pub reachedOver : List ℕ → ℕ → List ℕ
 unfolding solution
-reachedSets file = solvedSets file false (λ v. cond (eqb v entry) 1 0) (λ v. 1)
+reachedOver es n = solution es false (table (λ v. cond (eqb v entry) 1 0) n) (table (λ v. 1) n) n
 
 -- v is the entry, or some path from the entry arrives there
-unfoldable pub isReached : List ℕ → ℕ → Bool
-unfolding reachedSets has
-isReached file v = eqb v entry || has (getD (reachedSets file) v 0) 0
+unfoldable pub isReachedOver : List ℕ → ℕ → ℕ → Bool
+unfolding reachedOver has
+isReachedOver es n v = eqb v entry || has (getD (reachedOver es n) v 0) 0
+
+-- the same over the edges of a routine
+abbrev pub reachedSets : List ℕ → List ℕ
+reachedSets file = reachedOver (edgeBytes file) (vertices file)
+
+abbrev pub isReached : List ℕ → ℕ → Bool
+isReached file v = isReachedOver (edgeBytes file) (vertices file) v
 
 -- a kept label that a path from the entry reaches gives its version; so does the entry of in and inout, kept or not
 unfoldable pub reachGives : List ℕ → ℕ → ℕ → ℕ
-unfolding isReached isKept version
+unfolding isReachedOver isKept version
 reachGives file a v =
     cond (isReached file v && (isKept file a v || (eqb v entry && isInOrInout (kind file a)))) (2 ^ version file a v) 0
 

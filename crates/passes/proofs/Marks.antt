@@ -10,7 +10,7 @@ use lib.Dec.{T, eqb}
 use lib.ListN.{length, getD, set, replicate}
 use Rattle.labels.proofs.Rules.Arrivals.{reached-next}
 use Rattle.labels.proofs.Rules.Proper.{edge-count, edge-from, edge-to, ends-within}
-use Rattle.labels.specs.Reaching.{isReached}
+use Rattle.labels.specs.Reaching.{isReachedOver, isReached}
 use Rattle.passes.specs.Marks.{Follows, Marked, AllReached}
 use Rattle.routine.specs.Edges.{edgeOf}
 use Rattle.routine.specs.Layout.{vertices, edges}
@@ -25,7 +25,7 @@ module _ (file : List ℕ) where
   Says v mark = (mark ≡ 0 → ⊥) → Follows file v
 
   entry-reached : T (isReached file 0)
-  unfolding isReached
+  unfolding isReachedOver
   entry-reached = tt
 
   pub marks-begin : (n : ℕ) → Marked file (set (replicate n 0) 0 1)
@@ -38,7 +38,7 @@ module _ {file marks : List ℕ} (w : WellFormed file) (marked : Marked file mar
   pub marks-next : (i : ℕ) → i < edges file → edgeOf file i .from < edgeOf file i .to → Marked file (set marks (edgeOf file i .to) 1)
   marks-next i in-edges less = record {
     follows = λ v. at-set (Says file) marks (edgeOf file i .to) 1 v
-        (λ some earlier. reached-next file (ends-within file w) (edgeOf file i .from) (edgeOf file i .to) (earlier (edgeOf file i .from) less)
+        (λ some earlier. reached-next (ends-within file w) (edgeOf file i .from) (edgeOf file i .to) (earlier (edgeOf file i .from) less)
         (record { place = i; listed = omega (arith, edge-count file (w .laid)); leaves = edge-from file i; enters = edge-to file i }))
         (marked .follows v);
   }

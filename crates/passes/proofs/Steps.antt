@@ -21,7 +21,7 @@ use Rattle.labels.specs.Events.{event, isLabel, versionOf, version}
 use Rattle.routine.specs.Arrays.{kind, initial, isInOrInout}
 use Rattle.labels.specs.Kept.{isNOrR, passesKept, leavingSet, keptSets, keptOf}
 use Rattle.labels.specs.Letters.{letterByte, useOfByte}
-use Rattle.labels.specs.Reaching.{reachedSets, isReached, reachGives, reachPasses, reachSets, reachingOf}
+use Rattle.labels.specs.Reaching.{reachedOver, isReachedOver, isReached, reachGives, reachPasses, reachSets, reachingOf}
 use Rattle.passes.specs.Marks.{AllReached}
 use Rattle.passes.specs.Tables.{Cells, reachedCell, Versions, UseGives, Reached, Letters, Pass}
 use Rattle.labels.specs.declared.Use.the-variants.{W}
@@ -70,11 +70,11 @@ module _ {file : List ℕ} (well : WellFormed file) where
 
   pub reached-sets : {gives passes sets : List ℕ} → Cells file (λ a v. cond (eqb v entry) 1 0) gives → Cells file (λ a v. 1) passes
       → Pass file false gives passes sets → Reached file sets
-  unfolding reachedSets
+  unfolding reachedOver
   reached-sets g p h = cells-solved well (λ a v. cond (eqb v entry) 1 0) (λ a v. 1) g p h
 
   reached-at : {reached : List ℕ} → Reached file reached → (a v : ℕ) → a < arrays file → v < vertices file → reachedCell (8 * v + a) (getD reached (8 * v + a) 0) ≡ isReached file v
-  unfolding isReached
+  unfolding isReachedOver
   reached-at h a v in-a in-v = ap₂ _||_ (first-row v a (in-eight well in-a)) (ap (λ (m : ℕ). has m 0) (h .cells a v in-a in-v))
 
   -- ---- the versions that paths bring
@@ -168,7 +168,7 @@ module _ {file : List ℕ} (well : WellFormed file) where
 
     reach-entry : (a : ℕ) → a < arrays file
         → cond (not (isN (useOfByte (getD letters a 0))) || isInOrInout (kind file a)) (2 ^ initial file a) 0 ≡ reachGives file a entry
-    unfolding reachGives isReached isKept version event
+    unfolding reachGives isReachedOver isKept version event
     reach-entry a in-a =
         let place : a ≡ 8 * entry + a = omega arith in
         ap (λ (i : ℕ). cond (not (isN (useOfByte (getD letters i 0))) || isInOrInout (kind file a)) (2 ^ initial file a) 0) place

@@ -24,6 +24,15 @@ fails rest is e = rw (← is, e)
 pub passes : {v w x rest : Verdict} → v ≡ w → v ≡ Passed → x ≡ rest → x ≡ (w andThen rest)
 passes is e next = rw (← is, e) next
 
+-- a check that passes adds nothing behind others
+pub then-passed : (v : Verdict) → (v andThen Passed) ≡ v
+then-passed Passed = refl
+then-passed (Failed r) = refl
+
+pub then-assoc : (u v w : Verdict) → ((u andThen v) andThen w) ≡ (u andThen v andThen w)
+then-assoc Passed v w = refl
+then-assoc (Failed r) v w = refl
+
 -- a call that writes has passed its checks
 pub written-passed : (v : Verdict) (m : ℕ) {n : ℕ} → written v m ≡ Written n → v ≡ Passed
 written-passed Passed m e = refl
@@ -105,6 +114,15 @@ module _ (item : ℕ → Verdict) where
   next-item from i =
       let e : from + suc i ≡ from + 1 + i = omega arith in
       ap item e
+
+  -- the last item behind the others
+  pub first-last : (from n : ℕ) → firstFailed item from (suc n) ≡ (firstFailed item from n andThen item (from + n))
+  unfolding firstFailed
+  first-last from zero = rw add-zero (then-passed (item from))
+  first-last from (suc n) =
+      ap (λ (w : Verdict). item from andThen w) (first-last (from + 1) n)
+      ∙ sym (then-assoc (item from) _ _)
+      ∙ ap (λ (w : Verdict). firstFailed item from (suc n) andThen w) (sym (next-item from n))
 
   -- the items from the next one on, as items of their own
   pub shift : (from n : ℕ) → firstFailed item (from + 1) n ≡ firstFailed (λ i. item (i + 1)) from n

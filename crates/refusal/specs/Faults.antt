@@ -1,10 +1,16 @@
--- Document 01, "Who can cause a refusal": places that are a vertex and an array, first by vertex, then by array.
+-- Document 01, "Who can cause a refusal": the first place at fault; places that are a vertex and an array go first by vertex, then by array.
 -- Assumes nothing.
 use mathlib.Core.Bool.{Bool, not}
 use Prim.Native.Nat.{ℕ, _<_}
 use Rattle.refusal.specs.declared.Refusal.{Refusal}
 use Rattle.refusal.specs.declared.Verdict.{Verdict}
 use Rattle.refusal.specs.Checks.{holds, firstFailed}
+
+-- item i is the first of n at which a fault stands
+pub record FirstOf (Fault : ℕ → Type 0) (n i : ℕ) : Type 0 where
+  pub within : i < n
+  pub fault : Fault i
+  pub none-earlier : (j : ℕ) → j < i → Fault j → ⊥
 
 -- the first vertex, and there the first array, at which a fault stands
 unfoldable pub firstFault : (ℕ → ℕ → Bool) → (ℕ → ℕ → Refusal) → ℕ → ℕ → Verdict

@@ -3,7 +3,7 @@
 use Prim.Native.Nat.{ℕ}
 use Rattle.refusal.specs.declared.Outcome.{Outcome}
 use Rattle.refusal.specs.declared.Refusal.{Refusal}
-use Rattle.refusal.specs.declared.Refusal.the-variants.{TooShort, WrongMark, WrongEdition, CountOutsideLimits, WrongOffset, WrongLength, WrongArrayByte, UnknownAction, VersionTooLarge, ActionAtEntryOrExit, MixedActions, WrongEdge, TooManyVertices, WritesInArgument, AmbiguousReference, PathLengthOutsideLimits, WrongStart, NoSuchEdge, ShortPlanBuffer, ShortReportBuffer}
+use Rattle.refusal.specs.declared.Refusal.the-variants.{TooShort, WrongMark, WrongEdition, CountOutsideLimits, WrongOffset, WrongLength, WrongArrayByte, UnknownAction, VersionTooLarge, ActionAtEntryOrExit, MixedActions, WrongEdge, TooManyVertices, WritesInArgument, AmbiguousReference, PathLengthOutsideLimits, WrongStart, NoSuchEdge, MalformedDirectives, TooManyMappings, TwoMappings, ShortRoutineBuffer, ShortPlanBuffer, ShortReportBuffer}
 
 -- a number and two places
 abbrev pub refused : ℕ → ℕ → ℕ → Outcome
@@ -29,5 +29,9 @@ outcomeOf (AmbiguousReference vertex array) = refused 21 vertex array
 outcomeOf (PathLengthOutsideLimits length) = refused 30 length 0
 outcomeOf WrongStart = refused 31 0 0
 outcomeOf (NoSuchEdge index) = refused 32 index 0
+outcomeOf (MalformedDirectives byte) = refused 40 byte 0
+outcomeOf (TooManyMappings array) = refused 41 array 0
+outcomeOf (TwoMappings vertex array) = refused 42 vertex array
+outcomeOf (ShortRoutineBuffer needed) = refused 1 needed 0
 outcomeOf (ShortPlanBuffer needed) = refused 1 needed 0
 outcomeOf (ShortReportBuffer needed) = refused 2 needed 0

@@ -1,5 +1,6 @@
-// Refusals: a case for each reason, named for what it says (document 01, "Who can cause a refusal"; document 02, requests 2 and 3).
+// Refusals: a case for each reason, named for what it says (document 01, "Who can cause a refusal"; document 02, requests 2 to 4).
 ghost use mathlib.Core.Path.{_≡_};
+ghost use Rattle.refusal.specs.Checks.{_andThen_};
 ghost use Rattle.refusal.specs.Refusals.{outcomeOf};
 ghost use Rattle.refusal.specs.Replies.{replyOutcome};
 
@@ -25,7 +26,13 @@ pub enum Refusal {
     PathLengthOutsideLimits { length: usize },
     WrongStart,
     NoSuchEdge { index: usize },
+    // The directive file's writer.
+    MalformedDirectives { byte: usize },
+    // The directives' programmer.
+    TooManyMappings { array: usize },
+    TwoMappings { vertex: usize, array: usize },
     // The library's caller.
+    ShortRoutineBuffer { needed: usize },
     ShortPlanBuffer { needed: usize },
     ShortReportBuffer { needed: usize },
 }
@@ -34,6 +41,18 @@ pub enum Refusal {
 pub enum Verdict {
     Passed,
     Failed(Refusal),
+}
+
+impl Verdict {
+    // The first failure of the two.
+    pub fn and_then(self, rest: Verdict) -> Verdict
+        ensures { λ v. ⌜ v ≡ (self andThen rest) ⌝ }
+    {
+        match self {
+            Verdict::Passed => rest,
+            Verdict::Failed(_) => self,
+        }
+    }
 }
 
 // What a public call answers: the length written, or the refusal.
@@ -143,6 +162,26 @@ pub fn outcome_of(r: Refusal) -> Outcome
         Refusal::NoSuchEdge { index } => Outcome {
             number: 32,
             first: index as u64,
+            second: 0,
+        },
+        Refusal::MalformedDirectives { byte } => Outcome {
+            number: 40,
+            first: byte as u64,
+            second: 0,
+        },
+        Refusal::TooManyMappings { array } => Outcome {
+            number: 41,
+            first: array as u64,
+            second: 0,
+        },
+        Refusal::TwoMappings { vertex, array } => Outcome {
+            number: 42,
+            first: vertex as u64,
+            second: array as u64,
+        },
+        Refusal::ShortRoutineBuffer { needed } => Outcome {
+            number: 1,
+            first: needed as u64,
             second: 0,
         },
         Refusal::ShortPlanBuffer { needed } => Outcome {

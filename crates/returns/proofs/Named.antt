@@ -8,6 +8,7 @@ use Prim.Native.Nat.{ℕ, zero, suc, _<_}
 use native.Mathlib.Omega.{arith}
 use Rattle.labels.proofs.Rules.Arrivals.{arrives-append}
 use Rattle.labels.specs.Checks.{check21}
+use Rattle.labels.specs.Events.{edgeBytes}
 use Rattle.labels.specs.Reaching.{ArrivesBy}
 use Rattle.path.proofs.Paths.{Walk}
 use Rattle.path.specs.Paths.{steps, vertexAt}
@@ -34,7 +35,7 @@ module _ (file : List ℕ) (can : Expandable file) {a : ℕ} (in-a : a < arrays 
     leads : (i : ℕ) → i < steps path → ArrivesBy (expanded file) (table (vertexAt path) i) (vertexAt path i)
     unfolding rows
     leads zero h = walk .begins
-    leads (suc i) h = arrives-append (expanded file) (table (vertexAt path) i) (vertexAt path i) [] (vertexAt path (suc i)) (leads i (omega arith)) (walk .joined i h)
+    leads (suc i) h = arrives-append (edgeBytes (expanded file)) (table (vertexAt path) i) (vertexAt path i) [] (vertexAt path (suc i)) (leads i (omega arith)) (walk .joined i h)
 
     pub names-return : check21 (referring file) ≡ Passed → (i v : ℕ) → i < steps path → v < vertices file → vertexAt path i ≡ firstOf file v → passes file a v ≡ true
         → named file can in-a (table (vertexAt path) i) ≡ some (returnVersion file a v)

@@ -1,10 +1,10 @@
--- What a byte's action says of its other tests: a call is unknown to document 01, and only the byte 0 does nothing.
+-- What a byte's action says of its other tests: 40+k remaps, a call is unknown to document 01, and only the byte 0 does nothing.
 -- Assumes nothing.
 use mathlib.Core.Path.{_≡_, refl, sym, ap, _∙_}
 use mathlib.Core.Bool.{Bool, true, false, cond, true≢false}
-use Prim.Native.Nat.{ℕ, _+_, _≤_}
+use Prim.Native.Nat.{ℕ, _+_, _-_, _≤_, _<_}
 use native.Mathlib.Omega.{arith}
-use borrow.Author.Tests.{leb-true, le-ltb, ne-eqb}
+use borrow.Author.Tests.{leb-true, lt-ltb, le-ltb, ne-eqb}
 use lib.Dec.{leb, eqb}
 use Rattle.routine.specs.declared.action.Access.{Access}
 use Rattle.routine.specs.declared.action.Action.{Action}
@@ -13,6 +13,22 @@ use Rattle.routine.specs.Actions.{actionOf, isCall, isKnown, familyOf}
 use Rattle.routine.specs.Layout.{within}
 use Rattle.sets.specs.Sets.{width}
 use Rattle.words.proofs.Tests.{and-left, or-cases, by-test}
+
+-- ---- remappings
+
+-- 40+k remaps to version k
+pub remap-action : (k : ℕ) → k < width → actionOf (0x40 + k) ≡ Remap k
+unfolding actionOf
+remap-action k h =
+    let e : 0x40 + k - 0x40 ≡ k = omega arith in
+    rw (
+      ne-eqb (0x40 + k) 0x00 (λ f. omega arith),
+      ne-eqb (0x40 + k) 0x10 (λ f. omega arith),
+      ne-eqb (0x40 + k) 0x20 (λ f. omega arith),
+      ne-eqb (0x40 + k) 0x30 (λ f. omega arith),
+      le-ltb (0x40 + k) 0x40 (omega arith),
+      lt-ltb (0x40 + k) (0x40 + width) (omega arith),
+    ) (ap Remap e)
 
 -- ---- calls
 

@@ -19,7 +19,7 @@ impl Edge {
     pub const SIZE: usize = 4;
 
     // Whether this edge stands before the other: by from, then to.
-    fn is_before(self, other: Edge) -> bool
+    pub fn is_before(self, other: Edge) -> bool
         ensures { λ r. ⌜ r ≡ before self other ⌝ }
     {
         if self.from < other.from {

@@ -52,11 +52,11 @@ module _ (file : List ℕ) (a : ℕ) (proper : Proper file a) (v : ℕ) where
         → lastVersion (isLabel file a) (version file a) (u ∷ us) ≡ lastVersion (isKept file a) (version file a) (u ∷ us)
     last-kept u [] h e = ap (λ (b : Bool). own b u) (label-kept u (last e))
     last-kept u (x ∷ us) h e =
-        let start = reached-next file (proper .ends) u x h (e .0) in
-        step (lastVersion (isLabel file a) (version file a) (x ∷ us)) (last-of (isLabel file a) (version file a) file (proper .ends) x us v start (e .1))
+        let start = reached-next (proper .ends) u x h (e .0) in
+        step (lastVersion (isLabel file a) (version file a) (x ∷ us)) (last-of (isLabel file a) (version file a) (proper .ends) x us v start (e .1))
         ∙ ap (orLast (own (isKept file a u) u)) (last-kept x us start (e .1))
       where
-        step : (o : Option ℕ) → Last (isLabel file a) (version file a) file (proper .ends) x v o → orLast (own (isLabel file a u) u) o ≡ orLast (own (isKept file a u) u) o
+        step : (o : Option ℕ) → Last (isLabel file a) (version file a) (proper .ends) x v o → orLast (own (isLabel file a u) u) o ≡ orLast (own (isKept file a u) u) o
         step none l = ap (λ (b : Bool). own b u) (label-kept u (next (e .0) (l .0) (l .1)))
         step (some k) l = refl
 
@@ -72,7 +72,7 @@ module _ (file : List ℕ) (a : ℕ) (proper : Proper file a) (v : ℕ) where
         → orInitial file a (lastVersion (isKept file a) (version file a) before) ≡ lastVersion (isLabel file a) (version file a) before
     last-brings [] p = absurd (subst (λ x. T (isReference x)) (ap (event file a) p ∙ entry-remaps file a) reference)
     last-brings (u ∷ us) p =
-        ap (orInitial file a) (sym (last-kept u us (reached-exact file (proper .ends) u .1 ([], p .0)) (p .1)))
+        ap (orInitial file a) (sym (last-kept u us (reached-exact (proper .ends) u .1 ([], p .0)) (p .1)))
         ∙ entry-label u (p .0) (lastVersion (isLabel file a) (version file a) us)
 
     -- the reaching set holds what paths bring

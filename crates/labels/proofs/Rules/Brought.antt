@@ -55,7 +55,7 @@ module _ (file : List ℕ) (a : ℕ) where
   pub brings-next : {v w k : ℕ} → Brings file a v k → Edge (edgeBytes file) v w → Brings file a w (namedAfter (event file a v) k)
   brings-next {v} {w} b e = record {
     before = b .before ++ (v ∷ []);
-    path = arrives-append file (b .before) v [] w (b .path) e;
+    path = arrives-append (edgeBytes file) (b .before) v [] w (b .path) e;
     brings = last-after (b .before) v (b .brings);
   }
 
@@ -63,7 +63,7 @@ module _ (file : List ℕ) (a : ℕ) where
 
 module _ (file : List ℕ) (a : ℕ) (proper : Proper file a) (v : ℕ) where
   -- a reached label that has version k and leads to v past no other
-  carried-exact : (k : ℕ) → T (has (broughtOf file a v) k) ↔ Carried (isLabel file a) (version file a) file (proper .ends) v k
+  carried-exact : (k : ℕ) → T (has (broughtOf file a v) k) ↔ Carried (isLabel file a) (version file a) (proper .ends) v k
   unfolding broughtOf broughtSets broughtGives broughtPasses
   carried-exact = versions-exact file a proper false _ _ (λ u. isReached file u && isLabel file a u) (λ u. not (isLabel file a u))
       (λ u. refl) (λ u. cond-not (isLabel file a u) 0 everyVersion) _ (λ u. and-iff (isReached file u) _ Iff·rfl Iff·rfl) v
@@ -71,16 +71,16 @@ module _ (file : List ℕ) (a : ℕ) (proper : Proper file a) (v : ℕ) where
   -- the set holds what paths bring; to the entry they bring nothing
   pub brought-exact : (k : ℕ) → T (has (broughtOf file a v) k) ↔ Brings file a v k
   brought-exact k = (
-    λ h. let p = last-there (isLabel file a) (version file a) file (proper .ends) v k (carried-exact k .0 h) in
+    λ h. let p = last-there (isLabel file a) (version file a) (proper .ends) v k (carried-exact k .0 h) in
         record { before = p .0; path = p .1; brings = p .2 },
     λ b. carried-exact k .1 (carried (b .before) (b .path) (b .brings)),
   )
     where
       carried : (before : List ℕ) → ArrivesBy file before v → lastVersion (isLabel file a) (version file a) before ≡ some k
-          → Carried (isLabel file a) (version file a) file (proper .ends) v k
+          → Carried (isLabel file a) (version file a) (proper .ends) v k
       carried [] p e = absurd (Option·none-ne-some k e)
-      carried (u ∷ us) p e = subst (Last (isLabel file a) (version file a) file (proper .ends) u v) e
-          (last-of (isLabel file a) (version file a) file (proper .ends) u us v (reached-exact file (proper .ends) u .1 ([], p .0)) (p .1))
+      carried (u ∷ us) p e = subst (Last (isLabel file a) (version file a) (proper .ends) u v) e
+          (last-of (isLabel file a) (version file a) (proper .ends) u us v (reached-exact (proper .ends) u .1 ([], p .0)) (p .1))
 
   pub brought-fits : broughtOf file a v < 2 ^ width
   unfolding broughtOf broughtSets broughtGives

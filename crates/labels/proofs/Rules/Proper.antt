@@ -24,7 +24,8 @@ pub record Proper (file : List ℕ) (a : ℕ) : Type 0 where
   pub none-leaves : (v : ℕ) → Edge (edgeBytes file) (exit file) v → ⊥
   pub initial-fits : initial file a < width
 
-word-drop : (n : ℕ) (s : List ℕ) (at : ℕ) → word (drop n s) at ≡ word s (n + at)
+-- a number behind a part
+pub word-drop : (n : ℕ) (s : List ℕ) (at : ℕ) → word (drop n s) at ≡ word s (n + at)
 unfolding word
 word-drop n s at = simp (getD-drop, add-assoc)
 

@@ -73,7 +73,7 @@ module _ (file : List ℕ) (a : ℕ) (proper : Proper file a) (v k : ℕ) where
     where
       kept : T (isKept file a (f .place)) → Reaches file a v k
       kept m =
-          let p = last-there (isKept file a) (version file a) file (proper .ends) v k (record { place = f .place; way = f .way; met = ((f .met .0 .0, m), f .met .1) }) in
+          let p = last-there (isKept file a) (version file a) (proper .ends) v k (record { place = f .place; way = f .way; met = ((f .met .0 .0, m), f .met .1) }) in
           record { before = p .0; path = p .1; brings = ap (orInitial file a) (p .2) }
 
       first : (f .place ≡ entry) × T (isInOrInout (kind file a)) → T (not (isKept file a (f .place))) → Reaches file a v k
@@ -89,12 +89,12 @@ module _ (file : List ℕ) (a : ℕ) (proper : Proper file a) (v k : ℕ) where
 
   found : (v ≡ entry → ⊥) → (before : List ℕ) → ArrivesBy file before v → orInitial file a (lastVersion (isKept file a) (version file a) before) ≡ some k → Found
   found inside [] p e = absurd (inside p)
-  found inside (u ∷ us) p e = go (lastVersion (isKept file a) (version file a) (u ∷ us)) (last-of (isKept file a) (version file a) file (proper .ends) u us v start (p .1)) e
+  found inside (u ∷ us) p e = go (lastVersion (isKept file a) (version file a) (u ∷ us)) (last-of (isKept file a) (version file a) (proper .ends) u us v start (p .1)) e
     where
       start : T (isReached file u)
-      start = reached-exact file (proper .ends) u .1 ([], p .0)
+      start = reached-exact (proper .ends) u .1 ([], p .0)
 
-      go : (o : Option ℕ) → Last (isKept file a) (version file a) file (proper .ends) u v o → orInitial file a o ≡ some k → Found
+      go : (o : Option ℕ) → Last (isKept file a) (version file a) (proper .ends) u v o → orInitial file a o ≡ some k → Found
       go none l e =
           let i = initial-iff .0 e in
           record { place = u; way = l .1; met = ((start, inr (p .0, i .0)), entry-version file a u (p .0) ∙ i .1) }
@@ -125,4 +125,4 @@ module _ (file : List ℕ) (a : ℕ) (proper : Proper file a) (v : ℕ) where
       none : (k : ℕ) → T (has (reachingOf file a v) k) → ⊥
       none k h =
           let r = reaching-exact file a proper v k .0 h in
-          T-not (isReached file v) n (reached-exact file (proper .ends) v .1 (r .before, r .path))
+          T-not (isReached file v) n (reached-exact (proper .ends) v .1 (r .before, r .path))

@@ -66,6 +66,18 @@ enum-known-r-15 c = search needs
 enum-known-r-16 : tie.Need-enum-known-r-16
 enum-known-r-16 c = search needs
 
+enum-known-r-17 : tie.Need-enum-known-r-17
+enum-known-r-17 c = search needs
+
+enum-known-r-18 : tie.Need-enum-known-r-18
+enum-known-r-18 c = search needs
+
+enum-known-r-19 : tie.Need-enum-known-r-19
+enum-known-r-19 c = search needs
+
+enum-known-r-20 : tie.Need-enum-known-r-20
+enum-known-r-20 c = search needs
+
 returns : tie.Need-returns
 returns c = sym (ap outcomeOf (c .before .r .given .1))
 
@@ -126,6 +138,18 @@ returns-19 c = sym (ap outcomeOf (c .before .r15 .given .1))
 returns-20 : tie.Need-returns-20
 returns-20 c = sym (ap outcomeOf (c .before .r16 .given .1))
 
+returns-21 : tie.Need-returns-21
+returns-21 c = sym (ap outcomeOf (c .before .r17 .given .1))
+
+returns-22 : tie.Need-returns-22
+returns-22 c = sym (ap outcomeOf (c .before .r18 .given .1))
+
+returns-23 : tie.Need-returns-23
+returns-23 c = sym (ap outcomeOf (c .before .r19 .given .1))
+
+returns-24 : tie.Need-returns-24
+returns-24 c = sym (ap outcomeOf (c .before .r20 .given .1))
+
 pub outcome-of-spec : {M : Type 1} → statement M
 outcome-of-spec =
     tie.close
@@ -150,6 +174,10 @@ outcome-of-spec =
     enum-known-r-14
     enum-known-r-15
     enum-known-r-16
+    enum-known-r-17
+    enum-known-r-18
+    enum-known-r-19
+    enum-known-r-20
     returns
     returns-2
     returns-3
@@ -169,4 +197,8 @@ outcome-of-spec =
     returns-17
     returns-18
     returns-19
-    returns-20)
+    returns-20
+    returns-21
+    returns-22
+    returns-23
+    returns-24)

@@ -1,6 +1,8 @@
 -- `reader::denied` meets its contract, case by case.
 -- Assumes nothing.
+use mathlib.Core.Path.{sym, ap}
 use borrow.Author.Needs.{needs}
+use Rattle.routine.specs.Reader.{deniedOf}
 use Rattle.routine.proofs.reader.denied.Statement.{statement}
 use Rattle.routine.proofs.reader.denied.Tie as tie
 
@@ -11,7 +13,7 @@ enum-told : tie.Need-enum-told
 enum-told c = search needs
 
 returns : tie.Need-returns
-returns c = cc
+returns c = sym (ap deniedOf (c .before .answer .given .1))
 
 returns-2 : tie.Need-returns-2
 returns-2 c = search needs
