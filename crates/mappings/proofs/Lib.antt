@@ -1,0 +1,15 @@
+pub mod Along
+pub mod Arrivals
+pub mod Bytes
+pub mod Demand
+pub mod Examples
+pub mod Facts
+pub mod Faults
+pub mod Formed
+pub mod Given
+pub mod Held
+pub mod Left
+pub mod Lists
+pub mod Numbers
+pub mod Read
+pub mod Theorem

@@ -1,0 +1,7 @@
+pub mod Along
+pub mod Computed
+pub mod Convert
+pub mod Converted
+pub mod Demand
+pub mod Rules
+pub mod Theorem
