@@ -1,6 +1,7 @@
-//! Random routines, damaged files and paths. A seed decides every draw.
+//! Random routines, directive files, damaged files and paths. A seed decides every draw.
 
 pub mod damage;
+pub mod directives;
 pub mod limits;
 pub mod paths;
 pub mod rng;

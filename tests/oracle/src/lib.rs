@@ -8,6 +8,7 @@
 pub mod builder;
 pub mod calls;
 pub mod demand3;
+pub mod directives;
 pub mod generate;
 pub mod labels;
 pub mod listing;

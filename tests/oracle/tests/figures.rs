@@ -1,0 +1,234 @@
+//! Figures of source document 003 as directive files: what they are converted to, and what the
+//! paper says of their plans and runs.
+
+use oracle::builder::{Draft, path_bytes, remap};
+use oracle::directives::convert::{convert, convert_by_states};
+use oracle::directives::figures::{
+    FIGURE_1, FIGURE_2, FIGURE_3, FIGURE_5, FIGURE_5_ACCEPTED, FIGURE_6, FIGURE_10, FIGURE_13,
+    FIGURE_21, FIGURES, Figure,
+};
+use oracle::directives::{Program, file, sets};
+use oracle::listing;
+use oracle::outcome::Outcome;
+use oracle::plan::plan;
+use oracle::run::run;
+
+const ROOM: usize = 10_000;
+
+fn answer(figure: &Figure) -> (u64, u64, u64) {
+    let Outcome {
+        number,
+        first,
+        second,
+    } = convert(&figure.program().bytes(), &mut vec![0; ROOM]);
+    (number, first, second)
+}
+
+/// The parts of an accepted figure's routine.
+fn converted(figure: &Figure) -> Draft {
+    let mut out = vec![0; ROOM];
+    let answer = convert(&figure.program().bytes(), &mut out);
+    assert_eq!(answer.number, 0, "{answer:?}");
+    Draft::from_bytes(&out[..answer.first as usize]).expect("a converted routine is well formed")
+}
+
+/// The mappings of the versions of each array, in words.
+fn versions(figure: &Figure) -> Vec<Vec<String>> {
+    let conversion = sets::conversion(&figure.program()).expect("the figure is accepted");
+    let names = conversion.versions.iter();
+    names
+        .map(|versions| versions.iter().map(ToString::to_string).collect())
+        .collect()
+}
+
+/// The planner's lines for the converted routine, without the heading.
+fn lines(figure: &Figure) -> Vec<String> {
+    let mut out = vec![0; ROOM];
+    let answer = plan(&converted(figure).bytes(), &mut out);
+    assert_eq!(answer.number, 0, "{answer:?}");
+    let text = listing::plan(&out[..answer.first as usize]);
+    text.lines().skip(1).map(String::from).collect()
+}
+
+/// The versions in which an array is used after planning: those of its kept labels.
+fn used(figure: &Figure, array: usize) -> Vec<usize> {
+    let mut used: Vec<usize> = lines(figure)
+        .iter()
+        .map(|line| line.split(' ').collect::<Vec<_>>())
+        .filter(|fields| fields[1] == array.to_string() && fields[3] != "-")
+        .map(|fields| fields[3].parse().expect("a version"))
+        .collect();
+    used.sort_unstable();
+    used.dedup();
+    used
+}
+
+/// The copies of each array along a path through the converted routine.
+fn copies(figure: &Figure, path: &[u16]) -> Vec<u8> {
+    let draft = converted(figure);
+    let mut out = vec![0; ROOM];
+    let answer = run(&draft.bytes(), &path_bytes(path), &mut out);
+    assert_eq!(answer.number, 0, "{answer:?}");
+    (0..draft.arrays.len())
+        .map(|array| out[6 * array])
+        .collect()
+}
+
+/// The text of a figure says what its file does, and both forms of the meaning answer alike.
+#[test]
+fn figures_are_files() {
+    for figure in FIGURES {
+        let program = figure.program();
+        let bytes = program.bytes();
+        assert_eq!(file::parse(&bytes).as_ref(), Ok(&program));
+        assert_eq!(
+            Program::from_text(&program.to_string()).as_ref(),
+            Ok(&program)
+        );
+        let (mut out, mut other) = (vec![0; ROOM], vec![0; ROOM]);
+        let answer = convert(&bytes, &mut out);
+        let by_states = convert_by_states(&bytes, 1000, &mut other);
+        assert_eq!(by_states, Some(answer), "figure {}", figure.number);
+        assert_eq!(out, other, "figure {}", figure.number);
+    }
+}
+
+/// "It could be remapped at once from (block,*) to (*,cyclic)": the realign's label is dropped.
+#[test]
+fn figure_1() {
+    assert_eq!(
+        versions(&FIGURE_1),
+        [
+            vec!["(block,*)", "(*,block)", "(*,cyclic(1))"],
+            vec!["(block,*)", "(cyclic(1),*)"]
+        ]
+    );
+    let draft = converted(&FIGURE_1);
+    assert_eq!(draft.arrays, [[0, 3, 0, 0], [0, 2, 0, 0]]);
+    assert_eq!(draft.rows[2], [remap(1), 0]);
+    assert_eq!(draft.rows[3], [remap(2), remap(1)]);
+    assert_eq!(
+        lines(&FIGURE_1),
+        [
+            "0 0 D 0 0000 0001",
+            "0 1 D 0 0000 0001",
+            "2 0 N - 0001 0004",
+            "3 0 R 2 0001 0004",
+            "3 1 R 1 0001 0002"
+        ]
+    );
+    assert_eq!(copies(&FIGURE_1, &[0, 1, 2, 3, 4, 5]), [1, 1]);
+}
+
+/// "Both C remappings are useless because the redistribution restores its initial mapping": none of
+/// them copies.
+#[test]
+fn figure_2() {
+    assert_eq!(
+        versions(&FIGURE_2),
+        [["(block,*)", "(*,block)"], ["(block,*)", "(*,block)"]]
+    );
+    let draft = converted(&FIGURE_2);
+    assert_eq!(draft.rows[2], [remap(1), 0]);
+    assert_eq!(draft.rows[3], [remap(0), remap(1)]);
+    assert_eq!(copies(&FIGURE_2, &[0, 1, 2, 3, 4, 5]), [0, 1]);
+}
+
+/// "Enforces the remapping of all five aligned arrays, although only two of them are used
+/// afterwards": the labels of the other three are dropped.
+#[test]
+fn figure_3() {
+    let draft = converted(&FIGURE_3);
+    assert_eq!(draft.arrays, [[0, 2, 0, 0]; 5]);
+    assert_eq!(draft.rows[2], [remap(1); 5]);
+    let at_redistribute: Vec<String> = lines(&FIGURE_3)
+        .iter()
+        .filter(|line| line.starts_with("2 "))
+        .map(|line| line[2..7].to_string())
+        .collect();
+    assert_eq!(
+        at_redistribute,
+        ["0 R 1", "1 N -", "2 N -", "3 R 1", "4 N -"]
+    );
+    assert_eq!(copies(&FIGURE_3, &[0, 1, 2, 3, 4]), [1, 0, 0, 1, 0]);
+}
+
+/// "A mapping is modified by the redistribute if the realign was executed before at runtime".
+#[test]
+fn figure_5() {
+    assert_eq!(answer(&FIGURE_5), (42, 5, 0));
+    // It is not enough that T2 keeps its spread: the other way leaves A as T1 is spread.
+    let text = FIGURE_5.text.replace("T2 (cyclic,*)", "T2 (cyclic(2),*)");
+    let program = Program::from_text(&text).expect("the text is understood");
+    assert_eq!(convert(&program.bytes(), &mut []).number, 42);
+}
+
+/// The version that comes with the other template is the redistribute's result, and the one that
+/// does not is not left.
+#[test]
+fn figure_5_with_one_mapping_left() {
+    assert_eq!(
+        versions(&FIGURE_5_ACCEPTED),
+        [["(block,*)", "(cyclic(1),*)"]]
+    );
+    let rows = converted(&FIGURE_5_ACCEPTED).rows;
+    assert_eq!((&rows[3], &rows[5]), (&vec![remap(1)], &vec![remap(0)]));
+}
+
+/// "The mapping ambiguity is solved before any reference to A"; with one before that it is not.
+#[test]
+fn figure_6() {
+    assert_eq!(
+        versions(&FIGURE_6),
+        [["(block,*)", "(cyclic(1),*)", "(cyclic(10),*)"]]
+    );
+    let rows = converted(&FIGURE_6).rows;
+    assert_eq!((&rows[3], &rows[6]), (&vec![remap(1)], &vec![remap(2)]));
+    assert_eq!(used(&FIGURE_6, 0), [0, 1, 2]);
+
+    let text = FIGURE_6.text.replace("\n5 ->", "\n5 read A ->");
+    let program = Program::from_text(&text).expect("the text is understood");
+    let answer = convert(&program.bytes(), &mut []);
+    assert_eq!((answer.number, answer.first, answer.second), (21, 5, 0));
+}
+
+/// "A may be used with all possible mappings {0, 1, 2, 3}, but array B is only used with {0, 1} and
+/// array C with {0, 3}".
+#[test]
+fn figure_10() {
+    let mappings = ["(block,*)", "(cyclic(1),*)", "(block,block)", "(*,block)"];
+    assert_eq!(versions(&FIGURE_10), [mappings; 3]);
+    let draft = converted(&FIGURE_10);
+    assert_eq!(draft.arrays, [[3, 4, 0, 0], [0, 4, 0, 0], [0, 4, 0, 0]]);
+    for (vertex, version) in [(3, 1), (5, 2), (8, 0), (10, 3)] {
+        assert_eq!(draft.rows[vertex], [remap(version); 3]);
+    }
+    assert_eq!(used(&FIGURE_10, 0), [0, 1, 2, 3]);
+    assert_eq!(used(&FIGURE_10, 1), [0, 1]);
+    assert_eq!(used(&FIGURE_10, 2), [0, 3]);
+    // Without an iteration C is never made, and B not after the branch.
+    assert_eq!(copies(&FIGURE_10, &[0, 1, 2, 5, 6, 7, 12]), [1, 0, 0]);
+}
+
+/// "Depending on the execution path in the program, array copy A_0 may reach remapping statement 3
+/// live or not."
+#[test]
+fn figure_13() {
+    assert_eq!(
+        versions(&FIGURE_13),
+        [["(block,*)", "(cyclic(1),*)", "(cyclic(2),*)"]]
+    );
+    let rows = converted(&FIGURE_13).rows;
+    assert_eq!(rows[3], [remap(1)]);
+    assert_eq!(rows[5], [remap(2)]);
+    assert_eq!(rows[7], [remap(0)]);
+    assert_eq!(copies(&FIGURE_13, &[0, 1, 2, 3, 4, 7, 8]), [2]);
+    assert_eq!(copies(&FIGURE_13, &[0, 1, 2, 5, 6, 7, 8]), [1]);
+}
+
+/// "Array A is remapped at the redistribute to (block,*) or (*,block) depending on the execution of
+/// the realign."
+#[test]
+fn figure_21() {
+    assert_eq!(answer(&FIGURE_21), (42, 3, 0));
+}
