@@ -75,7 +75,7 @@ headFields file =
 
 -- ---- spreads: for each dimension a kind (0 not spread, 1 block, 2 cyclic), zero, b (1 to 65,535 for cyclic, else 0)
 
--- no kind above `highest`
+-- a dimension at its place, of no kind above `highest`
 unfoldable pub dimensionFields : List ℕ → ℕ → ℕ → List Field
 dimensionFields file highest at =
     byteField file at (λ kind. leb kind highest)
@@ -83,6 +83,7 @@ dimensionFields file highest at =
     ∷ wordField file (at + 2) (λ b. cond (eqb (getD file at 0) 2) (ltb 0 b) (eqb b 0))
     ∷ []
 
+-- two dimensions
 unfoldable pub spreadFields : List ℕ → ℕ → ℕ → List Field
 unfolding dimensionFields
 spreadFields file highest at = dimensionFields file highest at ++ dimensionFields file highest (at + 4)
@@ -93,6 +94,7 @@ templateFields file t = spreadFields file 2 (templateAt t)
 
 -- ---- arrays: kind, template, exchanged (0 straight, 1 exchanged), zero
 
+-- an array at its place
 abbrev pub arrayFieldsAt : List ℕ → ℕ → List Field
 arrayFieldsAt file at =
     byteField file at (λ kind. leb kind 3)
@@ -101,6 +103,7 @@ arrayFieldsAt file at =
     ∷ byteField file (at + 3) (λ zero. eqb zero 0)
     ∷ []
 
+-- array a
 unfoldable pub arrayFields : List ℕ → ℕ → List Field
 arrayFields file a = arrayFieldsAt file (arrayAt file a)
 
@@ -118,7 +121,7 @@ isEntryOrExit file v = eqb v entry || eqb v (exit file)
 abbrev pub subjects : List ℕ → ℕ → ℕ
 subjects file d = cond (eqb d 1) (arrays file) (cond (eqb d 2) (templates file) 1)
 
--- directive, subject, template and exchanged of a realign; then the spread of a redistribute; each else 0
+-- a directive at its place, of no first byte above `highest`: it, its subject, template and exchanged of a realign, which are else 0
 abbrev pub directiveFieldsAt : List ℕ → ℕ → ℕ → List Field
 directiveFieldsAt file highest at =
     byteField file at (λ d. leb d highest)
@@ -127,9 +130,11 @@ directiveFieldsAt file highest at =
     ∷ byteField file (at + 3) (λ e. leb e (cond (eqb (getD file at 0) 1) 1 0))
     ∷ []
 
+-- then the spread of a redistribute, which is else all 0
 abbrev pub givenFieldsAt : List ℕ → ℕ → List Field
 givenFieldsAt file at = spreadFields file (cond (eqb (getD file at 0) 2) 2 0) (at + 4)
 
+-- both at vertex v
 abbrev pub directiveFields : List ℕ → ℕ → List Field
 directiveFields file v = directiveFieldsAt file (cond (isEntryOrExit file v) 0 2) (vertexAt file v)
 
@@ -144,12 +149,14 @@ isRightReference file v b = eqb b 0 || (isReference (actionOf b) && (eqb (direct
 abbrev pub referenceFields : List ℕ → ℕ → List Field
 referenceFields file v = rows (λ a. byteField file (referenceAt file v a) (isRightReference file v) ∷ []) (arrays file)
 
+-- vertex v
 unfoldable pub vertexFields : List ℕ → ℕ → List Field
 unfolding spreadFields
 vertexFields file v = directiveFields file v ++ (givenFields file v ++ referenceFields file v)
 
 -- ---- edges: from, to; none leaves the exit, none enters the entry; strictly rising by from, then to
 
+-- edge i
 abbrev pub edgeOf : List ℕ → ℕ → Edge
 edgeOf file i = record { from = word file (edgeAt file i); to = word file (edgeAt file i + 2) }
 
@@ -158,6 +165,7 @@ unfoldable pub rises : List ℕ → ℕ → Bool
 rises file zero = true
 rises file (suc i) = before (edgeOf file i) (edgeOf file (suc i))
 
+-- an edge at its place; its order is a field of four bytes
 abbrev pub edgeFieldsAt : List ℕ → Bool → ℕ → List Field
 edgeFieldsAt file rises at =
     wordField file at (λ from. ltb from (exit file))
@@ -165,6 +173,7 @@ edgeFieldsAt file rises at =
     ∷ record { at = at; wide = 4; right = rises }
     ∷ []
 
+-- those of edge i
 unfoldable pub edgeFields : List ℕ → ℕ → List Field
 unfolding rises
 edgeFields file i = edgeFieldsAt file (rises file i) (edgeAt file i)
