@@ -2,22 +2,20 @@
 -- Assumes nothing.
 use mathlib.Core.Path.{_≡_, sym, ap, ap₂, _∙_}
 use mathlib.Core.Bool.{true, false}
-use mathlib.Core.List.{List, [], _∷_, _++_, append-assoc}
+use mathlib.Core.List.{List, _++_, append-assoc}
 use Prim.Native.Nat.{ℕ, zero, suc, _+_, _*_, _≤_, _<_}
 use native.Mathlib.Nat.{mul-comm}
 use native.Mathlib.Omega.{arith}
 use borrow.Author.Tests.{eq-eqb, ne-eqb}
 use lib.Count.{trailingZeros}
-use lib.ListN.{length, getD, set, take, drop, length-append, length-drop}
+use lib.ListN.{length, getD, take, drop, length-append, length-drop}
 use lib.Seq.{length-take-le, getD-take, getD-drop, ext-getD}
 use Rattle.routine.specs.Arrays.{initial}
 use Rattle.routine.specs.Layout.{arrays, vertices, actionAt}
 use Rattle.sets.specs.Sets.{width}
-use Rattle.words.specs.Tables.{table, rows, wrote}
-use Rattle.words.proofs.Buffers.{Filled}
+use Rattle.words.specs.Tables.{table, rows}
 use Rattle.words.proofs.Tables.{rows-more, rows-length, table-length, table-at}
 use Rattle.words.proofs.Tests.{by-test}
-use Rattle.words.proofs.Written.{write-one}
 use Rattle.calls.specs.Calls.{isCallRow}
 use Rattle.calls.specs.Expanded.{expandedByte, expandedRow}
 use Rattle.calls.specs.Parts.{Part, plain, passing, calling, returning, expandedVertices, partAt, firstOf}
@@ -37,20 +35,6 @@ module _ (file : List ℕ) (a v : ℕ) {arrived : ℕ} (is : arrived ≡ arrivin
   one-arrives some = ap (trailingZeros width) is ∙ sym (rw (ne-eqb (arriving file a v) 0 (λ e. some (is ∙ e))))
 
 -- ---- rows
-
--- a loop that writes a row: one more byte
-pub next-byte : {f : ℕ → ℕ} {n : ℕ} {old : List ℕ} {i : ℕ} {out : List ℕ} → Filled (λ j. f j ∷ []) n old i out → i < n → {b : ℕ} → b ≡ f i
-    → Filled (λ j. f j ∷ []) n old (i + 1) (set out i b)
-next-byte {f} {n} {old} {i} {out} t h {b} e = record {
-  within = omega arith;
-  room = t .room;
-  front = record {
-    is =
-        ap₂ (λ (l : List ℕ) (x : ℕ). set l i x) (t .front .is) e
-        ∙ write-one old (rows (λ j. f j ∷ []) i) (f i) i (sym (table-length f i)) (omega (arith, t .room, table-length f n))
-        ∙ ap (wrote old) (rows-more (λ j. f j ∷ []) i);
-  };
-}
 
 -- three rows more
 rows-three : (row : ℕ → List ℕ) (k : ℕ) → rows row (k + 3) ≡ rows row k ++ ((row k ++ row (k + 1)) ++ row (k + 2))

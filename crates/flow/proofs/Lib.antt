@@ -1,3 +1,4 @@
+pub mod Cells
 pub mod Exact
 pub mod Members
 pub mod Paths

@@ -53,15 +53,15 @@ module _ (m : Mapping) where
   listed-head [] h e = absurd (omega arith)
   listed-head (n ∷ ns) h e = listed-cons n ns .1 (inl e)
 
-  listed-left : (ms ns : List Mapping) → T (isListed m ms) → T (isListed m (ms ++ ns))
+  pub listed-left : (ms ns : List Mapping) → T (isListed m ms) → T (isListed m (ms ++ ns))
   listed-left [] ns h = absurd (listed-none h)
   listed-left (x ∷ ms) ns h = listed-cons x (ms ++ ns) .1 (⊎-elim inl (λ g. inr (listed-left ms ns g)) (listed-cons x ms .0 h))
 
-  listed-right : (ms ns : List Mapping) → T (isListed m ns) → T (isListed m (ms ++ ns))
+  pub listed-right : (ms ns : List Mapping) → T (isListed m ns) → T (isListed m (ms ++ ns))
   listed-right [] ns h = h
   listed-right (x ∷ ms) ns h = listed-later x (ms ++ ns) (listed-right ms ns h)
 
-  listed-either : (ms ns : List Mapping) → T (isListed m (ms ++ ns)) → T (isListed m ms) ⊎ T (isListed m ns)
+  pub listed-either : (ms ns : List Mapping) → T (isListed m (ms ++ ns)) → T (isListed m ms) ⊎ T (isListed m ns)
   listed-either [] ns h = inr h
   listed-either (x ∷ ms) ns h =
       ⊎-elim
@@ -123,12 +123,12 @@ listed-at (m ∷ ms) (suc i) d h = listed-later (getD ms i d) m ms (listed-at ms
 -- ---- a list extended by another
 
 module _ (m : Mapping) where
-  extended-old : (ms ns : List Mapping) → T (isListed m ms) → T (isListed m (extended ms ns))
+  pub extended-old : (ms ns : List Mapping) → T (isListed m ms) → T (isListed m (extended ms ns))
   unfolding extended
   extended-old ms [] h = h
   extended-old ms (n ∷ ns) h = extended-old _ ns (at-cond (λ xs. T (isListed m xs)) (isListed n ms) (λ _. h) (λ _. listed-left m ms (n ∷ []) h))
 
-  extended-new : (ms ns : List Mapping) → T (isListed m ns) → T (isListed m (extended ms ns))
+  pub extended-new : (ms ns : List Mapping) → T (isListed m ns) → T (isListed m (extended ms ns))
   unfolding extended
   extended-new ms [] h = absurd (listed-none m h)
   extended-new ms (n ∷ ns) h =
@@ -167,7 +167,7 @@ extended-once ms [] h = h
 extended-once ms (n ∷ ns) h = extended-once _ ns (at-cond Once (isListed n ms) (λ _. h) (λ f. once-more ms n h (subst T f)))
 
 -- old numbers stay, and what has a new one is new
-extended-keeps : (ms ns : List Mapping) (k : ℕ) (d : Mapping) → k < length ms → getD (extended ms ns) k d ≡ getD ms k d
+pub extended-keeps : (ms ns : List Mapping) (k : ℕ) (d : Mapping) → k < length ms → getD (extended ms ns) k d ≡ getD ms k d
 unfolding extended
 extended-keeps ms [] k d h = refl
 extended-keeps ms (n ∷ ns) k d h =
@@ -175,7 +175,7 @@ extended-keeps ms (n ∷ ns) k d h =
     (λ _. extended-keeps ms ns k d h)
     (λ _. extended-keeps (ms ++ n ∷ []) ns k d (omega (arith, length-append ms (n ∷ []))) ∙ List·getD-append ms (n ∷ []) d k h)
 
-extended-longer : (ms ns : List Mapping) → length ms ≤ length (extended ms ns)
+pub extended-longer : (ms ns : List Mapping) → length ms ≤ length (extended ms ns)
 unfolding extended
 extended-longer ms [] = omega arith
 extended-longer ms (n ∷ ns) =

@@ -11,6 +11,7 @@ use lib.Dec.{eqb, ltb, eqb·suc-zero}
 use lib.Ieee.Bits.{is-true}
 use lib.ListN.{length, getD}
 use lib.Pow.{pow-pos}
+use Rattle.flow.proofs.Cells.{cells-table, cells-row, cells-solved}
 use Rattle.routine.specs.Layout.{arrays, vertices, entry, exit}
 use Rattle.routine.specs.Reader.{WellFormed}
 use Rattle.routine.specs.declared.action.Action.{Action}
@@ -29,7 +30,7 @@ use Rattle.labels.specs.Uses.{useGives, usePasses, passesBy, useSets, letterOf,
 use Rattle.labels.specs.declared.Use.{Use}
 use Rattle.labels.proofs.Rules.Events.{by-event}
 use Rattle.words.proofs.Tests.{cond-not}
-use Rattle.passes.proofs.Cells.{in-eight, cells-table, cells-row, cells-solved}
+use Rattle.passes.proofs.Cells.{few-columns, in-eight}
 use Rattle.labels.proofs.Letters.{letter-use}
 
 -- ---- use
@@ -63,15 +64,15 @@ module _ {file : List ℕ} (well : WellFormed file) where
 
   pub reached-gives : {s : List ℕ} {n : ℕ} → n ≡ 8 * vertices file → s ≡ table (λ i. cond (ltb i 8) 1 0) n → Cells file (λ a v. cond (eqb v entry) 1 0) s
   reached-gives size e =
-      cells-table well (λ i. cond (ltb i 8) 1 0) size e (λ a v in-a in-v. ap (λ (b : Bool). cond b 1 0) (first-row v a (in-eight well in-a)))
+      cells-table (few-columns well) (λ i. cond (ltb i 8) 1 0) size e (λ a v in-a in-v. ap (λ (b : Bool). cond b 1 0) (first-row v a (in-eight well in-a)))
 
   pub reached-passes : {s : List ℕ} {n : ℕ} → n ≡ 8 * vertices file → s ≡ table (λ i. 1) n → Cells file (λ a v. 1) s
-  reached-passes size e = cells-table well (λ i. 1) size e (λ a v in-a in-v. refl)
+  reached-passes size e = cells-table (few-columns well) (λ i. 1) size e (λ a v in-a in-v. refl)
 
   pub reached-sets : {gives passes sets : List ℕ} → Cells file (λ a v. cond (eqb v entry) 1 0) gives → Cells file (λ a v. 1) passes
       → Pass file false gives passes sets → Reached file sets
   unfolding reachedOver
-  reached-sets g p h = cells-solved well (λ a v. cond (eqb v entry) 1 0) (λ a v. 1) g p h
+  reached-sets g p h = cells-solved (few-columns well) (λ a v. cond (eqb v entry) 1 0) (λ a v. 1) g p h
 
   reached-at : {reached : List ℕ} → Reached file reached → (a v : ℕ) → a < arrays file → v < vertices file → reachedCell (8 * v + a) (getD reached (8 * v + a) 0) ≡ isReached file v
   unfolding isReachedOver
@@ -84,7 +85,7 @@ module _ {file : List ℕ} (well : WellFormed file) where
         → Cells file (broughtGives file) s
     unfolding broughtGives version
     brought-gives {reached} h e =
-        cells-table well (λ i. cond (reachedCell i (getD reached i 0)) (getD versions i 0) 0) (vs .size) e
+        cells-table (few-columns well) (λ i. cond (reachedCell i (getD reached i 0)) (getD versions i 0) 0) (vs .size) e
         (λ a v in-a in-v.
         ap₂ (λ (b : Bool) (x : ℕ). cond b x 0) (reached-at h a v in-a in-v) (vs .cells a v in-a in-v)
         ∙ cond-and (isReached file v) (isLabel file a v) (2 ^ versionOf (event file a v)))
@@ -101,24 +102,24 @@ module _ {file : List ℕ} (well : WellFormed file) where
     pub brought-passes : {s : List ℕ} → s ≡ table (λ i. cond (eqb (getD versions i 0) 0) everyVersion 0) (length versions) → Cells file (broughtPasses file) s
     unfolding broughtPasses
     brought-passes e =
-        cells-table well (λ i. cond (eqb (getD versions i 0) 0) everyVersion 0) (vs .size) e
+        cells-table (few-columns well) (λ i. cond (eqb (getD versions i 0) 0) everyVersion 0) (vs .size) e
         (λ a v in-a in-v. ap (λ (x : ℕ). cond (eqb x 0) everyVersion 0) (vs .cells a v in-a in-v) ∙ single-passes (isLabel file a v) (versionOf (event file a v)))
 
   pub brought-sets : {gives passes sets : List ℕ} → Cells file (broughtGives file) gives → Cells file (broughtPasses file) passes → Pass file false gives passes sets
       → Cells file (broughtOf file) sets
   unfolding broughtSets broughtOf
-  brought-sets g p h = cells-solved well (broughtGives file) (broughtPasses file) g p h
+  brought-sets g p h = cells-solved (few-columns well) (broughtGives file) (broughtPasses file) g p h
 
   -- ---- letters
 
   pub letter-passes : {uses s : List ℕ} → UseGives file uses → s ≡ table (λ i. passesBy (getD uses i 0)) (length uses) → Cells file (λ a v. usePasses (event file a v)) s
   letter-passes {uses} h e =
-      cells-table well (λ i. passesBy (getD uses i 0)) (h .size) e (λ a v in-a in-v. ap passesBy (h .cells a v in-a in-v) ∙ use-passes (event file a v))
+      cells-table (few-columns well) (λ i. passesBy (getD uses i 0)) (h .size) e (λ a v in-a in-v. ap passesBy (h .cells a v in-a in-v) ∙ use-passes (event file a v))
 
   letter-sets : {gives passes sets : List ℕ} → UseGives file gives → Cells file (λ a v. usePasses (event file a v)) passes
       → Pass file true gives passes sets → Cells file (λ a v. getD (useSets file a) v 0) sets
   unfolding useSets
-  letter-sets g p h = cells-solved well (λ a v. useGives (event file a v)) (λ a v. usePasses (event file a v)) g p h
+  letter-sets g p h = cells-solved (few-columns well) (λ a v. useGives (event file a v)) (λ a v. usePasses (event file a v)) g p h
 
   -- away from the exit, and at it
   letter-at : (a v : ℕ) {last : Bool} → eqb v (exit file) ≡ last
@@ -132,9 +133,9 @@ module _ {file : List ℕ} (well : WellFormed file) where
   letters-are {gives} {passes} {sets} {mid} {s} g p h e f =
       let found = letter-sets g p h in
       let first : Cells file (λ a v. letterByte (letterOf (getD (useSets file a) v 0))) mid =
-      cells-table well (λ i. letterByte (letterOf (getD sets i 0))) (found .size) e (λ a v in-a in-v. ap (λ (m : ℕ). letterByte (letterOf m)) (found .cells a v in-a in-v)) in
+      cells-table (few-columns well) (λ i. letterByte (letterOf (getD sets i 0))) (found .size) e (λ a v in-a in-v. ap (λ (m : ℕ). letterByte (letterOf m)) (found .cells a v in-a in-v)) in
       subst (Letters file) (sym f)
-      (cells-row well (λ a. letterByte W) (exit file) (omega (arith, well .laid .limits .two-vertices)) first
+      (cells-row (few-columns well) (λ a. letterByte W) (exit file) (omega (arith, well .laid .limits .two-vertices)) first
       (λ a in-a. letter-at a (exit file) (eq-eqb (exit file) (exit file) refl)) (λ a v in-a away. letter-at a v (ne-eqb v (exit file) away)))
 
   -- ---- kept labels
@@ -179,29 +180,29 @@ module _ {file : List ℕ} (well : WellFormed file) where
         → Cells file (reachGives file) s
     reach-gives {reached} {mid} {s} h e f =
         let first : Cells file (λ a v. cond (isReached file v && isKept file a v) (2 ^ version file a v) 0) mid =
-        cells-table well (λ i. cond (reachedCell i (getD reached i 0)) (leaving i) 0) (vs .size) e
+        cells-table (few-columns well) (λ i. cond (reachedCell i (getD reached i 0)) (leaving i) 0) (vs .size) e
         (λ a v in-a in-v.
         ap₂ (λ (b : Bool) (x : ℕ). cond b x 0) (reached-at h a v in-a in-v) (leaving-at a v in-a in-v)
         ∙ cond-and (isReached file v) (isKept file a v) (2 ^ version file a v)) in
         subst (Cells file (reachGives file)) (sym f)
-        (cells-row well (λ a. cond (not (isN (useOfByte (getD letters a 0))) || isInOrInout (kind file a)) (2 ^ initial file a) 0) entry
+        (cells-row (few-columns well) (λ a. cond (not (isN (useOfByte (getD letters a 0))) || isInOrInout (kind file a)) (2 ^ initial file a) 0) entry
         (omega (arith, well .laid .limits .two-vertices)) first (λ a in-a. reach-entry a in-a) (λ a v in-a away. reach-elsewhere a v away))
 
     pub reach-passes : {s : List ℕ} → s ≡ table (λ i. cond (eqb (leaving i) 0) everyVersion 0) (length versions) → Cells file (reachPasses file) s
     unfolding reachPasses
-    reach-passes e = cells-table well (λ i. cond (eqb (leaving i) 0) everyVersion 0) (vs .size) e (λ a v in-a in-v. leaving-none a v in-a in-v)
+    reach-passes e = cells-table (few-columns well) (λ i. cond (eqb (leaving i) 0) everyVersion 0) (vs .size) e (λ a v in-a in-v. leaving-none a v in-a in-v)
 
     -- ---- kept sets
 
     pub kept-gives : {s : List ℕ} → s ≡ table leaving (length versions) → Cells file (leavingSet file) s
     unfolding leavingSet
-    kept-gives e = cells-table well leaving (vs .size) e (λ a v in-a in-v. leaving-at a v in-a in-v)
+    kept-gives e = cells-table (few-columns well) leaving (vs .size) e (λ a v in-a in-v. leaving-at a v in-a in-v)
 
     pub kept-passes : {s : List ℕ} → s ≡ table (λ i. cond (eqb (getD versions i 0) 0 || isNOrR (useOfByte (getD letters i 0))) everyVersion 0) (length versions)
         → Cells file (λ a v. cond (passesKept file a v) everyVersion 0) s
     unfolding passesKept
     kept-passes e =
-        cells-table well (λ i. cond (eqb (getD versions i 0) 0 || isNOrR (useOfByte (getD letters i 0))) everyVersion 0) (vs .size) e
+        cells-table (few-columns well) (λ i. cond (eqb (getD versions i 0) 0 || isNOrR (useOfByte (getD letters i 0))) everyVersion 0) (vs .size) e
         (λ a v in-a in-v. ap₂ (λ (b : Bool) (u : Use). cond (b || isNOrR u) everyVersion 0)
         (ap (λ (x : ℕ). eqb x 0) (vs .cells a v in-a in-v) ∙ single-none (isLabel file a v) (versionOf (event file a v))) (use-at a v in-a in-v))
 
@@ -210,8 +211,8 @@ module _ {file : List ℕ} (well : WellFormed file) where
         → s ≡ table (λ i. bitOr (getD gives i 0) (cond (isNOrR (useOfByte (getD letters i 0))) (getD sets i 0) 0)) (length sets) → Cells file (keptOf file) s
     unfolding keptSets keptOf
     kept-sets {gives} {passes} {sets} g p h e =
-        let found = cells-solved well (leavingSet file) (λ a v. cond (passesKept file a v) everyVersion 0) g p h in
-        cells-table well (λ i. bitOr (getD gives i 0) (cond (isNOrR (useOfByte (getD letters i 0))) (getD sets i 0) 0)) (h .size) e
+        let found = cells-solved (few-columns well) (leavingSet file) (λ a v. cond (passesKept file a v) everyVersion 0) g p h in
+        cells-table (few-columns well) (λ i. bitOr (getD gives i 0) (cond (isNOrR (useOfByte (getD letters i 0))) (getD sets i 0) 0)) (h .size) e
         (λ a v in-a in-v. ap₂ bitOr (g .cells a v in-a in-v) (ap₂ (λ (u : Use) (x : ℕ). cond (isNOrR u) x 0) (use-at a v in-a in-v) (found .cells a v in-a in-v)))
 
   -- away from the entry the reaching set is the solver's
@@ -224,5 +225,5 @@ module _ {file : List ℕ} (well : WellFormed file) where
   unfolding reachSets
   reaching-sets {gives} {passes} {sets} g p h e =
       subst (Cells file (reachingOf file)) (sym e)
-      (cells-row well (λ a. reachingOf file a entry) entry (omega (arith, well .laid .limits .two-vertices)) (cells-solved well (reachGives file) (reachPasses file) g p h)
+      (cells-row (few-columns well) (λ a. reachingOf file a entry) entry (omega (arith, well .laid .limits .two-vertices)) (cells-solved (few-columns well) (reachGives file) (reachPasses file) g p h)
       (λ a in-a. refl) (λ a v in-a away. reaching-elsewhere a v away))

@@ -1,12 +1,11 @@
--- How the code keeps it: tables of the label rules, the cell of vertex v and array a at 8 v + a.
+-- How the code keeps it: tables of the label rules, a column for each array.
 -- Assumes nothing.
-use mathlib.Core.Path.{_≡_}
 use mathlib.Core.Bool.{Bool, _||_}
 use mathlib.Core.List.{List}
-use Prim.Native.Nat.{ℕ, _+_, _*_, _<_}
+use Prim.Native.Nat.{ℕ}
 use lib.Dec.{ltb}
-use lib.ListN.{length, getD}
-use Rattle.flow.specs.Solver.{column, solution}
+use lib.ListN.{getD}
+use Rattle.flow.specs.Cells as columns
 use Rattle.routine.specs.Layout.{arrays, vertices}
 use Rattle.sets.specs.Sets.{has}
 use Rattle.labels.specs.Events.{edgeBytes, event, versionSet}
@@ -16,9 +15,8 @@ use Rattle.labels.specs.Reaching.{reachedSets}
 use Rattle.labels.specs.Uses.{useGives, useOf}
 
 -- a number for each array and vertex
-pub record Cells (file : List ℕ) (f : ℕ → ℕ → ℕ) (s : List ℕ) : Type 0 where
-  pub size : length s ≡ 8 * vertices file
-  pub cells : (a v : ℕ) → a < arrays file → v < vertices file → getD s (8 * v + a) 0 ≡ f a v
+abbrev pub Cells : List ℕ → (ℕ → ℕ → ℕ) → List ℕ → Type 0
+Cells file f s = columns.Cells (arrays file) (vertices file) f s
 
 -- whether cell i is the entry's, or its set says that a path from the entry reaches it
 abbrev pub reachedCell : ℕ → ℕ → Bool
@@ -47,8 +45,6 @@ pub record LettersAndKept (file letters kept : List ℕ) : Type 0 where
   pub letters-are : Letters file letters
   pub kept-are : Cells file (keptOf file) kept
 
--- ---- a pass: each column is solved by itself
-pub record Pass (file : List ℕ) (along : Bool) (gives passes sets : List ℕ) : Type 0 where
-  pub size : length sets ≡ 8 * vertices file
-  pub solved : (a : ℕ) → a < 8 → column sets (vertices file) a
-      ≡ solution (edgeBytes file) along (column gives (vertices file) a) (column passes (vertices file) a) (vertices file)
+-- ---- a pass over the edges of the file
+abbrev pub Pass : List ℕ → Bool → List ℕ → List ℕ → List ℕ → Type 0
+Pass file along gives passes sets = columns.Pass (edgeBytes file) (vertices file) along gives passes sets

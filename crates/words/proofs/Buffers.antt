@@ -1,15 +1,15 @@
 -- A buffer that is filled from its front: the part behind what has been written is lent to a callee, which writes the next bytes there.
 -- Assumes nothing.
-use mathlib.Core.Path.{_≡_, refl, ap, _∙_}
-use mathlib.Core.List.{List, _++_}
+use mathlib.Core.Path.{_≡_, refl, sym, ap, ap₂, _∙_}
+use mathlib.Core.List.{List, [], _∷_, _++_}
 use mathlib.Core.Logic.{⊎-elim}
 use Prim.Native.Nat.{ℕ, _+_, _-_, _≤_, _<_}
 use native.Mathlib.Nat.{eq-or-lt-of-le, le-antisymm}
 use native.Mathlib.Omega.{arith}
-use lib.ListN.{length, take, drop, length-append, length-take, length-drop}
+use lib.ListN.{length, set, take, drop, length-append, length-take, length-drop}
 use Rattle.words.specs.Tables.{rows, wrote}
-use Rattle.words.proofs.Tables.{rows-fit, rows-more}
-use Rattle.words.proofs.Written.{wrote-length, partFrom, write-more}
+use Rattle.words.proofs.Tables.{rows-fit, rows-more, table-length}
+use Rattle.words.proofs.Written.{wrote-length, partFrom, write-more, write-one}
 
 -- `done` stands at the front of `out`, which held `old`
 pub record Front (old done out : List ℕ) : Type 0 where
@@ -78,3 +78,17 @@ module _ {row : ℕ → List ℕ} {n : ℕ} {old : List ℕ} {i : ℕ} {out : Li
   -- all rows stand inside the buffer
   pub lies-all : {at : ℕ} → at ≡ length (rows row n) → at ≤ length out
   lies-all e = omega (arith, buffer-length, f .room)
+
+-- a loop that writes a row: one more byte
+pub next-byte : {f : ℕ → ℕ} {n : ℕ} {old : List ℕ} {i : ℕ} {out : List ℕ} → Filled (λ j. f j ∷ []) n old i out → i < n → {b : ℕ} → b ≡ f i
+    → Filled (λ j. f j ∷ []) n old (i + 1) (set out i b)
+next-byte {f} {n} {old} {i} {out} t h {b} e = record {
+  within = omega arith;
+  room = t .room;
+  front = record {
+    is =
+        ap₂ (λ (l : List ℕ) (x : ℕ). set l i x) (t .front .is) e
+        ∙ write-one old (rows (λ j. f j ∷ []) i) (f i) i (sym (table-length f i)) (omega (arith, t .room, table-length f n))
+        ∙ ap (wrote old) (rows-more (λ j. f j ∷ []) i);
+  };
+}

@@ -4,11 +4,10 @@ use mathlib.Core.List.{[], _∷_}
 use Prim.Native.Nat.{_-_}
 use native.Mathlib.Omega.{arith}
 use Rattle.routine.specs.Layout.{arrays}
-use Rattle.words.proofs.Buffers.{Filled, begin, buffer-length, end}
+use Rattle.words.proofs.Buffers.{Filled, begin, buffer-length, end, next-byte}
 use Rattle.words.proofs.Tables.{table-length}
 use Rattle.calls.specs.Expanded.{expandedByte}
 use Rattle.calls.specs.VertexRows.{partOf, partRow}
-use Rattle.calls.proofs.RowBytes.{next-byte}
 use Rattle.calls.proofs.rows.write_row.Statement.{statement}
 use Rattle.calls.proofs.rows.write_row.Tie as tie
 

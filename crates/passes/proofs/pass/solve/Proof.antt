@@ -9,9 +9,9 @@ use borrow.Author.Needs.{needs}
 use lib.ListN.{length}
 use Rattle.flow.specs.Order.{Order}
 use Rattle.flow.specs.Paths.{edgeCount}
-use Rattle.flow.specs.Solver.{column, solution, rowCount, Ends, Rounds, Solved}
+use Rattle.flow.specs.Solver.{rowCount, Ends, Solved}
+use Rattle.flow.proofs.Cells.{solved-pass}
 use Rattle.labels.specs.Events.{edgeBytes}
-use Rattle.passes.specs.Tables.{Pass}
 use Rattle.routine.specs.Layout.{vertices}
 use Rattle.passes.proofs.Cells.{edges-inside, edges-part}
 use Rattle.labels.proofs.Rules.Proper.{edge-count, ends-within}
@@ -22,19 +22,11 @@ use Rattle.passes.proofs.pass.solve.Tie as tie
 rows-are : (file sets : List ℕ) → length sets ≡ 8 * vertices file → rowCount sets ≡ vertices file
 rows-are file sets e = omega arith
 
-moved : (file : List ℕ) (along : Bool) (gives passes : List ℕ) {es order sets : List ℕ} {m r : ℕ} → es ≡ edgeBytes file → m ≡ vertices file
-    → Solved es order along gives passes m r sets → Pass file along gives passes sets
-moved file along gives passes {es} {order} {sets} {m} {r} e f h = record {
-  size = h .size ∙ ap (λ (n : ℕ). 8 * n) f;
-  solved = λ a l.
-      subst (λ (n : ℕ). column sets n a ≡ solution (edgeBytes file) along (column gives n a) (column passes n a) n) f
-      (subst (λ (bytes : List ℕ). column sets m a ≡ solution bytes along (column gives m a) (column passes m a) m) e (h .sets a l));
-}
-
-counted : (file : List ℕ) (order : List ℕ) (along : Bool) (gives passes : List ℕ) {es : List ℕ} {m r : ℕ} → es ≡ edgeBytes file → m ≡ vertices file
-    → Rounds es order along gives passes m r → Rounds (edgeBytes file) order along gives passes (vertices file) r
-counted file order along gives passes {m = m} {r} e f h =
-    subst (λ (n : ℕ). Rounds (edgeBytes file) order along gives passes n r) f (subst (λ (bytes : List ℕ). Rounds bytes order along gives passes m r) e h)
+-- what the solver leaves, over the bytes that it was lent
+over-file : (file order : List ℕ) (along : Bool) (gives passes : List ℕ) {es sets : List ℕ} {m r : ℕ} → es ≡ edgeBytes file → m ≡ vertices file
+    → Solved es order along gives passes m r sets → Solved (edgeBytes file) order along gives passes (vertices file) r sets
+over-file file order along gives passes {sets = sets} {m} {r} e f h =
+    subst (λ (n : ℕ). Solved (edgeBytes file) order along gives passes n r sets) f (subst (λ (bytes : List ℕ). Solved bytes order along gives passes m r sets) e h)
 
 edges-at-requires : tie.Need-edges-at-requires
 edges-at-requires c κs = search needs
@@ -82,8 +74,8 @@ returns c =
     let file = s .args .file .now in
     let lent = edges-part (s .pre .0) (e .edges-at .ensures) in
     let rows = rows-are file (s .args .sets .now) (s .pre .1 .1 .1 .1) in
-    let h = c .before .before .solve .ensures in
-    (moved file (s .args .along) (s .args .gives .now) (s .args .passes .now) lent rows h, counted file (s .args .order .now) (s .args .along) (s .args .gives .now) (s .args .passes .now) lent rows (h .counted))
+    let h = over-file file (s .args .order .now) (s .args .along) (s .args .gives .now) (s .args .passes .now) lent rows (c .before .before .solve .ensures) in
+    (solved-pass h, h .counted)
 
 pub solve-spec : {M : Type 1} → statement M
 solve-spec =
