@@ -1,60 +1,72 @@
-/* Array remapping by copies: hpf_plan plans the copies of a routine, hpf_run runs a path through it.
+/* Array remapping by copies: hpf_plan plans the copies of a routine, hpf_run runs a path through it, hpf_convert makes
+ * a routine of directives.
  *
  * Memory    A call reads the bytes and writes the buffer that its caller lends. It keeps no state and takes no heap,
  *           and less than 48 KiB of stack. Any number of threads may call at once, each with a buffer of its own.
  *           Every call ends.
  * Pointers  Each points to as many bytes as the length beside it says; where that is 0 it may be null. The buffer
- *           must overlap neither the routine nor the path; these two may overlap.
+ *           must overlap nothing that the call reads; a routine and a path may overlap.
  * Numbers   In all formats 16-bit numbers are unsigned, low byte first. Bytes, arrays, versions, vertices and
  *           indices count from 0, the steps of a path from 1. A set of versions has 16 bits, bit k for version k.
  * Linking   C and C++ programs link libremap.a, which is for x86-64 Linux and needs at most memcpy and memset.
  *
- * What a call answers; a number with two reasons has a line for each.
+ * What a call answers, P hpf_plan, R hpf_run, C hpf_convert; a number with two reasons has a line for each.
  *
- *   number  call      what it says                                            first                       second
+ *   number  calls     what it says                                            first                       second
  *   ------  --------  ------------------------------------------------------  --------------------------  ------
- *      0    both      done                                                    length written              0
+ *      0    P R C     done                                                    length written              0
  *
  *   The library's caller
- *      1    hpf_plan  the buffer is too short                                 length needed               0
- *      2    hpf_run   the buffer is too short                                 length needed               0
+ *      1    P C       the buffer is too short                                 length needed               0
+ *      2    R         the buffer is too short                                 length needed               0
  *
  *   The writer of the routine file
- *     10    both      the file has under 18 bytes                             its length                  0
+ *     10    P R       the file has under 18 bytes                             its length                  0
  *                     its mark is not `HPFR`                                  0                           0
- *     11    both      the edition is not 1                                    4                           0
- *     12    both      a count is outside its limits                           its first byte: 8, 12, 16   0
- *     13    both      an offset is wrong                                      its first byte: 6, 10, 14   0
+ *     11    P R       the edition is not 1                                    4                           0
+ *     12    P R       a count is outside its limits                           its first byte: 8, 12, 16   0
+ *     13    P R       an offset is wrong                                      its first byte: 6, 10, 14   0
  *                     the file does not end with its last edge                18                          0
- *     14    both      array: kind above 3, versions not 1 to 16, initial      the byte                    0
+ *     14    P R       array: kind above 3, versions not 1 to 16, initial      the byte                    0
  *                     version not below them, or last byte not zero
- *     15    both      action: unknown                                         the byte                    0
- *     16    both      edge: an end not below the vertex count, into the       its first byte              0
+ *     15    P R       action: unknown                                         the byte                    0
+ *     16    P R       edge: an end not below the vertex count, into the       its first byte              0
  *                     entry, out of the exit, or not above the edge before
- *     17    both      action: a remapping to, or a call with, a version       the byte                    0
+ *     17    P R       action: a remapping to, or a call with, a version       the byte                    0
  *                     not below the array's versions
- *     18    both      action: not 00 at entry or exit                         the byte                    0
- *     19    both      action: a reference, remapping or call where an         the byte                    0
+ *     18    P R       action: not 00 at entry or exit                         the byte                    0
+ *     19    P R       action: a reference, remapping or call where an         the byte                    0
  *                     earlier byte of its vertex is one of another sort
- *     22    both      the expanded routine has more than 256 vertices         how many                    0
+ *     22    P R       the expanded routine has more than 256 vertices         how many                    0
  *
  *   The routine's programmer
- *     20    both      an in argument is defined, modified, or passed as       vertex                      array
+ *     20    P R C     an in argument is defined, modified, or passed as       vertex                      array
  *                     out or inout
- *     21    both      a reference or a call is ambiguous: two paths from      vertex                      array
+ *     21    P R C     a reference or a call is ambiguous: two paths from      vertex                      array
  *                     the entry bring different versions to it
+ *     41    C         an array has more than 16 mappings: that with which     array                       0
+ *                     it starts, and all that a directive can give it on
+ *                     some path from the entry
+ *     42    C         a directive can leave an array that it remaps in two    vertex                      array
+ *                     mappings
+ *
+ *   The writer of the directive file
+ *     40    C         a field is wrong                                        its first byte              0
+ *                     the file ends before a field does                       its length                  0
+ *                     the file does not end with its last edge                the byte behind that        0
  *
  *   The writer of the path
- *     30    hpf_run   no vertex, or more than 4,096                           how many vertices           0
- *     31    hpf_run   the first vertex is not the entry                       0                           0
- *     32    hpf_run   no such edge: none leads to the vertex from the         its index in the path       0
+ *     30    R         no vertex, or more than 4,096                           how many vertices           0
+ *     31    R         the first vertex is not the entry                       0                           0
+ *     32    R         no such edge: none leads to the vertex from the         its index in the path       0
  *                     one before it
  *
  * Checks run from 10 up, but 22 before 20; 1 and 2 come last. 17, 18 and 19 are checked with 15, byte by byte and
  * before 16: the first byte at fault by any of the four is named, by the lowest number if several faults meet in it.
- * Within one number the lowest byte or index wins, for 20 and 21 the lowest vertex of the file and then the lowest
- * array. A call that answers 0 writes `first` bytes from the buffer's start and leaves the others as they were; any
- * other answer leaves the whole buffer as it was.
+ * hpf_convert checks 40, 41 and 42, then 20 and 21 on the routine that it makes, last 1. Within one number the lowest
+ * byte, index or array wins, for 20, 21 and 42 the lowest vertex of the file and then the lowest array. A call that
+ * answers 0 writes `first` bytes from the buffer's start and leaves the others as they were; any other answer leaves the
+ * whole buffer as it was.
  */
 #ifndef HPF_REMAP_H
 #define HPF_REMAP_H
@@ -71,10 +83,12 @@ typedef struct {
 } hpf_outcome;
 
 /* Lengths in bytes that always suffice, and the most vertices of a path (two bytes each). Most reports are far
- * shorter: with an empty buffer (null, 0) hpf_run answers 2 and the length needed, as hpf_plan answers 1. */
-#define HPF_LARGEST_ROUTINE 6194  /* 18 + 4 * 8 + 256 * 8 + 4 * 1024 */
-#define HPF_LARGEST_PLAN 17416    /* 8 + 4 * 256 + 8 * 256 * 8 */
-#define HPF_LARGEST_REPORT 327648 /* 6 * 8 + 10 * 4095 * 8: at the entry stands no reference */
+ * shorter: with an empty buffer (null, 0) hpf_run answers 2 and the length needed, as hpf_plan and hpf_convert
+ * answer 1. */
+#define HPF_LARGEST_DIRECTIVES 9334 /* 22 + 8 * 8 + 4 * 8 + 256 * (12 + 8) + 4 * 1024 */
+#define HPF_LARGEST_ROUTINE 6194    /* 18 + 4 * 8 + 256 * 8 + 4 * 1024 */
+#define HPF_LARGEST_PLAN 17416      /* 8 + 4 * 256 + 8 * 256 * 8 */
+#define HPF_LARGEST_REPORT 327648   /* 6 * 8 + 10 * 4095 * 8: at the entry stands no reference */
 #define HPF_LONGEST_PATH 4096
 
 /* Plans a routine.
@@ -210,6 +224,29 @@ hpf_outcome hpf_plan(const uint8_t *routine, size_t routine_len, uint8_t *plan, 
 hpf_outcome hpf_run(const uint8_t *routine, size_t routine_len,
                     const uint8_t *path, size_t path_len, /* in bytes: twice the number of vertices */
                     uint8_t *report, size_t report_len);
+
+/* Converts a directive file to a routine, so that no version has to be numbered by hand.
+ *
+ * A directive file has the mark `HPFD`, 1 to 8 templates, and arrays, vertices and edges as many as a routine may have.
+ * `distribute` and `align` say how each template is spread and how each array is aligned at the start; at a vertex
+ * stands a `redistribute`, a `realign`, references or nothing. docs/DIRECTIVES.md has every byte of it and what the
+ * directives mean. It has no calls.
+ *
+ * The routine has the same arrays, vertices, references and edges, by the same numbers. Version 0 of an array is the
+ * mapping with which it starts; the others are numbered by the lowest vertex whose directive gives them. Two mappings
+ * are one version if both dimensions of the array are spread alike as written, by whatever template. A realign becomes
+ * a remapping of its array, a redistribute a remapping of each array that some path from the entry brings aligned with
+ * its template, also where the mapping stays as it was. Every other array has 00 there, and so has every array at a
+ * directive that no path from the entry reaches: that gives no version.
+ *
+ * At each reference on a path from the entry the mapping that the directives give is that of the version which the
+ * routine names. hpf_plan and hpf_run refuse no routine that hpf_convert writes.
+ *
+ * For example: template T(block, *); a local array aligned with it, straight; 1 define, 2 redistribute T(cyclic(3), *),
+ * 3 read, 4 exit; edges 0-1, 1-2, 2-3, 3-4. In the routine the array has 2 versions, initial 0; its actions are 00, 20,
+ * 41, 10, 00.
+ */
+hpf_outcome hpf_convert(const uint8_t *directives, size_t directives_len, uint8_t *routine, size_t routine_len);
 
 #ifdef __cplusplus
 }

@@ -1,6 +1,7 @@
 //! Times of the verified library and of the oracle on the same inputs, in one process: medians
-//! of repeated batches, taken in turn. For a plan also the rounds over the edges. Then times of the
-//! library on routines with calls and on the same routines written out without calls.
+//! of repeated batches, taken in turn: plans, runs and conversions of directive files. For a plan
+//! also the rounds over the edges. Then times of the library on routines with calls and on the same
+//! routines written out without calls.
 
 mod order;
 mod rounds;
@@ -13,9 +14,11 @@ use compare::VERIFIED;
 use harness::library::{Input, Library, ORACLE};
 use oracle::builder::{self, DEFINE, Draft, LOCAL, MODIFY, READ, call_in, call_inout, call_out};
 use oracle::calls::Room;
+use oracle::directives::Program;
+use oracle::directives::figures::FIGURE_10;
 use oracle::generate::rng::Rng;
 use oracle::generate::routines::{self, Size};
-use oracle::generate::{limits, paths};
+use oracle::generate::{directives, limits, paths};
 use oracle::labels::fixpoint;
 use oracle::routine::{MAX_VERTICES, Routine};
 use oracle::run::{LONGEST_REPORT, MAX_PATH};
@@ -129,6 +132,41 @@ fn run(name: &'static str, draft: Draft, path: &[u16]) -> Line {
     Line { name, inputs }
 }
 
+fn convert(name: &'static str, program: &Program) -> Line {
+    let inputs = vec![Input::convert(program.bytes())];
+    Line { name, inputs }
+}
+
+/// Drawn directives and references on a structured graph, with what is refused taken out.
+fn structured_directives() -> Program {
+    let mut rng = Rng::new(SEED);
+    let graph = structured(&mut rng, MAX_VERTICES);
+    let size = directives::Size::LARGEST;
+    let mut program = directives::on_graph(&mut rng, size, MAX_VERTICES, graph.edges);
+    directives::make_acceptable(&mut rng, &mut program);
+    program
+}
+
+/// Lines of directive files: a small one, one that is drawn, and the worst at the limits.
+fn conversions() -> Vec<Line> {
+    vec![
+        convert("convert figure 10", &FIGURE_10.program()),
+        convert(
+            "convert, structured, 256 vertices",
+            &structured_directives(),
+        ),
+        convert("convert, largest", &directives::limits::largest()),
+        convert(
+            "convert, directives everywhere",
+            &directives::limits::directives_everywhere(),
+        ),
+        convert(
+            "convert, directives against numbers",
+            &directives::limits::directives_against_numbers(),
+        ),
+    ]
+}
+
 /// Lines of routines with calls.
 fn calls() -> Vec<Line> {
     let (draft, path) = chain_with_calls();
@@ -143,11 +181,8 @@ fn calls() -> Vec<Line> {
 /// The same inputs with the calls written out.
 fn written_out(line: &Line) -> Vec<Input> {
     let written_out = |input: &Input| {
-        let draft = Draft::from_bytes(&input.routine).expect("a routine has parts");
-        Input {
-            routine: draft.expanded().bytes(),
-            path: input.path.clone(),
-        }
+        let draft = Draft::from_bytes(input.file()).expect("a routine has parts");
+        input.with_file(draft.expanded().bytes())
     };
     line.inputs.iter().map(written_out).collect()
 }
@@ -210,11 +245,13 @@ fn check(name: &str, sides: &[Side; 2]) {
     }
 }
 
-/// The most rounds of a plan's passes, its calls expanded; a run has no column for them.
+/// The most rounds of a plan's passes, its calls expanded; other calls have no column for them.
 fn rounds_of(line: &Line) -> String {
-    let plans = line.inputs.iter().filter(|input| input.path.is_none());
-    plans
-        .filter_map(|input| Routine::parse(&input.routine).ok())
+    let routines = line.inputs.iter().filter_map(|input| match input {
+        Input::Plan { routine } => Routine::parse(routine).ok(),
+        _ => None,
+    });
+    routines
         .map(|routine| {
             let mut room = Room::EMPTY;
             Rounds::of(&fixpoint::expanded(&routine, &mut room))
@@ -297,7 +334,7 @@ fn main() {
         rounds::HEADS
     );
     let calls = calls();
-    for line in lines().iter().chain(&calls) {
+    for line in lines().iter().chain(&calls).chain(&conversions()) {
         time(line);
     }
     println!(

@@ -4,9 +4,10 @@ module hpf_remap
   use iso_c_binding, only: c_int64_t, c_int8_t, c_size_t
   implicit none
   private
-  public :: hpf_outcome, hpf_plan, hpf_run
+  public :: hpf_outcome, hpf_plan, hpf_run, hpf_convert
 
   ! Sizes in bytes that always suffice, and the most vertices of a path.
+  integer, parameter, public :: hpf_largest_directives = 9334
   integer, parameter, public :: hpf_largest_routine = 6194
   integer, parameter, public :: hpf_largest_plan = 17416
   integer, parameter, public :: hpf_largest_report = 327648
@@ -37,5 +38,14 @@ module hpf_remap
       integer(c_size_t), value :: report_len
       type(hpf_outcome) :: outcome
     end function hpf_run
+
+    function hpf_convert(directives, directives_len, routine, routine_len) bind(c) result(outcome)
+      import :: hpf_outcome, c_int8_t, c_size_t
+      integer(c_int8_t), intent(in) :: directives(*)
+      integer(c_size_t), value :: directives_len
+      integer(c_int8_t), intent(inout) :: routine(*)
+      integer(c_size_t), value :: routine_len
+      type(hpf_outcome) :: outcome
+    end function hpf_convert
   end interface
 end module hpf_remap

@@ -1,6 +1,6 @@
 -- A file whose head passes is within the limits, and so is one that check 40 passes.
 -- Assumes nothing.
-use mathlib.Core.Path.{_≡_, refl}
+use mathlib.Core.Path.{_≡_, refl, sym, subst}
 use mathlib.Core.Bool.{true}
 use mathlib.Core.List.{List}
 use Prim.Native.Nat.{ℕ, _≤_}
@@ -9,8 +9,9 @@ use lib.Dec.{leb}
 use Rattle.words.proofs.Tests.{and-left, and-right}
 use Rattle.refusal.specs.declared.Verdict.the-variants.{Passed}
 use Rattle.routine.specs.Layout.{within}
-use Rattle.directives.specs.Fields.{inOrder, markFields, contentsFields, headFields, bodyFields, fields, check40}
+use Rattle.directives.specs.Fields.{inOrder, markFields, contentsFields, headFields, bodyFields, fields, check40, DirectivesRead}
 use Rattle.directives.specs.Layout.{templates, arrays, vertices, edges, headerOf, Limits, Heads}
+use Rattle.directives.specs.declared.header.Header.{Header}
 use Rattle.directives.proofs.Fields.{passed-front, passed-right-here, behind}
 
 within-limits : (low high n : ℕ) → within low high n ≡ true → (low ≤ n) × (n ≤ high)
@@ -41,3 +42,6 @@ module _ (file : List ℕ) where
   pub passed-heads : check40 file ≡ Passed → Heads (headerOf file) file
   unfolding check40 fields
   passed-heads e = heads (limits (passed-front file (headFields file) (bodyFields file) e))
+
+pub read-heads : {file : List ℕ} {h : Header} → DirectivesRead file h → Heads h file
+read-heads {file} is = subst (λ (h : Header). Heads h file) (sym (is .header)) (passed-heads file (is .passed))

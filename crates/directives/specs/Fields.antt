@@ -1,6 +1,7 @@
 -- docs/DIRECTIVES.md and refusal 40: the file is one list of fields, read from front to back. The first that the file ends in gives the
 -- file's length, the first that is wrong its first byte.
 -- Assumes nothing.
+use mathlib.Core.Path.{_≡_}
 use mathlib.Core.Bool.{Bool, true, not, _&&_, _||_, cond}
 use mathlib.Core.List.{List, [], _∷_, _++_}
 use Prim.Native.Nat.{ℕ, zero, suc, _+_}
@@ -16,7 +17,8 @@ use Rattle.routine.specs.Actions.{actionOf, isReference}
 use Rattle.routine.specs.Edges.{before}
 use Rattle.routine.specs.Layout.{within}
 use Rattle.routine.specs.declared.edge.Edge.{Edge}
-use Rattle.directives.specs.Layout.{templates, arrays, vertices, edges, entry, exit, templateAt, arraysAt, arrayAt, verticesAt, vertexAt, referenceAt, edgesAt, edgeAt, endAt}
+use Rattle.directives.specs.Layout.{templates, arrays, vertices, edges, headerOf, entry, exit, templateAt, arraysAt, arrayAt, verticesAt, vertexAt, referenceAt, edgesAt, edgeAt, endAt}
+use Rattle.directives.specs.declared.header.Header.{Header}
 
 -- ---- fields
 
@@ -202,3 +204,8 @@ fields file = headFields file ++ bodyFields file
 unfoldable pub check40 : List ℕ → Verdict
 unfolding fields inOrder
 check40 file = inOrder file (fields file)
+
+-- ---- how the code keeps it: a file that 40 passes, and its header
+pub record DirectivesRead (file : List ℕ) (h : Header) : Type 0 where
+  pub passed : check40 file ≡ Passed
+  pub header : h ≡ headerOf file

@@ -66,8 +66,8 @@ module _ (file : List ℕ) (given : ℕ → ℕ → List Mapping) where
 
   -- ---- array records
 
-  records-size : length records ≡ 4 * arrays file
-  records-size = rows-length (arrayBytes file given) 4 (λ i. refl) (arrays file)
+  pub records-size : (n : ℕ) → length (rows (arrayBytes file given) n) ≡ 4 * n
+  records-size = rows-length (arrayBytes file given) 4 (λ i. refl)
 
   pub array-is : (a : ℕ) → a < arrays file → arrayOf routine a ≡ arrayRecordOf (arrayBytes file given a)
   unfolding arrayOf
@@ -78,24 +78,24 @@ module _ (file : List ℕ) (given : ℕ → ℕ → List Mapping) where
           let e : R.recordAt a + j ≡ 18 + (a * 4 + j) = omega arith in
           getD-take 4 (drop (R.recordAt a) routine) j 0 l ∙ getD-drop (R.recordAt a) routine j 0
           ∙ ap (λ (i : ℕ). getD routine i 0) e ∙ in-rest (a * 4 + j)
-          ∙ List·getD-append records (actions ++ edgeBytes file) 0 (a * 4 + j) (omega (arith, records-size))
+          ∙ List·getD-append records (actions ++ edgeBytes file) 0 (a * 4 + j) (omega (arith, records-size (arrays file)))
           ∙ rows-at (arrayBytes file given) 4 (λ i. refl) (arrays file) a j h l
 
   -- ---- rows
 
-  row-size : (v : ℕ) → length (rowBytes file given v) ≡ arrays file
+  pub row-size : (v : ℕ) → length (rowBytes file given v) ≡ arrays file
   row-size v = table-length (λ a. actionFor file given a v (given a v)) (arrays file)
 
-  actions-size : length actions ≡ vertices file * arrays file
-  actions-size = rows-length (rowBytes file given) (arrays file) row-size (vertices file) ∙ mul-comm (arrays file) (vertices file)
+  pub actions-size : (n : ℕ) → length (rows (rowBytes file given) n) ≡ n * arrays file
+  actions-size n = rows-length (rowBytes file given) (arrays file) row-size n ∙ mul-comm (arrays file) n
 
   pub byte-is : (a v : ℕ) → a < arrays file → v < vertices file → actionByte routine a v ≡ actionFor file given a v (given a v)
   byte-is a v in-a in-v =
       let i = v * arrays file + a in
       let e : R.actionAt routine a v ≡ 18 + (4 * arrays file + i) = omega (arith, arrays-are, ap (λ (n : ℕ). v * n) arrays-are) in
       ap (λ (i : ℕ). getD routine i 0) e ∙ in-rest (4 * arrays file + i)
-      ∙ getD-behind records (actions ++ edgeBytes file) records-size i 0
-      ∙ List·getD-append actions (edgeBytes file) 0 i (omega (arith, actions-size, mul-le-mul-right (arrays file) in-v))
+      ∙ getD-behind records (actions ++ edgeBytes file) (records-size (arrays file)) i 0
+      ∙ List·getD-append actions (edgeBytes file) 0 i (omega (arith, actions-size (vertices file), mul-le-mul-right (arrays file) in-v))
       ∙ rows-at (rowBytes file given) (arrays file) row-size (vertices file) v a in-v in-a
       ∙ table-at (λ a. actionFor file given a v (given a v)) (arrays file) a in-a
 
@@ -106,8 +106,8 @@ module _ (file : List ℕ) (given : ℕ → ℕ → List Mapping) where
       let n = vertices file * arrays file in
       let e : R.edgesAt routine ≡ 18 + (4 * arrays file + (n + 0)) = omega (arith, arrays-are, ap₂ _*_ vertices-are arrays-are) in
       ap₂ drop e is ∙ drop-behind head (records ++ (actions ++ edgeBytes file)) refl (4 * arrays file + (n + 0))
-      ∙ drop-behind records (actions ++ edgeBytes file) records-size (n + 0)
-      ∙ drop-behind actions (edgeBytes file) actions-size 0
+      ∙ drop-behind records (actions ++ edgeBytes file) (records-size (arrays file)) (n + 0)
+      ∙ drop-behind actions (edgeBytes file) (actions-size (vertices file)) 0
 
   -- ---- the end, where the file's edges fill it
 
@@ -118,8 +118,8 @@ module _ (file : List ℕ) (given : ℕ → ℕ → List Mapping) where
         arith,
         length-append records (actions ++ edgeBytes file),
         length-append actions (edgeBytes file),
-        records-size,
-        actions-size,
+        records-size (arrays file),
+        actions-size (vertices file),
         size,
         edges-are,
         arrays-are,

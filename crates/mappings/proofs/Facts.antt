@@ -1,11 +1,11 @@
 -- The first two kinds of computed facts are exact: the alignments and the spreads that paths from the entry bring.
 -- Assumes nothing.
 use mathlib.Core.Path.{_≡_, refl, sym, ap, ap₂, subst, _∙_}
-use mathlib.Core.Bool.{Bool, not, _||_, cond}
+use mathlib.Core.Bool.{Bool, true, false, not, _||_, cond}
 use mathlib.Core.List.{List, [], _∷_, _++_}
 use mathlib.Core.Logic.{_↔_, ⊎-elim}
 use mathlib.Core.Option.{Option, none, some, Option·none-ne-some}
-use Prim.Native.Nat.{ℕ, _<_}
+use Prim.Native.Nat.{ℕ, _+_, _*_, _<_}
 use native.Mathlib.Omega.{arith}
 use borrow.Author.Tests.{ne-eqb}
 use lib.Dec.{T, eqb}
@@ -14,7 +14,7 @@ use lib.ListN.{getD}
 use Rattle.flow.specs.Paths.{Edge}
 use Rattle.labels.proofs.Rules.Arrivals.{last-snoc}
 use Rattle.labels.specs.Reaching.{Arrives, orLast, lastVersion}
-use Rattle.sets.specs.Sets.{has}
+use Rattle.sets.specs.Sets.{width, has}
 use Rattle.words.proofs.Tests.{either}
 use Rattle.directives.specs.Directives.{directive}
 use Rattle.directives.specs.Layout.{arrays, vertices, entry, edgeBytes}
@@ -24,12 +24,20 @@ use Rattle.directives.specs.declared.vertex.Directive.{Directive}
 use Rattle.directives.specs.declared.vertex.Directive.the-variants.{Nothing, Realign, Redistribute}
 use Rattle.mappings.specs.Along.{State, initialState, after, stateBy}
 use Rattle.mappings.specs.Computed.{lastSets, realigns, alignmentOf, code, alignSets, redistributes, spreadSets, spreadBy, spreadOf}
+use Rattle.mappings.specs.Tables.{spreadColumn}
 use Rattle.mappings.specs.Theorem.{Right, Formed}
 use Rattle.mappings.proofs.Along.{arrives-below, state-first, state-next, by-path}
-use Rattle.mappings.proofs.Arrivals.{last-exact, last-below}
+use Rattle.mappings.proofs.Arrivals.{last-exact, last-below, column-exact}
 
 some-same : {j k : ℕ} → _≡_ {A = Option ℕ} (some j) (some k) → j ≡ k
 some-same e = cc
+
+-- tests of which each follows from the other
+same-test : (a b : Bool) → T a ↔ T b → a ≡ b
+same-test true true i = refl
+same-test true false i = absurd (i .0 tt)
+same-test false true i = absurd (i .1 tt)
+same-test false false i = refl
 
 -- ---- what the last vertex of a kind tells of the state
 
@@ -121,7 +129,7 @@ module _ {file : List ℕ} (formed : Formed file) (a : ℕ) (in-a : a < arrays f
   Is k s = (code (s .aligned a) ≡ k) × Right file (s .aligned a)
 
   -- an alignment that a vertex gives is right
-  right-of : (u : ℕ) → u < vertices file → Right file (alignmentOf start (directive file u))
+  pub right-of : (u : ℕ) → u < vertices file → Right file (alignmentOf start (directive file u))
   right-of u h = go (directive file u) refl
     where
       go : (d : Directive) → directive file u ≡ d → Right file (alignmentOf start d)
@@ -226,3 +234,10 @@ module _ {file : List ℕ} (formed : Formed file) (t : ℕ) where
   unfolding spreadSets
   spread-below v k h =
       last-below (formed .ends) (formed .some-vertex) (vertices file) (λ u. eqb u entry || redistributes t (directive file u)) (λ u. u) (λ u l _. l) v k h
+
+  -- columns hold the same
+  pub spread-column : (v c b : ℕ) → b < width → has (getD (spreadColumn file t c) v 0) b ≡ has (getD (spreadSets file t) v 0) (width * c + b)
+  unfolding spreadSets spreadColumn
+  spread-column v c b l =
+      same-test _ _
+      (column-exact (formed .ends) (formed .some-vertex) (vertices file) (λ u. eqb u entry || redistributes t (directive file u)) (λ u. u) (λ u l _. l) c b v l)

@@ -19,10 +19,11 @@ use Rattle.words.specs.Words.{word}
 use Rattle.directives.proofs.Fields.{passed-front, passed-back, passed-row, passed-right-here, passed-within, behind}
 use Rattle.directives.proofs.Limits.{passed-heads}
 use Rattle.directives.specs.Directives.{alignmentAt, directive}
-use Rattle.directives.specs.Fields.{Field, byteField, inOrder, headFields, templateFields, arrayFields, directiveByte, isEntryOrExit, directiveFields, givenFields, isRightReference, referenceFields, vertexFields, edgeOf, rises, edgeFields, endFields, bodyFields, fields, check40}
+use Rattle.directives.specs.Fields.{Field, byteField, inOrder, headFields, templateFields, arrayFields, directiveByte, isEntryOrExit, subjects, directiveFields, givenFields, isRightReference, referenceFields, vertexFields, edgeOf, rises, edgeFields, endFields, bodyFields, fields, check40}
 use Rattle.directives.specs.Layout.{templates, arrays, vertices, edges, entry, exit, arrayAt, vertexAt, referenceAt, edgesAt, edgeAt, endAt, edgeBytes, Limits}
 use Rattle.directives.specs.declared.array.Alignment.{Alignment}
-use Rattle.directives.specs.declared.vertex.Directive.the-variants.{Nothing, Realign}
+use Rattle.directives.specs.declared.spread.Mapping.{Mapping}
+use Rattle.directives.specs.declared.vertex.Directive.the-variants.{Nothing, Realign, Redistribute}
 use Rattle.mappings.specs.Along.{initialState}
 use Rattle.mappings.specs.Theorem.{Right, Formed}
 
@@ -57,7 +58,7 @@ module _ (file : List ℕ) (passed : check40 file ≡ Passed) where
   edge-passed : (i : ℕ) → i < edges file → inOrder file (edgeFields file i) ≡ Passed
   edge-passed = passed-row file (edgeFields file) (edges file) (passed-front file (rows (edgeFields file) (edges file)) (endFields file) edges-passed)
 
-  ends-there : length file ≡ endAt file
+  pub ends-there : length file ≡ endAt file
   ends-there =
       let f : Field = record { at = endAt file; wide = 0; right = leb (length file) (endAt file) } in
       let at-end = passed-back file (rows (edgeFields file) (edges file)) (endFields file) edges-passed in
@@ -108,6 +109,19 @@ module _ (file : List ℕ) (passed : check40 file ≡ Passed) where
         no q = by-test (eqb (directiveByte file v) 2)
             (λ p. absurd (let z : _≡_ {A = ℕ} 0 1 = cc (rw (q, p) at e) in omega arith))
             (λ p. absurd (let z : _≡_ {A = ℕ} 0 1 = cc (rw (q, p) at e) in omega arith))
+
+    -- a redistribute has a template of the file
+    pub vertex-redistributed : (t : ℕ) (m : Mapping) → directive file v ≡ Redistribute t m → t < templates file
+    unfolding directive
+    vertex-redistributed t m e = by-test (eqb (directiveByte file v) 1)
+        (λ p. absurd (let z : _≡_ {A = ℕ} 0 1 = cc (rw p at e) in omega arith))
+        (λ p. by-test (eqb (directiveByte file v) 2) (yes p) (λ q. absurd (let z : _≡_ {A = ℕ} 0 1 = cc (rw (p, q) at e) in omega arith)))
+      where
+        yes : eqb (directiveByte file v) 1 ≡ false → eqb (directiveByte file v) 2 ≡ true → t < templates file
+        yes p q =
+            let s : getD file (vertexAt file v + 1) 0 < subjects file (directiveByte file v) = ltb-true _ _ (passed-right-here file _ _ (behind file 1 (directiveFields file v) directive-passed)) in
+            let is : getD file (vertexAt file v + 1) 0 ≡ t = cc (rw (p, q) at e) in
+            subst (λ (n : ℕ). n < templates file) is (rw (p, q) at s)
 
     -- byte 0 is no directive
     pub silent : directiveByte file v ≡ 0 → directive file v ≡ Nothing

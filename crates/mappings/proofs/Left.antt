@@ -2,21 +2,22 @@
 -- there are two mappings.
 -- Assumes nothing.
 use mathlib.Core.Path.{_≡_, refl, sym, ap, subst, _∙_}
-use mathlib.Core.Bool.{false, not, cond}
+use mathlib.Core.Bool.{Bool, true, false, not, _||_, cond, true≢false}
 use mathlib.Core.List.{List, [], _∷_}
 use mathlib.Core.Logic.{_↔_, Iff·rfl, inl, inr, ⊎-elim}
 use Prim.Native.Nat.{ℕ, zero, suc, _^_, _≤_, _<_}
 use native.Mathlib.Nat.{le-of-suc-le-suc, eq-or-lt-of-le, pow-suc}
 use native.Mathlib.Omega.{arith}
+use borrow.Author.Tests.{eqb-true}
 use lib.Bits.{bitOr}
 use lib.Dec.{T, eqb, T-not, not-T}
 use lib.Ieee.Bits.{is-true, is-false}
 use lib.ListN.{length, getD}
 use Rattle.flow.proofs.Members.{member-or, member-cond}
 use Rattle.labels.specs.Reaching.{Arrives}
-use Rattle.sets.proofs.Laws.{has-zero, several-two, two-several}
-use Rattle.sets.specs.Sets.{width, has, several}
-use Rattle.words.proofs.Tests.{cond-not, either, eqb-iff}
+use Rattle.sets.proofs.Laws.{has-zero, has-or, several-two, two-several}
+use Rattle.sets.specs.Sets.{width, has, Two, several}
+use Rattle.words.proofs.Tests.{at-cond, by-test, cond-not, either, eqb-iff}
 use Rattle.directives.specs.Directives.{directive}
 use Rattle.directives.specs.Layout.{templates, arrays, entry, edgeBytes}
 use Rattle.directives.specs.declared.spread.Mapping.{Mapping}
@@ -190,3 +191,23 @@ module _ {file : List ℕ} (formed : Formed file) (a : ℕ) (in-a : a < arrays f
 
       listed : {m : Mapping} → CanLeave file a v m → (d : Mapping) → getD all (versionIn all m) d ≡ m
       listed {m} c = number-of m all (subst (λ (x : Mapping). T (isListed x all)) (c .is) (after-listed formed a in-a (c .before) v (c .path))) .1
+
+-- a directive that can leave the array in one version alone gives it one
+module _ (file : List ℕ) (a v : ℕ) where
+  abbrev given : ℕ
+  given = givenSet file a v
+
+  left-of : (k : ℕ) → has given k ≡ true → has (leftSet file a v) k ≡ true
+  unfolding leftSet
+  left-of k h =
+      at-cond (λ (m : ℕ). has m k ≡ true) (eqb given 0)
+      (λ z. absurd (true≢false (sym h ∙ ap (λ (m : ℕ). has m k) (eqb-true given 0 z) ∙ has-zero k)))
+      (λ _. has-or given (leftBy file a v (directive file v)) k ∙ ap (λ (b : Bool). b || has (leftBy file a v (directive file v)) k) h)
+
+  two-left : several given ≡ true → Two (leftSet file a v)
+  two-left e =
+      let t = several-two given given (under-power given) e in
+      record { first = t .first; second = t .second; differ = t .differ; has-first = left-of (t .first) (t .has-first); has-second = left-of (t .second) (t .has-second) }
+
+  pub given-single : several (leftSet file a v) ≡ false → several given ≡ false
+  given-single none = by-test (several given) (λ e. absurd (true≢false (sym (two-several (leftSet file a v) (two-left e)) ∙ none))) (λ e. e)

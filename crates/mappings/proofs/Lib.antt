@@ -13,3 +13,4 @@ pub mod Lists
 pub mod Numbers
 pub mod Read
 pub mod Theorem
+pub mod VersionSets

@@ -4,10 +4,11 @@ use mathlib.Core.Path.{_≡_, refl, sym, ap, ap₂, subst, _∙_}
 use mathlib.Core.Bool.{Bool, true, false, not, _||_, cond}
 use mathlib.Core.List.{List, [], _∷_, _++_}
 use mathlib.Core.Logic.{_↔_, Iff·rfl, _⊎_, inl, inr, ⊎-elim}
-use Prim.Native.Nat.{ℕ, zero, suc, _+_, _≤_, _<_, zero-le, suc-le-suc}
+use Prim.Native.Nat.{ℕ, zero, suc, _+_, _^_, _≤_, _<_, zero-le, suc-le-suc}
 use native.Mathlib.Nat.{le-of-suc-le-suc, eq-or-lt-of-le}
 use native.Mathlib.Omega.{arith}
 use borrow.Author.Tests.{lt-ltb}
+use lib.Bits.{bitOr}
 use lib.Dec.{T, eqb, ltb, ltb→lt, nltb→le}
 use lib.Ieee.Bits.{is-true, is-false}
 use lib.ListN.{length, getD, length-append, List·getD-append}
@@ -16,6 +17,7 @@ use Rattle.words.proofs.Tests.{at-cond, either, or-iff, and-iff, eqb-iff}
 use Rattle.words.specs.Tables.{rows}
 use Rattle.directives.specs.declared.spread.Mapping.{Mapping}
 use Rattle.mappings.specs.Along.{alike}
+use Rattle.mappings.specs.Computed.{versionSet}
 use Rattle.mappings.specs.Converted.{isListed, extended, numbered, versionIn}
 use Rattle.mappings.specs.Rules.{Once}
 
@@ -92,6 +94,15 @@ module _ (m : Mapping) where
   number-head [] e = refl
   number-head (n ∷ ns) e = rw (is-true (alike n m) (alike-iff n m .1 e))
 
+  -- more behind it leaves the number
+  number-left : (ms ns : List Mapping) → T (isListed m ms) → versionIn (ms ++ ns) m ≡ versionIn ms m
+  unfolding isListed versionIn
+  number-left [] ns h = absurd h
+  number-left (n ∷ ms) ns h = ⊎-elim
+      (λ t. rw (is-true (alike n m) t))
+      (λ t. rw (is-false (alike n m) t) (ap suc (number-left ms ns (subst (λ (b : Bool). T (b || isListed m ms)) (is-false (alike n m) t) h))))
+      (either (alike n m))
+
   -- a list made of those that a test passes
   one-row : (x : Mapping) (b : Bool) → T (isListed m (cond b (x ∷ []) [])) ↔ (T b × (x ≡ m))
   one-row x true = (λ h. (tt, ⊎-elim (λ e. e) (λ g. absurd (listed-none g)) (listed-cons x [] .0 h)), λ p. listed-cons x [] .1 (inl (p .1)))
@@ -149,6 +160,28 @@ module _ (m : Mapping) where
       (λ _ t. ⊎-elim inl (λ o. inr (listed-cons m n ns .1 (⊎-elim inl (λ x. absurd (listed-none m x)) (listed-cons m n [] .0 o)))) (listed-either m ms (n ∷ []) t)))
       (λ g. inr (listed-later m n ns g))
       (extended-from _ ns h)
+
+  -- the number stays
+  extended-number : (ms ns : List Mapping) → T (isListed m ms) → versionIn (extended ms ns) m ≡ versionIn ms m
+  unfolding extended
+  extended-number ms [] h = refl
+  extended-number ms (n ∷ ns) h =
+      at-cond (λ xs. versionIn (extended xs ns) m ≡ versionIn ms m) (isListed n ms)
+      (λ _. extended-number ms ns h)
+      (λ _. extended-number (ms ++ n ∷ []) ns (listed-left m ms (n ∷ []) h) ∙ number-left m ms (n ∷ []) h)
+
+-- by two lists, one after the other
+pub extended-append : (ms xs ys : List Mapping) → extended ms (xs ++ ys) ≡ extended (extended ms xs) ys
+unfolding extended
+extended-append ms [] ys = refl
+extended-append ms (x ∷ xs) ys = extended-append (cond (isListed x ms) ms (ms ++ x ∷ [])) xs ys
+
+-- what is listed keeps its set of versions
+pub extended-set : (ms xs ns : List Mapping) → ((m : Mapping) → T (isListed m ns) → T (isListed m ms)) → versionSet (extended ms xs) ns ≡ versionSet ms ns
+unfolding versionSet
+extended-set ms xs [] all = refl
+extended-set ms xs (n ∷ ns) all =
+    ap₂ (λ (s k : ℕ). bitOr s (2 ^ k)) (extended-set ms xs ns (λ m t. all m (listed-later m n ns t))) (extended-number n ms xs (all n (listed-first n ns)))
 
 -- none stands twice
 once-more : (ms : List Mapping) (n : Mapping) → Once ms → (T (isListed n ms) → ⊥) → Once (ms ++ n ∷ [])

@@ -4,4 +4,5 @@ pub mod Convert
 pub mod Converted
 pub mod Demand
 pub mod Rules
+pub mod Tables
 pub mod Theorem

@@ -1,4 +1,4 @@
--- Laws of tables with a column for each array; and the part of a file that holds its edges.
+-- Laws of tables with a column for each array; the part of a file that holds its edges; what the solver is lent.
 -- Assumes nothing.
 use mathlib.Core.Path.{_≡_, refl, sym, ap, ap₂, subst, _∙_}
 use mathlib.Core.Bool.{Bool, cond}
@@ -8,6 +8,7 @@ use native.Mathlib.Omega.{arith}
 use borrow.Author.Tests.{ne-eqb}
 use lib.Dec.{eqb}
 use lib.ListN.{length, drop}
+use Rattle.flow.specs.Solver.{rowCount, Ends, Tables, Solved}
 use Rattle.flow.proofs.Cells.{in-cells, cells-row}
 use Rattle.routine.specs.Actions.{action}
 use Rattle.routine.specs.Layout.{arrays, vertices, entry, exit, edgesAt}
@@ -67,3 +68,24 @@ module _ {file : List ℕ} {h : Header} (is : ReadAs file h) {at : ℕ} (e : at 
 
   pub edges-part : partFrom file at ≡ edgeBytes file
   edges-part = part-is file at ∙ ap (λ (n : ℕ). drop n file) at-edges
+
+-- ---- what the solver is lent: edges among n vertices, and tables with a row for each
+
+module _ {n : ℕ} (old : List ℕ) (size : length old ≡ 8 * n) where
+  pub rows-are : rowCount old ≡ n
+  rows-are = omega arith
+
+  module _ {es bytes : List ℕ} (lent : es ≡ bytes) where
+    pub tables-lent : {gives passes : List ℕ} → Ends bytes n → length gives ≡ 8 * n → length passes ≡ 8 * n → Tables es gives passes old
+    tables-lent ends gives-size passes-size = record {
+      ends = subst (Ends es) (sym rows-are) (subst (λ (e : List ℕ). Ends e n) (sym lent) ends);
+      whole = size ∙ ap (λ (k : ℕ). 8 * k) (sym rows-are);
+      gives-all = gives-size ∙ sym size;
+      passes-all = passes-size ∙ sym size;
+    }
+
+    pub solved-over : {order gives passes after : List ℕ} {along : Bool} {r : ℕ} → Solved es order along gives passes (rowCount old) r after
+        → Solved bytes order along gives passes n r after
+    solved-over {order} {gives} {passes} {after} {along} {r} h =
+        subst (λ (k : ℕ). Solved bytes order along gives passes k r after) rows-are
+        (subst (λ (e : List ℕ). Solved e order along gives passes (rowCount old) r after) lent h)

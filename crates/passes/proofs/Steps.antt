@@ -3,7 +3,7 @@
 use mathlib.Core.Path.{_≡_, refl, sym, ap, ap₂, subst, _∙_}
 use mathlib.Core.Bool.{Bool, true, false, not, _&&_, _||_, cond, and-comm, or-false}
 use mathlib.Core.List.{List}
-use Prim.Native.Nat.{ℕ, zero, suc, _+_, _*_, _<_, _^_}
+use Prim.Native.Nat.{ℕ, zero, suc, _+_, _*_, _≤_, _<_, _^_}
 use native.Mathlib.Omega.{arith}
 use borrow.Author.Tests.{lt-ltb, le-ltb, eq-eqb, ne-eqb}
 use lib.Bits.{bitOr}
@@ -12,6 +12,7 @@ use lib.Ieee.Bits.{is-true}
 use lib.ListN.{length, getD}
 use lib.Pow.{pow-pos}
 use Rattle.flow.proofs.Cells.{cells-table, cells-row, cells-solved}
+use Rattle.flow.specs.Cells as columns
 use Rattle.routine.specs.Layout.{arrays, vertices, entry, exit}
 use Rattle.routine.specs.Reader.{WellFormed}
 use Rattle.routine.specs.declared.action.Action.{Action}
@@ -59,21 +60,22 @@ single-none false k = refl
 single-passes : (b : Bool) (k : ℕ) → cond (eqb (cond b (2 ^ k) 0) 0) everyVersion 0 ≡ cond b 0 everyVersion
 single-passes b k = ap (λ (t : Bool). cond t everyVersion 0) (single-none b k) ∙ sym (cond-not b 0 everyVersion)
 
-module _ {file : List ℕ} (well : WellFormed file) where
-  -- ---- reached vertices
+-- ---- reached vertices, in m columns of n vertices
 
-  pub reached-gives : {s : List ℕ} {n : ℕ} → n ≡ 8 * vertices file → s ≡ table (λ i. cond (ltb i 8) 1 0) n → Cells file (λ a v. cond (eqb v entry) 1 0) s
+module _ {m n : ℕ} (few : m ≤ 8) where
+  pub reached-gives : {s : List ℕ} {k : ℕ} → k ≡ 8 * n → s ≡ table (λ i. cond (ltb i 8) 1 0) k → columns.Cells m n (λ a v. cond (eqb v entry) 1 0) s
   reached-gives size e =
-      cells-table (few-columns well) (λ i. cond (ltb i 8) 1 0) size e (λ a v in-a in-v. ap (λ (b : Bool). cond b 1 0) (first-row v a (in-eight well in-a)))
+      cells-table few (λ i. cond (ltb i 8) 1 0) size e (λ a v in-a in-v. ap (λ (b : Bool). cond b 1 0) (first-row v a (omega arith)))
 
-  pub reached-passes : {s : List ℕ} {n : ℕ} → n ≡ 8 * vertices file → s ≡ table (λ i. 1) n → Cells file (λ a v. 1) s
-  reached-passes size e = cells-table (few-columns well) (λ i. 1) size e (λ a v in-a in-v. refl)
+  pub reached-passes : {s : List ℕ} {k : ℕ} → k ≡ 8 * n → s ≡ table (λ i. 1) k → columns.Cells m n (λ a v. 1) s
+  reached-passes size e = cells-table few (λ i. 1) size e (λ a v in-a in-v. refl)
 
-  pub reached-sets : {gives passes sets : List ℕ} → Cells file (λ a v. cond (eqb v entry) 1 0) gives → Cells file (λ a v. 1) passes
-      → Pass file false gives passes sets → Reached file sets
+  pub reached-sets : {es gives passes sets : List ℕ} → columns.Cells m n (λ a v. cond (eqb v entry) 1 0) gives → columns.Cells m n (λ a v. 1) passes
+      → columns.Pass es n false gives passes sets → columns.Cells m n (λ a v. getD (reachedOver es n) v 0) sets
   unfolding reachedOver
-  reached-sets g p h = cells-solved (few-columns well) (λ a v. cond (eqb v entry) 1 0) (λ a v. 1) g p h
+  reached-sets g p h = cells-solved few (λ a v. cond (eqb v entry) 1 0) (λ a v. 1) g p h
 
+module _ {file : List ℕ} (well : WellFormed file) where
   reached-at : {reached : List ℕ} → Reached file reached → (a v : ℕ) → a < arrays file → v < vertices file → reachedCell (8 * v + a) (getD reached (8 * v + a) 0) ≡ isReached file v
   unfolding isReachedOver
   reached-at h a v in-a in-v = ap₂ _||_ (first-row v a (in-eight well in-a)) (ap (λ (m : ℕ). has m 0) (h .cells a v in-a in-v))

@@ -4,6 +4,6 @@ mod entered;
 pub mod events;
 mod kept;
 pub mod pass;
-mod reaching;
+pub mod reaching;
 pub mod tables;
 mod uses;

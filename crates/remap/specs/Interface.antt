@@ -7,7 +7,11 @@ use lib.ListN.{length}
 use Rattle.calls.specs.Checks.{check22}
 use Rattle.calls.specs.Expanded.{routineOf}
 use Rattle.calls.specs.Referring.{referring}
+use Rattle.directives.specs.Fields.{check40}
 use Rattle.labels.specs.Demand.{Demand2}
+use Rattle.mappings.specs.Computed.{check41, check42}
+use Rattle.mappings.specs.Convert.{convertOf, convertOutcome, convertInto}
+use Rattle.mappings.specs.Demand.{MappingFaults, Demand4}
 use Rattle.planned.specs.Calls.{planOf, planOutcome, planInto}
 use Rattle.refusal.specs.Checks.{_andThen_}
 use Rattle.refusal.specs.declared.Outcome.{Outcome}
@@ -26,3 +30,10 @@ pub record RanC (file path before : List ℕ) (outcome : Outcome) (after : List 
   pub answer : outcome ≡ runOutcome file path (length before)
   pub buffer : after ≡ runInto (runOf file path (length before)) file path before
   pub demand : DemandMet (runOf file path (length before)) file path
+
+-- what hpf_convert answers and leaves
+pub record ConvertedC (file before : List ℕ) (outcome : Outcome) (after : List ℕ) : Type 0 where
+  pub answer : outcome ≡ convertOutcome file (length before)
+  pub buffer : after ≡ convertInto (convertOf file (length before)) file before
+  pub faults : check40 file ≡ Passed → MappingFaults file
+  pub demand : (check40 file andThen check41 file andThen check42 file) ≡ Passed → Demand4 file

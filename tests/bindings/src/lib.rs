@@ -8,9 +8,33 @@
 //! let answer = hpf_remap::plan(b"HPFR", &mut []);
 //! assert_eq!((answer.number, answer.first), (10, 4));
 //! ```
+//!
+//! [`convert`] makes a routine of a directive file, which says `distribute`, `align`,
+//! `redistribute` and `realign` in place of version numbers; docs/DIRECTIVES.md tells its format.
+//! One template and one array, whose mapping is changed between a define and a read:
+//!
+//! ```
+//! let mut directives = b"HPFD\x01\0\x16\0\x01\0\x1e\0\x01\0\x22\0\x05\0\x63\0\x04\0".to_vec();
+//! directives.extend([1, 0, 0, 0, 0, 0, 0, 0]); // distribute T(block, *)
+//! directives.extend([0, 0, 0, 0]); // align A with T, straight
+//! directives.extend([0; 13]); // the entry
+//! directives.extend([0, 0, 0, 0, 0, 0, 0, 0, 0, 0, 0, 0, 0x20]); // 1 define A
+//! directives.extend([2, 0, 0, 0, 2, 0, 3, 0, 0, 0, 0, 0, 0]); // 2 redistribute T(cyclic(3), *)
+//! directives.extend([0, 0, 0, 0, 0, 0, 0, 0, 0, 0, 0, 0, 0x10]); // 3 read A
+//! directives.extend([0; 13]); // 4 the exit
+//! directives.extend([0, 0, 1, 0, 1, 0, 2, 0, 2, 0, 3, 0, 3, 0, 4, 0]); // edges 0-1, 1-2, 2-3, 3-4
+//! let mut routine = [0; hpf_remap::LARGEST_ROUTINE];
+//! let answer = hpf_remap::convert(&directives, &mut routine);
+//! assert_eq!((answer.number, answer.first), (0, 43));
+//! assert_eq!(routine[18..22], [0, 2, 0, 0]); // a local array of two versions
+//! assert_eq!(routine[22..27], [0x00, 0x20, 0x41, 0x10, 0x00]); // define, remap to 1, read
+//! ```
 
 /// So many bytes suffice for any routine that is accepted.
 pub const LARGEST_ROUTINE: usize = 6194;
+
+/// So many bytes suffice for any directive file that is accepted.
+pub const LARGEST_DIRECTIVES: usize = 9334;
 
 /// So many bytes suffice for any plan.
 pub const LARGEST_PLAN: usize = 17_416;
@@ -25,11 +49,14 @@ pub const LONGEST_PATH: usize = 4096;
 ///
 /// Checks run in this order, 15 and 17 to 19 together, byte by byte: of the faults that meet in the
 /// first faulty byte the lowest number is given. Elsewhere the lowest byte or index wins. 20 and 21
-/// name a vertex of the routine's file; plan and path have those of the expanded routine, in which
-/// each call is three vertices.
+/// name a vertex of the routine's file, or of the directive file; plan and path have those of the
+/// expanded routine, in which each call is three vertices.
 ///
 /// | number | why | first place |
 /// |---|---|---|
+/// | 40 | a directive file is malformed | first byte of the first wrong field, or the length |
+/// | 41 | the directives give an array more than 16 mappings | array |
+/// | 42 | a directive can leave an array that it remaps in two mappings | vertex; array |
 /// | 10 | the routine has under 18 bytes, or a wrong mark | the length, or 0 |
 /// | 11 | its edition is not 1 | 4 |
 /// | 12 | a count is outside its limits | its byte |
@@ -43,13 +70,14 @@ pub const LONGEST_PATH: usize = 4096;
 /// | 22 | the expanded routine has more than 256 vertices | how many |
 /// | 20 | an in argument is defined, modified, or passed as out or inout | vertex; array |
 /// | 21 | a reference or a call is ambiguous | vertex; array |
-/// | 1 | the plan's buffer is too short | the length that is needed |
+/// | 1 | the plan's or the routine's buffer is too short | the length that is needed |
 /// | 30 | a path of no vertex, or of more than 4,096 | how many |
 /// | 31 | a path does not start at the entry | 0 |
 /// | 32 | a step of a path is no edge | index of the vertex arrived at |
 /// | 2 | the report's buffer is too short | the length that is needed |
 ///
-/// 1 is answered by [`plan`] alone, 30, 31, 32 and 2 by [`run`] alone.
+/// [`convert`] answers 0, 40, 41, 42, 20, 21 and 1. 40, 41 and 42 are answered by it alone, 30, 31,
+/// 32 and 2 by [`run`] alone, 1 by [`plan`] and [`convert`].
 #[repr(C)]
 #[derive(Clone, Copy, Debug, PartialEq, Eq)]
 pub struct Outcome {
@@ -57,7 +85,7 @@ pub struct Outcome {
     pub number: u64,
     /// The length written, or the refusal's first place.
     pub first: u64,
-    /// The array for 20 and 21, else 0.
+    /// The array for 20, 21 and 42, else 0.
     pub second: u64,
 }
 
@@ -81,6 +109,13 @@ pub mod ffi {
             path_len: usize, // in bytes: twice the number of vertices
             report: *mut u8,
             report_len: usize,
+        ) -> Outcome;
+
+        pub fn hpf_convert(
+            directives: *const u8,
+            directives_len: usize,
+            routine: *mut u8,
+            routine_len: usize,
         ) -> Outcome;
     }
 }
@@ -109,6 +144,23 @@ pub fn run(routine: &[u8], path: &[u8], out: &mut [u8]) -> Outcome {
             routine.len(),
             path.as_ptr(),
             path.len(),
+            out.as_mut_ptr(),
+            out.len(),
+        )
+    }
+}
+
+/// Converts a directive file: writes the routine over the front of `out`, and leaves the rest of
+/// it.
+///
+/// A refusal writes nothing. Number 1 says that `out` is too short, and `first` the length that
+/// is needed; [`LARGEST_ROUTINE`] bytes always suffice. What is written is accepted by [`plan`].
+pub fn convert(directives: &[u8], out: &mut [u8]) -> Outcome {
+    // SAFETY: as in `plan`.
+    unsafe {
+        ffi::hpf_convert(
+            directives.as_ptr(),
+            directives.len(),
             out.as_mut_ptr(),
             out.len(),
         )

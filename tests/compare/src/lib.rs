@@ -2,15 +2,17 @@
 
 use harness::library::Library;
 use harness::raw::{self, Raw};
-use hpf_remap::ffi::{hpf_plan, hpf_run};
+use hpf_remap::ffi::{hpf_convert, hpf_plan, hpf_run};
+use oracle::directives::file;
 use oracle::outcome::Outcome;
 use oracle::plan::LONGEST_PLAN;
 use oracle::routine::LONGEST_FILE;
 use oracle::run::{LONGEST_REPORT, MAX_PATH};
 
-// The sizes that the bindings tell are those of document 01.
+// The sizes that the bindings tell are those of document 01, and of directive files.
 const _: () = assert!(
     hpf_remap::LARGEST_ROUTINE == LONGEST_FILE
+        && hpf_remap::LARGEST_DIRECTIVES == file::LONGEST_FILE
         && hpf_remap::LARGEST_PLAN == LONGEST_PLAN
         && hpf_remap::LARGEST_REPORT == LONGEST_REPORT
         && hpf_remap::LONGEST_PATH == MAX_PATH
@@ -20,6 +22,7 @@ const _: () = assert!(
 pub const VERIFIED: Library = Library {
     plan: |routine, out| answer(hpf_remap::plan(routine, out)),
     run: |routine, path, out| answer(hpf_remap::run(routine, path, out)),
+    convert: |directives, out| answer(hpf_remap::convert(directives, out)),
 };
 
 fn answer(outcome: hpf_remap::Outcome) -> Outcome {
@@ -63,5 +66,14 @@ impl Raw for Pointers {
     ) -> Outcome {
         // SAFETY: as in `plan`.
         answer(unsafe { hpf_run(routine, routine_len, path, path_len, out, out_len) })
+    }
+    unsafe fn convert(
+        directives: *const u8,
+        directives_len: usize,
+        out: *mut u8,
+        out_len: usize,
+    ) -> Outcome {
+        // SAFETY: as in `plan`.
+        answer(unsafe { hpf_convert(directives, directives_len, out, out_len) })
     }
 }

@@ -1,6 +1,6 @@
 //! Holds the verified static library against the oracle.
 //!
-//! compare [--routines N] [--paths N] [--seed S]
+//! compare [--routines N] [--paths N] [--conversions N] [--seed S]
 
 mod stack;
 
@@ -10,12 +10,13 @@ use std::env;
 use std::process::ExitCode;
 use std::time::Instant;
 
-const USAGE: &str = "compare [--routines N] [--paths N] [--seed S]";
+const USAGE: &str = "compare [--routines N] [--paths N] [--conversions N] [--seed S]";
 
 fn options() -> Option<Options> {
     let mut options = Options {
         routines: 20_000,
         paths: 20_000,
+        conversions: 4_000,
         seed: 1,
     };
     let mut arguments = env::args().skip(1);
@@ -24,6 +25,7 @@ fn options() -> Option<Options> {
         match argument.as_str() {
             "--routines" => options.routines = number,
             "--paths" => options.paths = number,
+            "--conversions" => options.conversions = number,
             "--seed" => options.seed = number,
             _ => return None,
         }
@@ -39,7 +41,7 @@ fn hold(options: Options) -> Result<(), String> {
     print!("{tally}");
     let seconds = start.elapsed().as_secs_f64();
     let inputs = tally.inputs();
-    println!("{inputs} inputs agree, plans and runs at the same time, {seconds:.1} seconds");
+    println!("{inputs} inputs agree, all calls at the same time, {seconds:.1} seconds");
     let missing = tally.missing();
     if !missing.is_empty() {
         return Err(format!("missing or too few: {}\n", missing.join(", ")));
@@ -47,6 +49,7 @@ fn hold(options: Options) -> Result<(), String> {
     let part = Options {
         routines: options.routines / 10,
         paths: options.paths / 10,
+        conversions: options.conversions / 10,
         ..options
     };
     let tally = compare_part(&verified_by_pointers(), part).map_err(in_words)?;

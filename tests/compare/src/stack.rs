@@ -1,11 +1,12 @@
 //! How much stack a call takes: it runs in a thread whose stack was painted.
 
 use compare::VERIFIED;
-use harness::drive::named;
+use harness::drive::{named, named_directives};
 use harness::library::{Input, ORACLE};
 use oracle::builder::{Draft, path_bytes};
+use oracle::directives::Program;
 use oracle::generate::rng::Rng;
-use oracle::generate::{limits, paths};
+use oracle::generate::{directives, limits, paths};
 use oracle::outcome::Outcome;
 use oracle::run::{LONGEST_REPORT, MAX_PATH};
 use std::ffi::{c_int, c_void};
@@ -56,37 +57,53 @@ extern "C" fn start(job: *mut c_void) -> *mut c_void {
     null_mut()
 }
 
-/// The most stack of a call, over so many inputs of each.
+/// The most stack of a call, over so many routines and directive files.
 #[derive(Default)]
 pub struct Most {
     plan: usize,
     run: usize,
-    inputs: usize,
+    routines: usize,
+    conversion: usize,
+    directives: usize,
 }
 
 impl Most {
     pub fn bytes(&self) -> usize {
-        self.plan.max(self.run)
+        self.plan.max(self.run).max(self.conversion)
     }
 
     fn take(&mut self, draft: &Draft, path: &[u16]) {
         let file = draft.bytes();
         self.plan = self.plan.max(used(&Input::plan(file.clone())));
         self.run = self.run.max(used(&Input::run(file, path_bytes(path))));
-        self.inputs += 1;
+        self.routines += 1;
+    }
+
+    fn take_directives(&mut self, program: &Program) {
+        let input = Input::convert(program.bytes());
+        self.conversion = self.conversion.max(used(&input));
+        self.directives += 1;
     }
 }
 
 impl fmt::Display for Most {
     fn fmt(&self, f: &mut fmt::Formatter) -> fmt::Result {
-        let Most { plan, run, inputs } = self;
+        let Most {
+            plan,
+            run,
+            routines,
+            conversion,
+            directives,
+        } = self;
         write!(f, "stack: {plan} bytes for a plan, {run} for a run, ")?;
-        write!(f, "the most over {inputs} routines")
+        write!(f, "{conversion} for a conversion, the most over ")?;
+        write!(f, "{routines} routines and {directives} directive files")
     }
 }
 
-/// The most stack that the routines with a name and those at the limits take: the largest, those
-/// whose edges are numbered along their paths and against them, accepted and refused ones.
+/// The most stack that the routines and directive files with a name and those at the limits take:
+/// the largest, those whose edges are numbered along their paths and against them, accepted and
+/// refused ones.
 pub fn most(seed: u64) -> Most {
     let mut most = Most::default();
     for (draft, paths) in named() {
@@ -98,6 +115,16 @@ pub fn most(seed: u64) -> Most {
     for draft in limits::at_limits(&mut rng) {
         let path = paths::walk(&mut rng, &draft, MAX_PATH);
         most.take(&draft, &path);
+    }
+    let mut programs = named_directives();
+    programs.extend([
+        directives::limits::largest(),
+        directives::limits::directives_everywhere(),
+        directives::limits::directives_against_numbers(),
+    ]);
+    programs.extend(directives::limits::large(&mut rng));
+    for program in programs {
+        most.take_directives(&program);
     }
     most
 }

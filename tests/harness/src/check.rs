@@ -3,10 +3,11 @@
 use crate::library::{Form, Input, Library};
 use oracle::calls::Room;
 use oracle::demand3;
+use oracle::directives::{demand4, file, sets};
 use oracle::labels::fixpoint;
 use oracle::outcome::Outcome;
 use oracle::plan::LONGEST_PLAN;
-use oracle::routine::Routine;
+use oracle::routine::{LONGEST_FILE, Routine};
 
 /// Bytes before and after a lent buffer that no call may touch.
 const GUARD: usize = 64;
@@ -21,9 +22,11 @@ pub enum Difference {
     Outside,
     /// Demand 3 of the library's own report, whatever the oracle's says.
     Demand3(String),
+    /// The mappings of the versions in that report, against the directives.
+    Mappings(String),
     /// Number, places or length.
     Outcome,
-    /// A byte of the plan or report, at this place.
+    /// A byte of the plan, report or routine, at this place.
     Written(usize),
     /// A byte beyond the length written, at this place.
     Beyond(usize),
@@ -66,9 +69,11 @@ pub struct Checked {
     pub form: Form,
     /// Whether demand 3 was judged.
     pub judged: bool,
+    /// At so many references mappings were judged.
+    pub references: usize,
     /// The answer with the longest buffer.
     pub answer: Outcome,
-    /// The plan or report; empty for a refusal.
+    /// The plan, report or routine; empty for a refusal.
     pub written: Vec<u8>,
 }
 
@@ -95,12 +100,13 @@ fn call(library: &Library, input: &Input, length: usize) -> Called {
 
 /// Holds a library against the oracle on one input.
 pub fn check(library: &Library, input: &Input) -> Result<Checked, Box<Fault>> {
-    let form = Form::of(&input.routine);
+    let form = Form::of(input);
     let oracle = form.oracle();
     let mut checked = Checked {
         numbers: Vec::new(),
         form,
         judged: false,
+        references: 0,
         answer: Outcome::written(0),
         written: Vec::new(),
     };
@@ -113,7 +119,14 @@ pub fn check(library: &Library, input: &Input) -> Result<Checked, Box<Fault>> {
             _ => None,
         };
         checked.judged |= judgement.is_some();
-        let broken = judgement.and_then(Result::err).map(Difference::Demand3);
+        let broken = match judgement {
+            Some(Ok(references)) => {
+                checked.references = references;
+                None
+            }
+            Some(Err(broken)) => Some(broken),
+            None => None,
+        };
         let difference = (!found.inside)
             .then_some(Difference::Outside)
             .or(broken)
@@ -135,7 +148,7 @@ pub fn check(library: &Library, input: &Input) -> Result<Checked, Box<Fault>> {
 }
 
 /// With room to spare, exact, one byte short and empty where a call succeeds; with room
-/// for any plan of such a file and empty where it is refused.
+/// for any plan or routine of such a file and empty where it is refused.
 fn lengths(oracle: &Library, input: &Input) -> Vec<usize> {
     match input.call(oracle, &mut []) {
         Outcome {
@@ -146,21 +159,44 @@ fn lengths(oracle: &Library, input: &Input) -> Vec<usize> {
             let needed = first as usize;
             vec![needed + SPARE, needed, needed - 1, 0]
         }
-        // A call's byte becomes two labels of 8 bytes, its row three of the plan's contents of 4.
-        _ => vec![SPARE + LONGEST_PLAN.min(30 * input.routine.len()), 0],
+        // A directive file is longer than its routine. In a routine a call's byte becomes two labels
+        // of 8 bytes, its row three of the plan's contents of 4.
+        _ => match input {
+            Input::Convert { directives } => vec![SPARE + directives.len().min(LONGEST_FILE), 0],
+            _ => vec![SPARE + LONGEST_PLAN.min(30 * input.file().len()), 0],
+        },
     }
 }
 
-/// Demand 3 of the library's report; it says nothing where routine, path or buffer is refused.
-fn judge(input: &Input, expected: &Called, found: &Called) -> Option<Result<(), String>> {
-    let path = input.path.as_ref()?;
-    let routine = Routine::parse(&input.routine).ok()?;
+/// Demand 3 of the library's report, and for a directive file the mappings in it: at how many
+/// references. It says nothing where file, path or buffer is refused.
+fn judge(input: &Input, expected: &Called, found: &Called) -> Option<Result<usize, Difference>> {
+    let path = input.path()?;
     let due = expected.outcome.number == 0 && found.outcome.number == 0;
-    due.then(|| {
-        let mut room = Room::EMPTY;
-        let routine = fixpoint::expanded(&routine, &mut room);
-        demand3::of_report(&routine, path, found.written())
-    })
+    if !due {
+        return None;
+    }
+    let report = found.written();
+    let Input::ConvertAndRun { directives, .. } = input else {
+        let demanded = demand3(input.file(), path, report);
+        return Some(demanded.map(|()| 0));
+    };
+    let program = file::parse(directives).ok()?;
+    let conversion = sets::conversion(&program).ok()?;
+    let routine = conversion.routine(&program).bytes();
+    let mapped = demand4::of_report(&program, &conversion.versions, path, report);
+    let demanded = mapped.map_err(Difference::Mappings).and_then(|references| {
+        demand3(&routine, path, report)?;
+        Ok(references)
+    });
+    Some(demanded)
+}
+
+fn demand3(routine: &[u8], path: &[u8], report: &[u8]) -> Result<(), Difference> {
+    let mut room = Room::EMPTY;
+    let file = Routine::parse(routine).expect("an accepted routine is well formed");
+    let routine = fixpoint::expanded(&file, &mut room);
+    demand3::of_report(&routine, path, report).map_err(Difference::Demand3)
 }
 
 fn difference(expected: &Called, found: &Called) -> Option<Difference> {

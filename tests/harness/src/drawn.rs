@@ -1,5 +1,7 @@
 //! What the drawn inputs show: a generator that draws little but trifles is found by the shares.
 
+mod directives;
+
 use crate::library::Input;
 use oracle::builder::Draft;
 use oracle::calls::{self, Part, Place, Room, is_call};
@@ -11,7 +13,7 @@ use oracle::run::vertices;
 use std::fmt;
 
 /// The shares that are counted, and the least that each must be in percent.
-const SHARES: [(&str, u64); 33] = [
+const SHARES: [(&str, u64); 47] = [
     ("plans drawn: accepted", 40),
     ("plans drawn: with calls", 50),
     ("plans drawn: two arrays of each kind", 10),
@@ -45,6 +47,20 @@ const SHARES: [(&str, u64); 33] = [
     ("accepted runs: through a call", 40),
     ("accepted runs: end at a call's first vertex", 3),
     ("accepted runs: end at a call's second vertex", 3),
+    ("conversions drawn: accepted", 40),
+    ("conversions drawn: refused by 40", 5),
+    ("conversions drawn: refused by 41", 1),
+    ("conversions drawn: refused by 42", 5),
+    ("conversions drawn: refused by 20", 1),
+    ("conversions drawn: refused by 21", 2),
+    ("accepted conversions: with a remapping", 60),
+    ("  back to version 0", 30),
+    ("  of two arrays at once", 5),
+    ("  exchanges matter", 10),
+    ("  a redistribute that remaps nothing matters", 3),
+    ("  a directive that no path gets to", 3),
+    ("converted runs: accepted", 60),
+    ("  a reference in another version than 0", 15),
 ];
 
 /// A part of a whole.
@@ -76,37 +92,47 @@ impl Drawn {
         count.whole += 1;
     }
 
-    /// Counts an input, what it answers with room enough, and the plan or report that was written,
-    /// empty if it is refused.
+    /// Counts an input, what it answers with room enough, and what was written, nothing if it is
+    /// refused.
     pub fn count(&mut self, input: &Input, answer: Outcome, written: &[u8]) {
-        let routine = Routine::parse(&input.routine).ok();
-        let accepted = routine.filter(|_| !written.is_empty());
+        match input {
+            Input::Plan { routine } => self.count_plan(routine, answer, written),
+            Input::Run { routine, path } => self.count_run_drawn(routine, path, written),
+            Input::Convert { directives } => self.count_conversion(directives, answer, written),
+            Input::ConvertAndRun { directives, .. } => {
+                self.count_converted_run(directives, answer, written);
+            }
+        }
+    }
+
+    fn count_plan(&mut self, file: &[u8], answer: Outcome, plan: &[u8]) {
+        let routine = Routine::parse(file).ok();
+        let accepted = routine.filter(|_| !plan.is_empty());
         let is_wide = accepted.is_some_and(|routine| has_two_of_each_kind(&routine));
-        match &input.path {
-            None => {
-                self.one("plans drawn: accepted", accepted.is_some());
-                self.one("plans drawn: with calls", has_calls(&input.routine));
-                self.one("plans drawn: two arrays of each kind", is_wide);
-                self.one("plans drawn: refused by 22", answer.number == 22);
-                if let Some(routine) = routine {
-                    self.count_refusal(&routine, answer);
-                }
-                if let Some(routine) = accepted {
-                    self.count_calls(&routine);
-                    self.count_labels(&routine, written);
-                }
-            }
-            Some(path) => {
-                self.one("runs drawn: accepted", accepted.is_some());
-                self.one("runs drawn: two arrays of each kind", is_wide);
-                if let Some(file) = accepted {
-                    let mut room = Room::EMPTY;
-                    let routine = fixpoint::expanded(&file, &mut room);
-                    let path: Vec<usize> = vertices(path).collect();
-                    self.count_run(&routine, &path, written);
-                    self.count_call_steps(&places(&file), &path);
-                }
-            }
+        self.one("plans drawn: accepted", accepted.is_some());
+        self.one("plans drawn: with calls", has_calls(file));
+        self.one("plans drawn: two arrays of each kind", is_wide);
+        self.one("plans drawn: refused by 22", answer.number == 22);
+        if let Some(routine) = routine {
+            self.count_refusal(&routine, answer);
+        }
+        if let Some(routine) = accepted {
+            self.count_calls(&routine);
+            self.count_labels(&routine, plan);
+        }
+    }
+
+    fn count_run_drawn(&mut self, file: &[u8], path: &[u8], report: &[u8]) {
+        let accepted = Routine::parse(file).ok().filter(|_| !report.is_empty());
+        let is_wide = accepted.is_some_and(|routine| has_two_of_each_kind(&routine));
+        self.one("runs drawn: accepted", accepted.is_some());
+        self.one("runs drawn: two arrays of each kind", is_wide);
+        if let Some(file) = accepted {
+            let mut room = Room::EMPTY;
+            let routine = fixpoint::expanded(&file, &mut room);
+            let path: Vec<usize> = vertices(path).collect();
+            self.count_run(&routine, &path, report);
+            self.count_call_steps(&places(&file), &path);
         }
     }
 

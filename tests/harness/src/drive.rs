@@ -1,5 +1,7 @@
 //! The whole comparison: which inputs are tried, in which order.
 
+mod conversions;
+
 use crate::check::{Checked, Fault, check};
 use crate::library::{Input, Library};
 use crate::shrink::shrink;
@@ -13,6 +15,8 @@ use oracle::run::MAX_PATH;
 use std::panic::resume_unwind;
 use std::thread;
 
+pub use conversions::named_directives;
+
 /// What a comparison tries.
 #[derive(Clone, Copy, Debug)]
 pub struct Options {
@@ -20,6 +24,8 @@ pub struct Options {
     pub routines: u64,
     /// Random paths that are run.
     pub paths: u64,
+    /// Random directive files that are converted, and as many that are converted and run.
+    pub conversions: u64,
     pub seed: u64,
 }
 
@@ -42,16 +48,18 @@ struct Driver<'a> {
     tally: Tally,
 }
 
-/// Compares a library with the oracle on all inputs: plans in one thread and runs in another at
-/// the same time, each up to its first mismatch.
+/// Compares a library with the oracle on all inputs: plans, runs and conversions at the same time,
+/// each in a thread up to its first mismatch.
 pub fn compare(library: &Library, options: Options) -> Compared<Tally> {
-    let (plans, runs) = thread::scope(|scope| {
-        let plans = scope.spawn(|| compare_plans(library, options));
-        let runs = compare_runs(library, options);
-        (plans.join(), runs)
+    let all = thread::scope(|scope| {
+        [compare_plans, compare_runs, compare_conversions]
+            .map(|compare| scope.spawn(move || compare(library, options)))
+            .map(|thread| thread.join().unwrap_or_else(|panic| resume_unwind(panic)))
     });
-    let mut tally = plans.unwrap_or_else(|panic| resume_unwind(panic))?;
-    tally.add(&runs?);
+    let mut tally = Tally::default();
+    for part in all {
+        tally.add(&part?);
+    }
     Ok(tally)
 }
 
@@ -77,6 +85,18 @@ pub fn compare_runs(library: &Library, options: Options) -> Compared<Tally> {
     Ok(driver.tally)
 }
 
+/// Compares the conversions of a library with the oracle's, and its runs of what it converted.
+pub fn compare_conversions(library: &Library, options: Options) -> Compared<Tally> {
+    let mut driver = Driver::new(library, options);
+    driver.named_conversions()?;
+    driver.random_conversions()?;
+    driver.random_converted_runs()?;
+    driver.small_conversions()?;
+    driver.damaged_conversions()?;
+    driver.conversions_at_limits()?;
+    Ok(driver.tally)
+}
+
 /// Compares a library with the oracle on a part of the inputs: with a name, empty, at the
 /// limits, and drawn.
 pub fn compare_part(library: &Library, options: Options) -> Compared<Tally> {
@@ -88,6 +108,9 @@ pub fn compare_part(library: &Library, options: Options) -> Compared<Tally> {
     driver.named_runs()?;
     driver.runs_at_limits()?;
     driver.random_runs()?;
+    driver.named_conversions()?;
+    driver.conversions_at_limits()?;
+    driver.random_conversions()?;
     Ok(driver.tally)
 }
 
@@ -263,10 +286,11 @@ impl Driver<'_> {
         })
     }
 
-    /// The routine, the path or both are empty.
+    /// The file, the path or both are empty.
     fn empty(&mut self) -> Compared {
         let inputs = [
             Input::plan(vec![]),
+            Input::convert(vec![]),
             Input::run(vec![], vec![]),
             Input::run(vec![], path_bytes(&[0])),
             Input::run(builder::p().bytes(), vec![]),

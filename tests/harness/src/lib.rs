@@ -1,4 +1,4 @@
-//! Holds a library with the two calls against the oracle, byte by byte.
+//! Holds a library that plans, runs and converts against the oracle, byte by byte.
 
 pub mod check;
 mod drawn;

@@ -5,7 +5,7 @@ use crate::library::Library;
 use oracle::outcome::Outcome;
 use std::ptr::null_mut;
 
-/// The two calls by pointers.
+/// The calls by pointers.
 pub trait Raw {
     /// # Safety
     ///
@@ -25,6 +25,16 @@ pub trait Raw {
         out: *mut u8,
         out_len: usize,
     ) -> Outcome;
+
+    /// # Safety
+    ///
+    /// As for `plan`.
+    unsafe fn convert(
+        directives: *const u8,
+        directives_len: usize,
+        out: *mut u8,
+        out_len: usize,
+    ) -> Outcome;
 }
 
 /// The answer for a call that changed what it was to read: no right call gives it.
@@ -39,6 +49,7 @@ pub fn library<R: Raw>() -> Library {
     Library {
         plan: plan::<R>,
         run: run::<R>,
+        convert: convert::<R>,
     }
 }
 
@@ -76,4 +87,11 @@ fn run<R: Raw>(routine: &[u8], path: &[u8], out: &mut [u8]) -> Outcome {
     } else {
         CHANGED
     }
+}
+
+fn convert<R: Raw>(directives: &[u8], out: &mut [u8]) -> Outcome {
+    let mut lent = directives.to_vec();
+    // SAFETY: as in `plan`.
+    let outcome = unsafe { R::convert(start(&mut lent), lent.len(), start(out), out.len()) };
+    if lent == directives { outcome } else { CHANGED }
 }

@@ -5,6 +5,7 @@ use crate::drive::Mismatch;
 use crate::library::Input;
 use oracle::builder::Draft;
 use oracle::calls::Call;
+use oracle::directives::file;
 use oracle::outcome::Outcome;
 use oracle::routine::{Action, Reference};
 use oracle::run::{MAX_PATH, vertices};
@@ -13,8 +14,8 @@ use std::fmt::{self, Write};
 /// Longer buffers are not printed.
 const SHOWN: usize = 400;
 
-/// So many bytes of a routine or path are printed: no accepted one has more.
-const MOST: usize = 2 * MAX_PATH + 1;
+/// So many bytes of a file or path are printed: no accepted one has more.
+const MOST: usize = file::LONGEST_FILE;
 
 fn hexadecimal(bytes: &[u8]) -> String {
     let mut text = String::new();
@@ -95,13 +96,27 @@ fn side(name: &str, called: &Called) -> String {
     text
 }
 
+/// A directive file's lines; of one that is refused by 40 there are none.
+fn directives(file: &[u8]) -> String {
+    let program = file::parse(file).map_or_else(|_| String::new(), |program| program.to_string());
+    program.lines().map(|line| format!("  {line}\n")).collect()
+}
+
 impl fmt::Display for Input {
     fn fmt(&self, f: &mut fmt::Formatter) -> fmt::Result {
-        f.write_str(&named("routine", &self.routine))?;
-        if let Some(draft) = Draft::from_bytes(&self.routine) {
-            f.write_str(&routine(&draft))?;
+        let file = self.file();
+        match self {
+            Input::Plan { .. } | Input::Run { .. } => {
+                f.write_str(&named("routine", file))?;
+                let draft = Draft::from_bytes(file);
+                f.write_str(&draft.as_ref().map_or_else(String::new, routine))?;
+            }
+            Input::Convert { .. } | Input::ConvertAndRun { .. } => {
+                f.write_str(&named("directives", file))?;
+                f.write_str(&directives(file))?;
+            }
         }
-        if let Some(path) = &self.path {
+        if let Some(path) = self.path() {
             f.write_str(&named("path", path))?;
             let vertices = vertices(path).take(MAX_PATH);
             let vertices: Vec<String> = vertices.map(|vertex| vertex.to_string()).collect();
@@ -126,6 +141,7 @@ impl fmt::Display for Mismatch {
             Difference::Refused(place) => format!("byte {place} is touched by a refusal"),
             Difference::Outside => String::from("a byte outside the buffer is touched"),
             Difference::Demand3(reason) => format!("demand 3: {reason}"),
+            Difference::Mappings(reason) => format!("mappings: {reason}"),
         };
         let length = fault.found.buffer.len();
         writeln!(text, "{difference}, buffer of {length} bytes")?;

@@ -1,15 +1,20 @@
 //! The comparison itself, tried on the oracle with faults put in.
 
 mod calls;
+mod conversions;
 mod interfaces;
 mod plans;
 mod runs;
 
 use crate::drawn::Drawn;
-use crate::drive::{Mismatch, Options, compare, compare_plans, compare_runs};
-use crate::library::{Form, Input, Library, ORACLE, Plan, Run};
+use crate::drive::{
+    Mismatch, Options, compare, compare_conversions, compare_plans, compare_runs, named_directives,
+};
+use crate::library::{Convert, Form, Input, Library, ORACLE, Plan, Run};
 use oracle::builder::{self, Draft};
 use oracle::calls::Room;
+use oracle::directives::{Program, file};
+use oracle::generate::directives::{self, EXAMPLE};
 use oracle::labels::fixpoint;
 use oracle::outcome::Outcome;
 use oracle::routine::Routine;
@@ -17,6 +22,7 @@ use oracle::routine::Routine;
 const FEW: Options = Options {
     routines: 2000,
     paths: 1000,
+    conversions: 500,
     seed: 1,
 };
 
@@ -40,12 +46,24 @@ fn runner(faulty: Run) -> (Box<Mismatch>, Option<Draft>) {
     in_parts(mismatch)
 }
 
+/// The mismatch that a faulty converter gives, and the contents of its small directive file.
+fn converter(faulty: Convert) -> (Box<Mismatch>, Option<Program>) {
+    let library = Library {
+        convert: faulty,
+        ..ORACLE
+    };
+    let mismatch = compare_conversions(&library, FEW).expect_err("the fault is not found");
+    let (mismatch, _) = in_parts(mismatch);
+    let program = file::parse(mismatch.input.file()).ok();
+    (mismatch, program)
+}
+
 fn in_parts(mismatch: Box<Mismatch>) -> (Box<Mismatch>, Option<Draft>) {
     let text = mismatch.to_string();
     let found = format!("seed 1, {}, input {}\n", mismatch.kind, mismatch.index);
     assert!(text.contains(&found), "{text}");
     assert!(text.ends_with(&mismatch.input.to_string()), "{text}");
-    let draft = Draft::from_bytes(&mismatch.input.routine);
+    let draft = Draft::from_bytes(mismatch.input.file());
     (mismatch, draft)
 }
 
@@ -87,9 +105,39 @@ fn the_oracle_agrees_with_itself() {
     // 6, 16, 30 and 10; the four further routines that are drawn have 340.
     let (files, paths, drawn) = (501, 126, 340);
     let four_vertices = (4 * 36 + 2 * 45) * (1 << 9);
+    // The example, the directive file of every statement and the drawn one have 115, 154 and 150
+    // bytes.
+    let damaged = 115 + 154 + 150;
+    let named = named_directives();
+    let sum = |size: fn(&Program) -> usize| named.iter().map(size).sum::<usize>() as u64;
     let expected = [
+        ("converted run, damaged path", 50),
+        ("converted run, path along edges", 250),
+        ("converted run, path to the exit", 150),
+        ("converted run, refused directives", 50),
+        ("conversion, all of four vertices", 7 * 7 * (1 << 9)),
+        ("conversion, as drawn", 150),
+        ("conversion, chain with gaps", 50),
+        ("conversion, every byte damaged", 255 * damaged),
+        (
+            "conversion, every length",
+            sum(|program| program.bytes().len() + 8),
+        ),
+        ("conversion, far too long", 3),
+        ("conversion, largest cut", 98),
+        ("conversion, limits", 17 + 12 + 8),
+        ("conversion, made acceptable", 100),
+        ("conversion, named", named.len() as u64),
+        ("conversion, named and varied", 100),
+        (
+            "conversion, one field wrong",
+            sum(|program| directives::damage::faults(program).len()),
+        ),
+        ("conversion, refused by number", 50),
+        ("conversion, two fields wrong", 50),
         ("plan, all of four vertices", four_vertices),
         ("plan, all of two rows", 3 * 11u64.pow(4)),
+        ("plan, converted", 450),
         ("plan, every byte damaged", 255 * (files + drawn)),
         ("plan, every length", files + drawn + 14 * 8),
         ("plan, far too long", 3),
@@ -172,9 +220,24 @@ fn small_routines_are_expected_literally() {
         builder::u(),
         builder::calls_in_a_loop(),
     ] {
-        assert_eq!(Form::of(&draft.bytes()), Form::Literal);
+        assert_eq!(Form::of(&Input::plan(draft.bytes())), Form::Literal);
     }
     let longer = Draft::chain(builder::LOCAL, 1, 0, &[0; 7]);
-    assert_eq!(Form::of(&longer.bytes()), Form::Fixpoint);
-    assert_eq!(Form::of(b"HPFR"), Form::NotAsked);
+    assert_eq!(Form::of(&Input::plan(longer.bytes())), Form::Fixpoint);
+    assert_eq!(Form::of(&Input::plan(b"HPFR".to_vec())), Form::NotAsked);
+}
+
+/// Which form of the directives' meaning says what is expected.
+#[test]
+fn small_directive_files_are_expected_by_states() {
+    for program in named_directives() {
+        let input = Input::convert(program.bytes());
+        assert_eq!(Form::of(&input), Form::Literal);
+    }
+    let largest = directives::limits::largest().bytes();
+    assert_eq!(Form::of(&Input::convert(largest.clone())), Form::Fixpoint);
+    let both = |file: Vec<u8>| Form::of(&Input::convert_and_run(file, vec![0, 0]));
+    assert_eq!(both(EXAMPLE.program().bytes()), Form::Literal);
+    assert_eq!(both(largest), Form::Fixpoint);
+    assert_eq!(both(b"HPFD".to_vec()), Form::NotAsked);
 }

@@ -54,7 +54,7 @@ fn each(name: &str, draft: &Draft, holds: &dyn Fn(&Routine) -> Result<(), String
     let file = draft.bytes();
     assert!(Routine::parse(&file).is_ok(), "{name}: {draft:?}");
     demand(name, Input::plan(file), &|input| {
-        Routine::parse(&input.routine).map_or(Ok(()), |routine| holds(&routine))
+        Routine::parse(input.file()).map_or(Ok(()), |routine| holds(&routine))
     });
 }
 

@@ -107,7 +107,7 @@ fn called(input: &Input) -> (Outcome, Vec<u8>) {
 /// a file may have as many edges.
 fn is_as_written_out(input: &Input) -> Result<(), String> {
     let (outcome, bytes) = called(input);
-    let draft = Draft::from_bytes(&input.routine).unwrap_or_default();
+    let draft = Draft::from_bytes(input.file()).unwrap_or_default();
     if outcome.number != 0 {
         return Ok(());
     }
@@ -115,11 +115,7 @@ fn is_as_written_out(input: &Input) -> Result<(), String> {
     if expanded.edges.len() > MAX_EDGES {
         return Ok(());
     }
-    let written_out = Input {
-        routine: expanded.bytes(),
-        path: input.path.clone(),
-    };
-    let (found, found_bytes) = called(&written_out);
+    let (found, found_bytes) = called(&input.with_file(expanded.bytes()));
     if (found, found_bytes) == (outcome, bytes) {
         Ok(())
     } else {
@@ -133,8 +129,8 @@ fn demand_names(name: &str, draft: &Draft, path: &[u16]) -> usize {
     let path = path_bytes(path);
     let input = Input::run(draft.bytes(), path.clone());
     demand(name, input, &|input| {
-        let path = input.path.as_deref().unwrap_or_default();
-        names_the_same(&input.routine, path).map(|_| ())
+        let path = input.path().unwrap_or_default();
+        names_the_same(input.file(), path).map(|_| ())
     });
     names_the_same(&draft.bytes(), &path).unwrap_or(0)
 }

@@ -64,8 +64,8 @@ fn routines_are_well_formed() {
         ] {
             let input = Input::plan(draft.bytes());
             let drawn = format!("seed {SEED}, index {index}\n{input}");
-            assert!(Routine::parse(&input.routine).is_ok(), "{drawn}");
-            assert_eq!(Draft::from_bytes(&input.routine), Some(draft), "{drawn}");
+            assert!(Routine::parse(input.file()).is_ok(), "{drawn}");
+            assert_eq!(Draft::from_bytes(input.file()), Some(draft), "{drawn}");
         }
     }
 }
@@ -80,7 +80,7 @@ fn read_only_routines_have_in_arguments() {
         let input = Input::plan(draft.bytes());
         let drawn = format!("seed {seed}, index {index}\n{input}");
         assert_eq!(answer(&input), 1, "{drawn}");
-        let routine = Routine::parse(&input.routine).unwrap();
+        let routine = Routine::parse(input.file()).unwrap();
         assert!(
             routine.arrays().any(|array| array.kind == Kind::In),
             "{drawn}"

@@ -52,7 +52,7 @@ fn demand_3(name: &str, draft: &Draft, path: &[u16]) {
     let input = Input::run(file, path);
     assert!(well_formed, "{name}\n{input}");
     demand(name, input, &|input| {
-        holds(&input.routine, input.path.as_deref().unwrap_or_default())
+        holds(input.file(), input.path().unwrap_or_default())
     });
 }
 

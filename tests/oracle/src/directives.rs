@@ -2,9 +2,11 @@
 //! version numbers, and their conversion to routine files.
 //!
 //! `convert::convert` is the call. What the directives mean stands twice: `states` follows whole
-//! states along all paths, `sets` computes what suffices of them, for files of any size.
+//! states along all paths, `sets` computes what suffices of them, for files of any size. `demand4`
+//! holds a report against them.
 
 pub mod convert;
+pub mod demand4;
 pub mod figures;
 pub mod file;
 pub mod meaning;

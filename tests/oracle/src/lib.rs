@@ -1,9 +1,10 @@
-//! An implementation of document 01, the users' specification, with requests 1 to 3 of document
+//! An implementation of document 01, the users' specification, with requests 1 to 4 of document
 //! 02, in Rust, written from their words and from the readings in docs/DECISIONS.md, to hold the
 //! verified library against.
 //!
-//! `plan::plan` and `run::run` are the two calls. `labels` has the label rules three
-//! times: by listing paths, by searching explicit path states, and as fast data flow.
+//! `plan::plan`, `run::run` and `directives::convert::convert` are the calls. `labels` has the label
+//! rules three times: by listing paths, by searching explicit path states, and as fast data flow;
+//! `directives` has the meaning of directives twice.
 
 pub mod builder;
 pub mod calls;

@@ -1,4 +1,6 @@
-//! Plans and reports as the two programs print them ("Routine P and others").
+//! Plans, reports and refusals as the programs print them ("Routine P and others").
+
+use crate::outcome::Outcome;
 
 fn word(bytes: &[u8], at: usize) -> usize {
     usize::from(u16::from_le_bytes([bytes[at], bytes[at + 1]]))
@@ -48,4 +50,14 @@ pub fn report(report: &[u8], arrays: usize) -> String {
         );
     }
     text
+}
+
+/// Any program's line for a refusal.
+pub fn refusal(outcome: Outcome) -> String {
+    let Outcome {
+        number,
+        first,
+        second,
+    } = outcome;
+    format!("{number} {first} {second}\n")
 }

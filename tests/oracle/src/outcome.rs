@@ -1,4 +1,4 @@
-//! Answers of the two calls ("Plan and report", "Who can cause a refusal").
+//! Answers of the calls ("Plan and report", "Who can cause a refusal").
 
 /// A refusal: its number and two places.
 #[derive(Clone, Copy, Debug, PartialEq, Eq)]

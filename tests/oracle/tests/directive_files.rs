@@ -4,7 +4,7 @@ use oracle::directives::convert::convert;
 use oracle::directives::file::{self, EDGE, LONGEST_FILE};
 use oracle::directives::{Alignment, Array, Dimension, Mapping, Program, Statement};
 use oracle::generate::damage::{every_byte, every_length};
-use oracle::generate::directives::{self, Size, damage, limits};
+use oracle::generate::directives::{self, EXAMPLE, Size, damage, limits};
 use oracle::generate::rng::Rng;
 use oracle::outcome::{Outcome, Refusal};
 
@@ -91,18 +91,7 @@ fn the_bytes_of_a_file() {
 /// The example of docs/DIRECTIVES.md.
 #[test]
 fn the_example() {
-    let text = "
-template T (block,*)
-array A local with T
-0 -> 1
-1 define A -> 2
-2 redistribute T (cyclic(3),*) -> 3
-3 read A -> 4
-4
-";
-    let file = Program::from_text(text)
-        .expect("the text is understood")
-        .bytes();
+    let file = EXAMPLE.program().bytes();
     assert_eq!(file.len(), 115);
     assert_eq!(file[60..73], [2, 0, 0, 0, 2, 0, 3, 0, 0, 0, 0, 0, 0]);
     let mut out = [0; 43];
@@ -278,6 +267,11 @@ fn counts() {
     let largest = limits::largest().bytes();
     assert_eq!((largest.len(), LONGEST_FILE), (9334, 9334));
     assert_eq!(answer(&largest), (0, 6194, 0));
+    let everywhere = limits::directives_everywhere().bytes();
+    assert_eq!(everywhere.len(), LONGEST_FILE);
+    assert_eq!(answer(&everywhere), (0, 6194, 0));
+    let against = limits::directives_against_numbers().bytes();
+    assert_eq!(answer(&against), (0, 6194 - 11 * 4, 0));
     for (program, place) in limits::beyond() {
         assert_eq!(answer(&program.bytes()), (40, place as u64, 0));
     }

@@ -356,7 +356,7 @@ fn shares_of_accepted_programs() {
 fn refusals_have_their_number() {
     for number in REFUSALS {
         for index in 0..100 {
-            let file = directives::refused(&mut Rng::for_input(number, index), number);
+            let file = directives::refused(&mut Rng::for_input(number, index), number, Size::any);
             assert_eq!(convert(&file, &mut []).number, number);
         }
     }

@@ -1,17 +1,21 @@
-//! Figures of source document 003 as directive files: what they are converted to, and what the
-//! paper says of their plans and runs.
+//! Figures of source document 003 as directive files: what they are converted to, what the paper
+//! says of their plans and runs, and that examples/directives has these files.
 
 use oracle::builder::{Draft, path_bytes, remap};
 use oracle::directives::convert::{convert, convert_by_states};
 use oracle::directives::figures::{
-    FIGURE_1, FIGURE_2, FIGURE_3, FIGURE_5, FIGURE_5_ACCEPTED, FIGURE_6, FIGURE_10, FIGURE_13,
-    FIGURE_21, FIGURES, Figure,
+    FIGURE_1, FIGURE_2, FIGURE_3, FIGURE_5, FIGURE_6, FIGURE_10, FIGURE_13, FIGURE_21, FIGURES,
+    FOLDER, Figure,
 };
 use oracle::directives::{Program, file, sets};
-use oracle::listing;
 use oracle::outcome::Outcome;
 use oracle::plan::plan;
+use oracle::routine::Routine;
 use oracle::run::run;
+use oracle::{listing, machine};
+use std::collections::BTreeMap;
+use std::fs;
+use std::path::Path;
 
 const ROOM: usize = 10_000;
 
@@ -63,15 +67,52 @@ fn used(figure: &Figure, array: usize) -> Vec<usize> {
     used
 }
 
-/// The copies of each array along a path through the converted routine.
-fn copies(figure: &Figure, path: &[u16]) -> Vec<u8> {
-    let draft = converted(figure);
+/// The copies of each array along a path through the converted routine: by the plan, and by copying
+/// at every remapping.
+fn copies(figure: &Figure, path: &[u16]) -> Vec<(usize, usize)> {
+    let file = converted(figure).bytes();
     let mut out = vec![0; ROOM];
-    let answer = run(&draft.bytes(), &path_bytes(path), &mut out);
+    let answer = run(&file, &path_bytes(path), &mut out);
     assert_eq!(answer.number, 0, "{answer:?}");
-    (0..draft.arrays.len())
-        .map(|array| out[6 * array])
+    let routine = Routine::parse(&file).expect("a converted routine is well formed");
+    let arrays: Vec<_> = routine.arrays().collect();
+    let path: Vec<usize> = path.iter().map(|&vertex| vertex.into()).collect();
+    let (machines, _) = machine::run(&arrays, routine.action_bytes(), &path);
+    let counts = out.chunks_exact(6).zip(machines);
+    counts
+        .map(|(entry, machine)| (usize::from(entry[0]), machine.count))
         .collect()
+}
+
+/// The files in examples/directives are those of the figures, beside a document.
+#[test]
+fn figures_are_examples() {
+    let expected: BTreeMap<_, _> = FIGURES.iter().flat_map(Figure::files).collect();
+    let mut found = BTreeMap::new();
+    for entry in fs::read_dir(FOLDER).expect("the folder is there") {
+        let path = entry.expect("the folder is read").path();
+        let name = path.file_name().expect("a file has a name");
+        let bytes = fs::read(&path).expect("the file is read");
+        found.insert(name.to_string_lossy().into_owned(), bytes);
+    }
+    assert!(found.remove("README.md").is_some());
+    let again = "cargo run --release -p oracle --example figures writes the files";
+    assert_eq!(found, expected, "{again}");
+}
+
+/// The documents show what the programs print.
+#[test]
+fn documents_show_the_examples() {
+    let folder = Path::new(FOLDER);
+    let document = |path: &str| fs::read_to_string(folder.join(path)).expect("a document");
+    for figure in FIGURES {
+        let printed = document(&format!("figure-{}.txt", figure.number));
+        let shown = format!("```\n{printed}```\n");
+        assert!(document("README.md").contains(&shown), "{printed}");
+        if figure.number == FIGURE_10.number {
+            assert!(document("../../README.md").contains(&shown), "{printed}");
+        }
+    }
 }
 
 /// The text of a figure says what its file does, and both forms of the meaning answer alike.
@@ -117,7 +158,7 @@ fn figure_1() {
             "3 1 R 1 0001 0002"
         ]
     );
-    assert_eq!(copies(&FIGURE_1, &[0, 1, 2, 3, 4, 5]), [1, 1]);
+    assert_eq!(copies(&FIGURE_1, &[0, 1, 2, 3, 4, 5]), [(1, 2), (1, 1)]);
 }
 
 /// "Both C remappings are useless because the redistribution restores its initial mapping": none of
@@ -131,7 +172,7 @@ fn figure_2() {
     let draft = converted(&FIGURE_2);
     assert_eq!(draft.rows[2], [remap(1), 0]);
     assert_eq!(draft.rows[3], [remap(0), remap(1)]);
-    assert_eq!(copies(&FIGURE_2, &[0, 1, 2, 3, 4, 5]), [0, 1]);
+    assert_eq!(copies(&FIGURE_2, &[0, 1, 2, 3, 4, 5]), [(0, 2), (1, 1)]);
 }
 
 /// "Enforces the remapping of all five aligned arrays, although only two of them are used
@@ -150,7 +191,10 @@ fn figure_3() {
         at_redistribute,
         ["0 R 1", "1 N -", "2 N -", "3 R 1", "4 N -"]
     );
-    assert_eq!(copies(&FIGURE_3, &[0, 1, 2, 3, 4]), [1, 0, 0, 1, 0]);
+    assert_eq!(
+        copies(&FIGURE_3, &[0, 1, 2, 3, 4]),
+        [(1, 1), (0, 1), (0, 1), (1, 1), (0, 1)]
+    );
 }
 
 /// "A mapping is modified by the redistribute if the realign was executed before at runtime".
@@ -159,19 +203,23 @@ fn figure_5() {
     assert_eq!(answer(&FIGURE_5), (42, 5, 0));
     // It is not enough that T2 keeps its spread: the other way leaves A as T1 is spread.
     let text = FIGURE_5.text.replace("T2 (cyclic,*)", "T2 (cyclic(2),*)");
-    let program = Program::from_text(&text).expect("the text is understood");
-    assert_eq!(convert(&program.bytes(), &mut []).number, 42);
+    let kept = Figure {
+        text: &text,
+        ..FIGURE_5
+    };
+    assert_eq!(answer(&kept), (42, 5, 0));
 }
 
-/// The version that comes with the other template is the redistribute's result, and the one that
-/// does not is not left.
+/// With T1 spread as T2 is redistributed A is left in one mapping on both ways.
 #[test]
 fn figure_5_with_one_mapping_left() {
-    assert_eq!(
-        versions(&FIGURE_5_ACCEPTED),
-        [["(block,*)", "(cyclic(1),*)"]]
-    );
-    let rows = converted(&FIGURE_5_ACCEPTED).rows;
+    let text = FIGURE_5.text.replace("T1 (block,*)", "T1 (cyclic(2),*)");
+    let accepted = Figure {
+        text: &text,
+        ..FIGURE_5
+    };
+    assert_eq!(versions(&accepted), [["(cyclic(2),*)", "(cyclic(1),*)"]]);
+    let rows = converted(&accepted).rows;
     assert_eq!((&rows[3], &rows[5]), (&vec![remap(1)], &vec![remap(0)]));
 }
 
@@ -187,9 +235,11 @@ fn figure_6() {
     assert_eq!(used(&FIGURE_6, 0), [0, 1, 2]);
 
     let text = FIGURE_6.text.replace("\n5 ->", "\n5 read A ->");
-    let program = Program::from_text(&text).expect("the text is understood");
-    let answer = convert(&program.bytes(), &mut []);
-    assert_eq!((answer.number, answer.first, answer.second), (21, 5, 0));
+    let referred = Figure {
+        text: &text,
+        ..FIGURE_6
+    };
+    assert_eq!(answer(&referred), (21, 5, 0));
 }
 
 /// "A may be used with all possible mappings {0, 1, 2, 3}, but array B is only used with {0, 1} and
@@ -207,7 +257,13 @@ fn figure_10() {
     assert_eq!(used(&FIGURE_10, 1), [0, 1]);
     assert_eq!(used(&FIGURE_10, 2), [0, 3]);
     // Without an iteration C is never made, and B not after the branch.
-    assert_eq!(copies(&FIGURE_10, &[0, 1, 2, 5, 6, 7, 12]), [1, 0, 0]);
+    assert_eq!(
+        copies(&FIGURE_10, &[0, 1, 2, 5, 6, 7, 12]),
+        [(1, 2), (0, 1), (0, 1)]
+    );
+    // In the second iteration version 3 of A is still live.
+    let twice = [0, 1, 2, 5, 6, 7, 8, 9, 10, 11, 7, 8, 9, 10, 11, 7, 12];
+    assert_eq!(copies(&FIGURE_10, &twice), [(4, 6), (0, 5), (2, 5)]);
 }
 
 /// "Depending on the execution path in the program, array copy A_0 may reach remapping statement 3
@@ -222,8 +278,8 @@ fn figure_13() {
     assert_eq!(rows[3], [remap(1)]);
     assert_eq!(rows[5], [remap(2)]);
     assert_eq!(rows[7], [remap(0)]);
-    assert_eq!(copies(&FIGURE_13, &[0, 1, 2, 3, 4, 7, 8]), [2]);
-    assert_eq!(copies(&FIGURE_13, &[0, 1, 2, 5, 6, 7, 8]), [1]);
+    assert_eq!(copies(&FIGURE_13, &[0, 1, 2, 3, 4, 7, 8]), [(2, 2)]);
+    assert_eq!(copies(&FIGURE_13, &[0, 1, 2, 5, 6, 7, 8]), [(1, 2)]);
 }
 
 /// "Array A is remapped at the redistribute to (block,*) or (*,block) depending on the execution of

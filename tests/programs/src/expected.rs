@@ -1,9 +1,9 @@
-//! What the two programs are to print: on standard output what document 01 says ("Routine P and
-//! others"), on standard error a line for everything else than a whole plan or report.
+//! What the programs are to print: on standard output what document 01 says ("Routine P and
+//! others"), or the bytes of a converted routine; on standard error a line for everything else than
+//! a whole plan, report or routine.
 
 use harness::library::{Input, ORACLE};
 use oracle::listing;
-use oracle::outcome::Outcome;
 use oracle::routine::Routine;
 use oracle::run::{LONGEST_REPORT, vertices};
 use std::fmt;
@@ -14,7 +14,7 @@ pub const LONGEST_PATH: usize = 512;
 /// What an output says.
 #[derive(Clone, Copy, Debug, PartialEq, Eq, PartialOrd, Ord)]
 pub enum Answer {
-    /// The whole plan or report.
+    /// The whole plan, report or routine.
     Done,
     /// A refusal by its number.
     Refused(u64),
@@ -44,42 +44,40 @@ pub enum Met {
 /// What a program is to print.
 #[derive(Clone, PartialEq, Eq)]
 pub struct Printed {
-    pub output: String,
+    pub output: Vec<u8>,
     pub errors: String,
 }
 
 /// The program that an input is for.
 pub fn program(input: &Input) -> &'static str {
-    match input.path {
-        None => "planner",
-        Some(_) => "runner",
+    match input {
+        Input::Plan { .. } => "planner",
+        Input::Run { .. } => "runner",
+        Input::Convert { .. } => "converter",
+        Input::ConvertAndRun { .. } => unreachable!("no program makes both calls"),
     }
 }
 
-/// The output for an input, and what it says: the planner's without a path, the runner's
-/// with one.
-pub fn output(input: &Input) -> (Answer, String) {
-    let path = input.path.as_deref();
+/// The output for an input, and what it says.
+pub fn output(input: &Input) -> (Answer, Vec<u8>) {
+    let path = input.path();
     if path.is_some_and(|path| vertices(path).len() > LONGEST_PATH) {
-        return (Answer::Long, String::from("long\n"));
+        return (Answer::Long, b"long\n".to_vec());
     }
-    // Room for any plan or report: the programs never print refusals 1 and 2.
+    // Room for any plan, report or routine: the programs never print refusals 1 and 2.
     let mut out = vec![0; LONGEST_REPORT];
-    let Outcome {
-        number,
-        first,
-        second,
-    } = input.call(&ORACLE, &mut out);
-    if number != 0 {
-        let line = format!("{number} {first} {second}\n");
-        return (Answer::Refused(number), line);
+    let outcome = input.call(&ORACLE, &mut out);
+    if outcome.number != 0 {
+        let line = listing::refusal(outcome);
+        return (Answer::Refused(outcome.number), line.into_bytes());
     }
-    out.truncate(first as usize);
-    let text = match (path, Routine::parse(&input.routine)) {
-        (Some(_), Ok(routine)) => listing::report(&out, routine.array_count()),
-        _ => listing::plan(&out),
+    out.truncate(outcome.first as usize);
+    let output = match (input, Routine::parse(input.file())) {
+        (Input::Plan { .. }, _) => listing::plan(&out).into_bytes(),
+        (_, Ok(routine)) => listing::report(&out, routine.array_count()).into_bytes(),
+        _ => out,
     };
-    (Answer::Done, text)
+    (Answer::Done, output)
 }
 
 /// The line for a file or stream that is not read to its end.
@@ -96,22 +94,25 @@ pub fn unwritten(input: &Input) -> String {
     format!("{}: cannot write standard output\n", program(input))
 }
 
-/// Both streams for an input, by what its program met in its files. The planner has no path; the
-/// runner opens no routine for a path that is not run.
-pub fn printed(input: &Input, routine: Met, path: Met) -> Printed {
+/// Both streams for an input, by what its program met in its files. Only the runner has a path, and
+/// it opens no routine for a path that is not run.
+pub fn printed(input: &Input, file: Met, path: Met) -> Printed {
     let program = program(input);
     let (answer, output) = output(input);
     let mut errors = String::new();
-    match input.path {
-        None => errors += &unread(program, "standard input", routine),
+    match input.path() {
+        None => errors += &unread(program, "standard input", file),
         Some(_) => errors += &unread(program, "path", path),
     }
-    if input.path.is_some() && answer != Answer::Long {
-        errors += &unread(program, "routine", routine);
+    if input.path().is_some() && answer != Answer::Long {
+        errors += &unread(program, "routine", file);
     }
     match answer {
         Answer::Done => (),
-        Answer::Refused(_) => errors += &format!("{program}: refused {output}"),
+        Answer::Refused(_) => {
+            let line = String::from_utf8_lossy(&output);
+            errors += &format!("{program}: refused {line}");
+        }
         Answer::Long => errors += &format!("{program}: path too long\n"),
     }
     Printed { output, errors }

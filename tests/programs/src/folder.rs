@@ -1,4 +1,4 @@
-//! The two programs, run in a folder of their own.
+//! The programs, run in a folder of their own.
 
 use crate::expected::{Met, program};
 use harness::library::Input;
@@ -97,7 +97,7 @@ pub struct Folder {
 
 impl Folder {
     pub fn new(programs: PathBuf) -> Result<Folder> {
-        for name in ["planner", "runner"] {
+        for name in ["planner", "runner", "converter"] {
             let program = programs.join(name);
             let named = |error| Error::other(format!("{}: {error}", program.display()));
             fs::metadata(&program).map_err(named)?;
@@ -128,17 +128,17 @@ impl Folder {
         command
     }
 
-    /// What the planner leaves for a standard input that comes in these pieces.
-    pub fn planner(&self, pieces: &[&[u8]]) -> Result<Left> {
-        let mut child = self.command("planner").stdin(Stdio::piped()).spawn()?;
+    /// What a program leaves for a standard input that comes in these pieces.
+    pub fn fed(&self, name: &str, pieces: &[&[u8]]) -> Result<Left> {
+        let mut child = self.command(name).stdin(Stdio::piped()).spawn()?;
         if let Some(mut input) = child.stdin.take() {
             for (index, piece) in pieces.iter().enumerate() {
                 if index > 0 {
-                    // The planner is to meet the end of one piece before the next comes.
+                    // The program is to meet the end of one piece before the next comes.
                     thread::sleep(Duration::from_millis(1));
                 }
                 match input.write_all(piece) {
-                    // It need not read what no routine file has room for.
+                    // It need not read what no file of its kind has room for.
                     Err(error) if error.kind() == ErrorKind::BrokenPipe => break,
                     written => written?,
                 }
@@ -147,26 +147,26 @@ impl Folder {
         child.wait_with_output().map(Left::from)
     }
 
-    /// What the planner leaves for a standard input that has these bytes, and then fails.
-    pub fn planner_cut(&self, bytes: &[u8]) -> Result<Left> {
+    /// What a program leaves for a standard input that has these bytes, and then fails.
+    pub fn fed_and_cut(&self, name: &str, bytes: &[u8]) -> Result<Left> {
         let (mut fed, input) = UnixStream::pair()?;
         input.set_nonblocking(true)?;
         fed.write_all(bytes)?;
         // With `fed` still open, the read after the last byte would have to wait.
-        let mut command = self.command("planner");
+        let mut command = self.command(name);
         command.stdin(OwnedFd::from(input)).output().map(Left::from)
     }
 
-    /// What the planner leaves for a standard input that is open, but cannot be read.
-    pub fn planner_of_folder(&self) -> Result<Left> {
+    /// What a program leaves for a standard input that is open, but cannot be read.
+    pub fn fed_by_folder(&self, name: &str) -> Result<Left> {
         let folder = File::open(&self.work)?;
-        let mut command = self.command("planner");
+        let mut command = self.command(name);
         command.stdin(folder).output().map(Left::from)
     }
 
-    /// What the planner leaves without a standard input.
-    pub fn planner_of_nothing(&self) -> Result<Left> {
-        let mut command = self.shell(r#"exec "$0" <&-"#, "planner");
+    /// What a program leaves without a standard input.
+    pub fn not_fed(&self, name: &str) -> Result<Left> {
+        let mut command = self.shell(r#"exec "$0" <&-"#, name);
         command.output().map(Left::from)
     }
 
@@ -180,8 +180,8 @@ impl Folder {
     /// What the input's program leaves where it cannot write all of its output, and how often it
     /// wrote, if the system counts that.
     pub fn unwritten(&self, input: &Input, sink: Sink) -> Result<(Left, Option<u64>)> {
-        let path = input.path.as_deref().unwrap_or_default();
-        self.set("routine", Content::Bytes(&input.routine))?;
+        let path = input.path().unwrap_or_default();
+        self.set("routine", Content::Bytes(input.file()))?;
         self.set("path", Content::Bytes(path))?;
         self.set("output", Content::Bytes(&[]))?;
         let mut command = self.shell(sink.script(), program(input));

@@ -1,11 +1,13 @@
 //! The inputs that are tried. The seed decides all that are drawn.
 
 use crate::expected::LONGEST_PATH;
-use harness::drive::named;
+use harness::drive::{named, named_directives};
 use harness::library::Input;
 use oracle::builder::{self, Draft, path_bytes};
+use oracle::directives::file::LONGEST_FILE as LONGEST_DIRECTIVES;
+use oracle::generate::directives::{EXAMPLE, REFUSALS, Size};
 use oracle::generate::rng::Rng;
-use oracle::generate::{damage, limits, paths, routines};
+use oracle::generate::{damage, directives as generate, limits, paths, routines};
 use oracle::routine::LONGEST_FILE;
 
 /// A kind of input, and its inputs.
@@ -26,6 +28,12 @@ pub fn all(seed: u64) -> Vec<Group> {
         ("runner, path into a call", runs_into_calls(seed)),
         ("runner, damaged path", damaged_paths(seed)),
         ("runner, refused routine", refused_runs(seed)),
+        ("converter, named", named_conversions()),
+        ("converter, limits", conversions_at_limits(seed)),
+        ("converter, short and long files", conversions_by_length()),
+        ("converter, accepted", accepted_conversions(seed)),
+        ("converter, refused by number", refused_conversions(seed)),
+        ("converter, damaged", damaged_conversions(seed)),
     ]
 }
 
@@ -223,5 +231,83 @@ fn refused_runs(seed: u64) -> Vec<Input> {
         let file = damage::refused(rng, number);
         let length = rng.pick(&[0, 1, 6, 1024, 1025, 1026]);
         Input::run(file, (0..length).map(|_| rng.below(3) as u8).collect())
+    })
+}
+
+fn named_conversions() -> Vec<Input> {
+    let files = named_directives().into_iter();
+    files
+        .map(|program| Input::convert(program.bytes()))
+        .collect()
+}
+
+fn conversions_at_limits(seed: u64) -> Vec<Input> {
+    let mut programs = vec![generate::limits::smallest(), generate::limits::largest()];
+    programs.extend([16, 17].map(generate::limits::by_redistributes));
+    programs.extend([16, 17].map(generate::limits::by_realigns));
+    programs.extend(generate::limits::large(&mut Rng::new(seed)));
+    programs.extend(
+        generate::limits::beyond()
+            .into_iter()
+            .map(|(program, _)| program),
+    );
+    programs
+        .iter()
+        .map(|program| Input::convert(program.bytes()))
+        .collect()
+}
+
+/// The example at every length from empty on, and files up to and beyond the longest.
+fn conversions_by_length() -> Vec<Input> {
+    let example = EXAMPLE.program().bytes();
+    let largest = generate::limits::largest().bytes();
+    let mut files: Vec<Vec<u8>> = damage::every_length(&example).collect();
+    for length in [0, 1, 2, 306, 59_342, 193_806] {
+        for file in [&largest, &example, &Vec::new()] {
+            let mut longer = file.clone();
+            longer.resize(LONGEST_DIRECTIVES + length, 0);
+            files.push(longer);
+        }
+    }
+    files.extend([1, 4096, 4097].map(|cut| largest[..largest.len() - cut].to_vec()));
+    files.into_iter().map(Input::convert).collect()
+}
+
+/// Sizes of files that are drawn.
+fn any_size(rng: &mut Rng) -> Size {
+    Size {
+        vertices: rng.between(3, 60),
+        templates: rng.between(1, 4),
+        arrays: rng.between(1, 6),
+        spreads: rng.between(2, 6),
+    }
+}
+
+fn accepted_conversions(seed: u64) -> Vec<Input> {
+    drawn(seed, 100, |rng, _| {
+        let size = any_size(rng);
+        Input::convert(generate::accepted(rng, size).bytes())
+    })
+}
+
+fn refused_conversions(seed: u64) -> Vec<Input> {
+    drawn(!seed, 100, |rng, index| {
+        let number = REFUSALS[index as usize % REFUSALS.len()];
+        Input::convert(generate::refused(rng, number, any_size))
+    })
+}
+
+/// Files with a byte changed, and with a byte more or less.
+fn damaged_conversions(seed: u64) -> Vec<Input> {
+    drawn(seed, 100, |rng, _| {
+        let size = any_size(rng);
+        let mut file = generate::program(rng, size).bytes();
+        if rng.chance(80) {
+            let place = rng.below(file.len());
+            file[place] ^= rng.between(1, 255) as u8;
+        } else {
+            file.resize(file.len() + rng.below(3) - 1, 0);
+        }
+        Input::convert(file)
     })
 }

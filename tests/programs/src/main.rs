@@ -1,4 +1,4 @@
-//! Holds what the verified programs print against document 01, byte by byte.
+//! Holds what the verified programs print against document 01 and request 4, byte by byte.
 //!
 //! programs [--seed S]
 
@@ -13,7 +13,9 @@ use harness::library::Input;
 use harness::shrink::shrink;
 use oracle::builder::Draft;
 use oracle::calls::is_call;
+use oracle::directives::file;
 use oracle::generate::damage::FILE_REFUSALS;
+use oracle::generate::directives::REFUSALS;
 use oracle::routine::LONGEST_FILE;
 use std::collections::BTreeMap;
 use std::env;
@@ -28,15 +30,15 @@ struct Inputs {
     count: u64,
     /// With calls in the routine.
     with_calls: u64,
-    /// The lines of the longest output.
-    lines: usize,
+    /// The bytes of the longest output.
+    bytes: usize,
 }
 
 /// How often each program gave each answer.
 type Tally = BTreeMap<(&'static str, Answer), Inputs>;
 
 fn has_calls(input: &Input) -> bool {
-    let draft = Draft::from_bytes(&input.routine).unwrap_or_default();
+    let draft = Draft::from_bytes(input.file()).unwrap_or_default();
     draft.rows.iter().any(|row| is_call(row))
 }
 
@@ -59,28 +61,28 @@ fn programs() -> Result<PathBuf> {
     folder.canonicalize().map_err(named)
 }
 
-/// What the input's program leaves, beside what it is to print: the planner fed at once, in two
-/// pieces and with a read that fails behind the last byte; both programs also with all else that
-/// counts as empty.
+/// What the input's program leaves, beside what it is to print: planner and converter fed at once,
+/// in two pieces and with a read that fails behind the last byte; all programs also with all else
+/// that counts as empty.
 fn runs(folder: &Folder, input: &Input) -> Result<Vec<(Left, Printed)>> {
-    let routine = &input.routine;
+    let (name, file) = (program(input), input.file());
     let mut all = Vec::new();
-    let Some(path) = &input.path else {
-        let (first, second) = routine.split_at(routine.len() / 2);
+    let Some(path) = input.path() else {
+        let (first, second) = file.split_at(file.len() / 2);
         let whole = expected::printed(input, Met::End, Met::End);
         let unread = expected::printed(input, Met::Unread, Met::End);
-        all.push((folder.planner(&[routine])?, whole.clone()));
-        all.push((folder.planner(&[first, second])?, whole));
-        if routine.len() <= LONGEST_FILE {
-            all.push((folder.planner_cut(routine)?, unread.clone()));
+        all.push((folder.fed(name, &[file])?, whole.clone()));
+        all.push((folder.fed(name, &[first, second])?, whole));
+        if file.len() <= longest(input) {
+            all.push((folder.fed_and_cut(name, file)?, unread.clone()));
         }
-        if routine.is_empty() {
-            all.push((folder.planner_of_folder()?, unread.clone()));
-            all.push((folder.planner_of_nothing()?, unread));
+        if file.is_empty() {
+            all.push((folder.fed_by_folder(name)?, unread.clone()));
+            all.push((folder.not_fed(name)?, unread));
         }
         return Ok(all);
     };
-    for routine in folder.contents(routine)? {
+    for routine in folder.contents(file)? {
         for path in folder.contents(path)? {
             let printed = expected::printed(input, routine.met(), path.met());
             all.push((folder.runner(routine, path)?, printed));
@@ -89,15 +91,23 @@ fn runs(folder: &Folder, input: &Input) -> Result<Vec<(Left, Printed)>> {
     Ok(all)
 }
 
+/// The longest file that a program reads from standard input to its end.
+fn longest(input: &Input) -> usize {
+    match input {
+        Input::Convert { .. } => file::LONGEST_FILE,
+        _ => LONGEST_FILE,
+    }
+}
+
 /// What differs in words; what was to be printed comes first.
 fn in_words(input: &Input, left: &Left, printed: &Printed) -> String {
+    let due = String::from_utf8_lossy(&printed.output);
     let found = String::from_utf8_lossy(&left.output);
     let errors = String::from_utf8_lossy(&left.errors);
-    let alike = printed.output.lines().zip(found.lines());
-    let line = alike.take_while(|(one, other)| one == other).count();
+    let alike = printed.output.iter().zip(&left.output);
+    let byte = alike.take_while(|(one, other)| one == other).count();
     format!(
-        "output, errors, status; the outputs differ from line {line} on, from 0\n{input}oracle:\n{}{}{}:\n{found}{errors}{}\n",
-        printed.output,
+        "output, errors, status; the outputs differ from byte {byte} on\n{input}oracle:\n{due}{}{}:\n{found}{errors}{}\n",
         printed.errors,
         program(input),
         left.status
@@ -108,7 +118,7 @@ fn in_words(input: &Input, left: &Left, printed: &Printed) -> String {
 fn difference(folder: &Folder, input: &Input) -> Result<Option<String>> {
     let runs = runs(folder, input)?;
     let other = |(left, printed): &&(Left, Printed)| {
-        left.output != printed.output.as_bytes()
+        left.output != printed.output
             || left.errors != printed.errors.as_bytes()
             || !left.status.success()
     };
@@ -127,11 +137,11 @@ fn hold(folder: &Folder, seed: u64, tally: &mut Tally) -> Result<Option<String>>
                 let found = format!("mismatch: seed {seed}, {kind}, input {index}\n{words}");
                 return Ok(Some(found));
             }
-            let (answer, text) = expected::output(&input);
+            let (answer, output) = expected::output(&input);
             let inputs = tally.entry((program(&input), answer)).or_default();
             inputs.count += 1;
             inputs.with_calls += u64::from(has_calls(&input));
-            inputs.lines = text.lines().count().max(inputs.lines);
+            inputs.bytes = output.len().max(inputs.bytes);
         }
     }
     Ok(None)
@@ -143,12 +153,15 @@ fn due() -> Vec<(&'static str, Answer)> {
         ("planner", Answer::Done),
         ("runner", Answer::Done),
         ("runner", Answer::Long),
+        ("converter", Answer::Done),
     ];
     let files = FILE_REFUSALS.map(Answer::Refused);
     let paths = [30, 31, 32].map(Answer::Refused);
     due.extend(files.map(|answer| ("planner", answer)));
     due.extend(files.map(|answer| ("runner", answer)));
     due.extend(paths.map(|answer| ("runner", answer)));
+    let directives = REFUSALS.map(Answer::Refused);
+    due.extend(directives.map(|answer| ("converter", answer)));
     due
 }
 
@@ -163,16 +176,16 @@ fn run(seed: u64) -> Result<ExitCode> {
     }
     println!(
         "{:<10}{:<10}{:>10}{:>12}{:>10}",
-        "program", "answer", "inputs", "with calls", "lines"
+        "program", "answer", "inputs", "with calls", "bytes"
     );
     for ((program, answer), inputs) in &tally {
         let Inputs {
             count,
             with_calls,
-            lines,
+            bytes,
         } = inputs;
         println!(
-            "{program:<10}{:<10}{count:>10}{with_calls:>12}{lines:>10}",
+            "{program:<10}{:<10}{count:>10}{with_calls:>12}{bytes:>10}",
             answer.to_string()
         );
     }

@@ -5,7 +5,8 @@ use crate::expected::{self, Met, Printed, program};
 use crate::folder::{Folder, Left, Sink};
 use harness::library::Input;
 use oracle::builder::{self, path_bytes};
-use oracle::generate::limits;
+use oracle::directives::figures::{FIGURE_10, FIGURE_21};
+use oracle::generate::{directives, limits};
 use std::io::Result;
 use std::os::unix::process::ExitStatusExt;
 
@@ -15,7 +16,7 @@ const SIGPIPE: i32 = 13;
 /// The unit of a file's limit in a shell, 512 bytes or 1,024.
 const LIMITS: [usize; 2] = [512, 1024];
 
-/// A plan and a report, small and the largest; refusals; a path that is not run.
+/// A plan, a report and a routine, small and the largest; refusals; a path that is not run.
 fn inputs() -> Vec<Input> {
     let largest = limits::largest_report().bytes();
     let longest = limits::longest_path();
@@ -30,6 +31,10 @@ fn inputs() -> Vec<Input> {
         Input::run(builder::t().bytes(), path_bytes(&[0, 1])),
         Input::run(builder::p().bytes(), path_bytes(&[0, 2])),
         Input::run(largest, path_bytes(&longest[..513])),
+        Input::convert(FIGURE_10.program().bytes()),
+        Input::convert(directives::limits::largest().bytes()),
+        Input::convert(FIGURE_21.program().bytes()),
+        Input::convert(vec![]),
     ]
 }
 
@@ -46,12 +51,15 @@ fn fault(
     if signal.is_none() {
         errors += &expected::unwritten(input);
     }
-    // One write a line; a line that is cut takes another. The last one fails.
+    // One write a line, or for a whole routine; what is cut takes another. The last one fails.
     let taken = &output[..size];
-    let lines = taken.lines().count() + 1;
-    let due = (lines + errors.lines().count()) as u64;
+    let whole = match input {
+        Input::Convert { .. } => usize::from(size > 0),
+        _ => String::from_utf8_lossy(taken).lines().count(),
+    };
+    let due = (whole + 1 + errors.lines().count()) as u64;
     let found = String::from_utf8_lossy(&left.errors);
-    let wrong = if left.output != taken.as_bytes() {
+    let wrong = if left.output != taken {
         format!("{} bytes of output, {size} are due", left.output.len())
     } else if found != errors {
         format!("errors:\n{found}due:\n{errors}")

@@ -1,10 +1,11 @@
-//! Faults of both calls: lengths, inputs that are changed, memory that threads share.
+//! Faults of all calls: lengths, inputs that are changed, memory that threads share.
 
-use super::{FEW, outcome, planner, runner};
+use super::{FEW, converter, outcome, planner, runner};
 use crate::check::Difference;
-use crate::drive::{compare, compare_plans, compare_runs};
+use crate::drive::{compare, compare_conversions, compare_plans, compare_runs};
 use crate::library::Library;
 use crate::raw::{self, CHANGED, Raw};
+use oracle::directives::convert;
 use oracle::outcome::Outcome;
 use oracle::{plan, run};
 use std::slice;
@@ -25,6 +26,12 @@ fn a_file_length_of_16_bits() {
         assert_eq!(mismatch.fault.expected.outcome, outcome(13, 18, 0));
         assert!(mismatch.kind.ends_with(", far too long"), "{mismatch}");
     }
+    fn faulty_convert(file: &[u8], out: &mut [u8]) -> Outcome {
+        convert::convert(&file[..file.len() % 65_536], out)
+    }
+    let (mismatch, _) = converter(faulty_convert);
+    assert_eq!(mismatch.fault.expected.outcome.number, 40);
+    assert_eq!(mismatch.kind, "conversion, far too long", "{mismatch}");
 }
 
 /// The oracle by pointers, which changes the last byte that it reads.
@@ -82,15 +89,36 @@ impl Raw for Scribbler {
         }
         answer
     }
+
+    unsafe fn convert(
+        directives: *const u8,
+        directives_len: usize,
+        out: *mut u8,
+        out_len: usize,
+    ) -> Outcome {
+        // SAFETY: as in `plan`.
+        let (directives, out) = unsafe {
+            (
+                bytes(directives.cast_mut(), directives_len),
+                bytes(out, out_len),
+            )
+        };
+        let answer = convert::convert(directives, out);
+        if answer.number == 42 {
+            directives[directives_len - 1] ^= 1;
+        }
+        answer
+    }
 }
 
-/// A routine, and a path, that is not as it was after the call.
+/// A file, and a path, that is not as it was after the call.
 #[test]
 fn a_changed_input() {
     let library = raw::library::<Scribbler>();
     for (mismatch, number) in [
         (compare_plans(&library, FEW).unwrap_err(), 21),
         (compare_runs(&library, FEW).unwrap_err(), 32),
+        (compare_conversions(&library, FEW).unwrap_err(), 42),
     ] {
         assert_eq!(mismatch.fault.difference, Difference::Outcome);
         assert_eq!(mismatch.fault.expected.outcome.number, number);
@@ -98,7 +126,7 @@ fn a_changed_input() {
     }
 }
 
-/// A library that keeps its routine where every thread finds it: right in one thread.
+/// A library that keeps its file where every thread finds it: right in one thread.
 #[test]
 fn threads_that_share_memory() {
     static KEPT: Mutex<Vec<u8>> = Mutex::new(Vec::new());
@@ -111,6 +139,7 @@ fn threads_that_share_memory() {
     let library = Library {
         plan: |file, out| plan::plan(&keep(file), out),
         run: |file, path, out| run::run(&keep(file), path, out),
+        convert: |file, out| convert::convert(&keep(file), out),
     };
     compare(&library, FEW).expect_err("the fault is not found");
 }

@@ -224,7 +224,7 @@ fn the_wrong_order_of_checks() {
     let (mismatch, _) = planner(faulty);
     assert_eq!(mismatch.fault.difference, Difference::Outcome);
     assert_eq!(mismatch.kind, "plan, several faults");
-    assert_eq!(mismatch.input.routine.len(), 18);
+    assert_eq!(mismatch.input.file().len(), 18);
 }
 
 /// The row of an action byte, and its place there.

@@ -22,7 +22,7 @@ fn invented_copies() {
     let copies = String::from("array 0: 3 copies against 2");
     assert_eq!(mismatch.fault.difference, Difference::Demand3(copies));
     assert!(draft.unwrap().rows.len() <= 6, "{mismatch}");
-    assert!(mismatch.input.path.unwrap().len() <= 12);
+    assert!(mismatch.input.path().unwrap().len() <= 12);
 }
 
 /// One copy too few: demand 3 cannot see it.
@@ -61,7 +61,7 @@ fn a_wrong_stamp() {
     let difference = &mismatch.fault.difference;
     assert!(matches!(difference, Difference::Demand3(_)), "{mismatch}");
     assert!(draft.unwrap().rows.len() <= 5, "{mismatch}");
-    assert!(mismatch.input.path.unwrap().len() <= 10);
+    assert!(mismatch.input.path().unwrap().len() <= 10);
 }
 
 /// Shows `change` the entry of each in argument after a full path, with its initial version and
@@ -163,7 +163,7 @@ fn an_odd_byte_that_counts() {
     }
     let (mismatch, _) = runner(faulty);
     assert_eq!(mismatch.fault.difference, Difference::Outcome);
-    assert_eq!(mismatch.input.path.unwrap().len(), 1);
+    assert_eq!(mismatch.input.path().unwrap().len(), 1);
 }
 
 #[test]
@@ -178,7 +178,7 @@ fn the_wrong_index_in_a_path() {
     let (mismatch, draft) = runner(faulty);
     assert_eq!(mismatch.fault.difference, Difference::Outcome);
     assert_eq!(draft.unwrap().rows.len(), 2, "{mismatch}");
-    assert_eq!(mismatch.input.path.unwrap().len(), 4);
+    assert_eq!(mismatch.input.path().unwrap().len(), 4);
 }
 
 /// A path's length in vertices taken modulo 65,536.

@@ -9,18 +9,60 @@
 //! - A branch and a loop's head are vertices, with the references of their conditions.
 
 use super::Program;
+use super::convert::convert;
+use crate::listing;
+use crate::outcome::Outcome;
+use crate::plan::{LONGEST_PLAN, plan};
+use crate::routine::LONGEST_FILE;
+
+/// The folder of the figures' files: examples/directives of the repository.
+pub const FOLDER: &str = concat!(env!("CARGO_MANIFEST_DIR"), "/../../examples/directives");
 
 /// A figure: its number, and its text.
 #[derive(Clone, Copy, Debug)]
-pub struct Figure {
+pub struct Figure<'a> {
     pub number: usize,
-    pub text: &'static str,
+    pub text: &'a str,
 }
 
-impl Figure {
+impl Figure<'_> {
     pub fn program(&self) -> Program {
         Program::from_text(self.text).expect("figures are understood")
     }
+
+    /// Its files by name: `hpfd` has the directives, `hpfr` the routine that they become, `txt` the
+    /// planner's lines for it. A refused figure has no routine, and in `txt` the converter's line.
+    pub fn files(&self) -> Vec<(String, Vec<u8>)> {
+        let name = |ending| format!("figure-{}.{ending}", self.number);
+        let directives = self.program().bytes();
+        let mut files = Vec::new();
+        let text = match written(convert, &directives, LONGEST_FILE) {
+            Ok(routine) => {
+                let plan = written(plan, &routine, LONGEST_PLAN).expect("it is converted");
+                files.push((name("hpfr"), routine));
+                listing::plan(&plan)
+            }
+            Err(refusal) => listing::refusal(refusal),
+        };
+        files.push((name("hpfd"), directives));
+        files.push((name("txt"), text.into_bytes()));
+        files
+    }
+}
+
+/// What a call writes, or its refusal.
+fn written(
+    call: fn(&[u8], &mut [u8]) -> Outcome,
+    input: &[u8],
+    room: usize,
+) -> Result<Vec<u8>, Outcome> {
+    let mut out = vec![0; room];
+    let outcome = call(input, &mut out);
+    if outcome.number != 0 {
+        return Err(outcome);
+    }
+    out.truncate(outcome.first as usize);
+    Ok(out)
 }
 
 /// "Possible direct A remapping". A and B are written before the directives and read after them.
@@ -87,24 +129,6 @@ array A local with T1
 3 realign A with T2 -> 4
 4 modify A -> 5
 5 redistribute T2 (cyclic(2),*) -> 6
-6 read A -> 7
-7
-",
-};
-
-/// Figure 5 with T2 redistributed as T1 is spread: A is left in one mapping on both ways.
-pub const FIGURE_5_ACCEPTED: Figure = Figure {
-    number: 5,
-    text: "
-template T1 (block,*)
-template T2 (cyclic,*)
-array A local with T1
-0 -> 1
-1 modify A -> 2
-2 -> 3 5
-3 realign A with T2 -> 4
-4 modify A -> 5
-5 redistribute T2 (block,*) -> 6
 6 read A -> 7
 7
 ",
@@ -187,14 +211,6 @@ array A local with T
 ",
 };
 
-pub const FIGURES: [Figure; 9] = [
-    FIGURE_1,
-    FIGURE_2,
-    FIGURE_3,
-    FIGURE_5,
-    FIGURE_5_ACCEPTED,
-    FIGURE_6,
-    FIGURE_10,
-    FIGURE_13,
-    FIGURE_21,
+pub const FIGURES: [Figure; 8] = [
+    FIGURE_1, FIGURE_2, FIGURE_3, FIGURE_5, FIGURE_6, FIGURE_10, FIGURE_13, FIGURE_21,
 ];

@@ -5,7 +5,7 @@ pub mod limits;
 
 use super::rng::Rng;
 use super::routines;
-use crate::builder::{DEFINE, IN, INOUT, MODIFY, READ};
+use crate::builder::{DEFINE, IN, INOUT, LOCAL, MODIFY, READ};
 use crate::directives::convert::convert;
 use crate::directives::figures::{FIGURE_5, FIGURE_21, Figure};
 use crate::directives::file::MAX_TEMPLATES;
@@ -248,6 +248,37 @@ array B local with T1
 ",
 };
 
+/// The example of docs/DIRECTIVES.md.
+pub const EXAMPLE: Figure = Figure {
+    number: 0,
+    text: "
+template T (block,*)
+array A local with T
+0 -> 1
+1 define A -> 2
+2 redistribute T (cyclic(3),*) -> 3
+3 read A -> 4
+4
+",
+};
+
+/// Each statement, reference and kind of spread.
+pub const EVERY_STATEMENT: Figure = Figure {
+    number: 0,
+    text: "
+template T (block,*)
+template U (cyclic,cyclic(65535))
+array A local with T
+array B inout with U exchanged
+0 -> 1
+1 define A read B -> 2 3
+2 realign B with T exchanged -> 4
+3 redistribute U (block,cyclic(256)) -> 5
+4 modify A -> 5
+5
+",
+};
+
 /// Texts whose joins and orders matter.
 pub const NAMED: [Figure; 3] = [FIGURE_5, FIGURE_21, REMAPS_NOTHING];
 
@@ -284,13 +315,47 @@ pub fn varied(rng: &mut Rng, figure: &Figure) -> Program {
     program
 }
 
+/// Every program of one array, two templates and two directives or reads between entry and exit,
+/// on every graph of four vertices. One template is spread as the other exchanged.
+pub fn all_of_four_vertices() -> impl Iterator<Item = Program> {
+    let rows = Mapping(Dimension::Block, Dimension::NotSpread);
+    let other = Mapping(Dimension::Cyclic(1), Dimension::NotSpread);
+    let statements = [
+        Statement::References(vec![READ]),
+        Statement::Realign(0, Alignment::exchanged(0)),
+        Statement::Realign(0, Alignment::straight(1)),
+        Statement::Realign(0, Alignment::exchanged(1)),
+        Statement::Redistribute(0, rows.exchanged()),
+        Statement::Redistribute(0, other),
+        Statement::Redistribute(1, other),
+    ];
+    let all = statements.len();
+    (0..all * all << 9).map(move |index| {
+        let (pair, graph) = (index >> 9, index & 0x1ff);
+        let edges = (0..9).filter(|edge| graph >> edge & 1 == 1);
+        let nothing = Statement::References(vec![0]);
+        let (first, second) = (&statements[pair / all], &statements[pair % all]);
+        Program {
+            templates: vec![rows, rows.exchanged()],
+            arrays: vec![Array {
+                kind: LOCAL,
+                alignment: Alignment::straight(0),
+            }],
+            vertices: vec![nothing.clone(), first.clone(), second.clone(), nothing],
+            edges: edges
+                .map(|edge| (edge as u16 / 3, edge as u16 % 3 + 1))
+                .collect(),
+        }
+    })
+}
+
 /// The refusals that a directive file can meet.
 pub const REFUSALS: [u64; 5] = [40, 41, 42, 20, 21];
 
-/// A directive file that is refused with this number of `REFUSALS`.
-pub fn refused(rng: &mut Rng, number: u64) -> Vec<u8> {
+/// A directive file of one of the drawn sizes that is refused with this number of `REFUSALS`.
+pub fn refused(rng: &mut Rng, number: u64, any_size: fn(&mut Rng) -> Size) -> Vec<u8> {
     loop {
-        let mut size = Size::any(rng);
+        let mut size = any_size(rng);
         if number == 41 {
             size.vertices = size.vertices.max(24);
             size.spreads = 60;

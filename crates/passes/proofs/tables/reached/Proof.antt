@@ -1,6 +1,7 @@
 -- `tables::reached` meets its contract: both tables are filled and solved.
 -- Assumes nothing.
 use mathlib.Core.Path.{sym, _∙_}
+use Rattle.passes.proofs.Cells.{few-columns}
 use Rattle.passes.proofs.Steps.{reached-gives, reached-passes, reached-sets}
 use Rattle.passes.proofs.tables.reached.Statement.{statement}
 use Rattle.passes.proofs.tables.reached.Tie as tie
@@ -12,8 +13,8 @@ solve-requires : tie.Need-solve-requires
 solve-requires c κs =
     let f = c .before .before .before .before .before .before .before in
     let p = f .before .before .before .before .before .before .before .before .pre in
-    let well = p .0 .well in
-    (p .0, (p .1 .0, (reached-gives well (p .1 .1 .1 .0) (f .fill-reached .ensures .0) .size, (reached-passes well (p .1 .1 .1 .0) (f .fill-reached .ensures .1) .size, p .1 .1 .0))))
+    let few = few-columns (p .0 .well) in
+    (p .0, (p .1 .0, (reached-gives few (p .1 .1 .1 .0) (f .fill-reached .ensures .0) .size, (reached-passes few (p .1 .1 .1 .0) (f .fill-reached .ensures .1) .size, p .1 .1 .0))))
 
 same-length : tie.Need-same-length
 same-length c = c .before .before .solve .kept .1 .1 .1 .1 .1 .1 .0
@@ -28,9 +29,9 @@ returns : tie.Need-returns
 returns c =
     let f = c .before .before .before .before .before .before .before .before .before .before in
     let p = f .before .before .before .before .before .before .before .before .pre in
-    let well = p .0 .well in
+    let few = few-columns (p .0 .well) in
     let v = c .before .before .solve .ensures in
-    (reached-sets well (reached-gives well (p .1 .1 .1 .0) (f .fill-reached .ensures .0)) (reached-passes well (p .1 .1 .1 .0) (f .fill-reached .ensures .1)) (v .0), v .1)
+    (reached-sets few (reached-gives few (p .1 .1 .1 .0) (f .fill-reached .ensures .0)) (reached-passes few (p .1 .1 .1 .0) (f .fill-reached .ensures .1)) (v .0), v .1)
 
 pub reached-spec : {M : Type 1} → statement M
 reached-spec =

@@ -87,6 +87,50 @@ pub fn largest() -> Program {
     program
 }
 
+/// A directive at every vertex, redistributes and realigns in turn, of so many templates and arrays:
+/// each array is realigned with each template, straight and exchanged. All spreads are the same,
+/// also after an exchange, so that every graph is accepted.
+fn everywhere(count: usize, edges: Vec<(u16, u16)>) -> Program {
+    let spread = Mapping(Dimension::Block, Dimension::Block);
+    let mut program = Program {
+        templates: vec![spread; MAX_TEMPLATES],
+        arrays: vec![local(Alignment::straight(0)); MAX_ARRAYS],
+        vertices: Vec::new(),
+        edges,
+    };
+    program.vertices = vec![program.nothing(); MAX_VERTICES];
+    for vertex in 1..MAX_VERTICES - 1 {
+        let turn = vertex / 2;
+        let alignment = Alignment {
+            template: turn / count % count,
+            exchanged: turn / (count * count) % 2 == 1,
+        };
+        program.vertices[vertex] = match vertex % 2 {
+            0 => Statement::Redistribute(turn % count, spread),
+            _ => Statement::Realign(turn % count, alignment),
+        };
+    }
+    program
+}
+
+/// Every count at its limit, and a directive at every vertex.
+pub fn directives_everywhere() -> Program {
+    everywhere(MAX_TEMPLATES, routines::largest_plan().edges)
+}
+
+/// The last template is redistributed and the last array realigned at the highest vertices alone,
+/// and a chain of all vertices against their numbers leads from there to vertex 1: facts travel one
+/// vertex a sweep.
+pub fn directives_against_numbers() -> Program {
+    let last = MAX_TEMPLATES - 1;
+    let mut program = everywhere(last, routines::chain_both_ways().edges);
+    let highest = MAX_VERTICES - 2;
+    program.vertices[highest] = Statement::Realign(MAX_ARRAYS - 1, Alignment::exchanged(last));
+    program.vertices[highest - 1] = Statement::Redistribute(last, program.templates[last]);
+    program.vertices[1] = Statement::Realign(0, Alignment::straight(last));
+    program
+}
+
 /// A chain with room for all mappings of the last array; the others are never remapped.
 fn last_of_all(templates: Vec<Mapping>, mut statements: Vec<Statement>) -> Program {
     let last = MAX_ARRAYS - 1;

@@ -1,0 +1,63 @@
+-- `spreads::solve_template` meets its contract: the tables are filled, the pass solved, and the rows that are asked for copied.
+-- Assumes nothing.
+use mathlib.Core.Path.{sym, _∙_}
+use borrow.Author.Needs.{needs}
+use borrow.Author.Tests.{not-true}
+use Rattle.brought.proofs.SpreadRows.{spreads-solved, spreads-on}
+use Rattle.brought.proofs.spreads.solve_template.Statement.{statement}
+use Rattle.brought.proofs.spreads.solve_template.Tie as tie
+
+is-asked-requires : tie.Need-is-asked-requires
+is-asked-requires c κs = search needs
+
+returns : tie.Need-returns
+returns c =
+    let s = c .before .before .before .before .before .before .before .before .before in
+    spreads-on (s .args .t) (s .pre .1 .1 .1 .1 .0) (sym (c .before .is-asked .ensures) ∙ not-true _ (c .if1 .taken))
+
+fill-requires : tie.Need-fill-requires
+fill-requires c κs =
+    let s = c .before .before .before .before .before .before .before .before .before .before .before in
+    (s .pre .0, (s .pre .1 .1 .0, (s .pre .1 .1 .1 .0, (s .pre .1 .1 .1 .1 .1 .1 .0, s .pre .1 .1 .1 .1 .1 .1 .1))))
+
+solve-requires : tie.Need-solve-requires
+solve-requires c κs =
+    let s = c .before .before .before .before .before .before .before .before .before .before .before .before .before .before .before .before .before .before .before in
+    let filled = c .before .before .before .before .before .before .before .fill .ensures in
+    (s .pre .0, (s .pre .1 .0, (filled .0 .size, (filled .1 .size, s .pre .1 .1 .1 .1 .1 .0))))
+
+copy-asked-requires : tie.Need-copy-asked-requires
+copy-asked-requires c κs =
+    let s = c .before .before .before .before .before .before .before .before .before .before .before .before .before .before .before .before .before .before .before .before .before .before .before .before in
+    let filled = c .before .before .before .before .before .before .before .before .before .before .before .before .fill .ensures in
+    (s .pre .0, (spreads-solved (s .args .file .now) (s .args .t) (s .args .first) (filled .0) (filled .1) (c .before .before .before .before .solve .ensures .0), s .pre .1 .1 .1 .1 .0))
+
+same-length : tie.Need-same-length
+same-length c = search needs
+
+same-length-2 : tie.Need-same-length-2
+same-length-2 c = search needs
+
+same-length-3 : tie.Need-same-length-3
+same-length-3 c = search needs
+
+same-length-4 : tie.Need-same-length-4
+same-length-4 c = search needs
+
+returns-2 : tie.Need-returns-2
+returns-2 c = search needs
+
+pub solve-template-spec : {M : Type 1} → statement M
+solve-template-spec =
+    tie.close
+    (tie.spec
+    is-asked-requires
+    returns
+    fill-requires
+    solve-requires
+    copy-asked-requires
+    same-length
+    same-length-2
+    same-length-3
+    same-length-4
+    returns-2)

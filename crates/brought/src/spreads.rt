@@ -1,0 +1,211 @@
+// The spreads that paths bring each template with, by the vertices that gave them: vertex u in column u / width at bit u % width. A table has
+// eight columns from `first` on, at each realign those of its template.
+use directives::header::Header;
+use directives::vertex;
+use directives::vertex::Directive;
+use facts::directive;
+use facts::pass;
+use facts::reached;
+use labels::event;
+use sets::Set;
+ghost use mathlib.Core.Path.{_≡_};
+ghost use Prim.Native.Nat.{_+_, _*_, _≤_, _<_};
+ghost use lib.ListN.{length, getD};
+ghost use Rattle.flow.specs.Cells.{Cells};
+ghost use Rattle.words.specs.Sums.{anyBelow};
+ghost use Rattle.words.specs.Tables.{withRow};
+ghost use Rattle.directives.specs.Directives.{directive};
+ghost use Rattle.directives.specs.Fields.{DirectivesRead};
+ghost use Rattle.directives.specs.Layout.{vertices};
+ghost use Rattle.mappings.specs.Tables.{EdgeOrder, Reached, Spreads, spreadColumn};
+ghost use Rattle.brought.specs.Cells.{realignsWith, spreadGives, spreadPasses, SpreadsTo};
+
+// Whether a directive realigns an array with template t.
+fn realigns_with(t: usize, d: Directive) -> bool
+    ensures { λ r. ⌜ r ≡ realignsWith t d ⌝ }
+{
+    match d {
+        Directive::Nothing => false,
+        Directive::Realign(_, x) => x.template == t,
+        Directive::Redistribute(_, _) => false,
+    }
+}
+
+// Whether some directive does.
+fn is_asked(file: &[u8], h: Header, t: usize) -> bool
+    requires { ⌜ DirectivesRead (now file) h ⌝ }
+    ensures { λ r. ⌜ r ≡ anyBelow (λ v. realignsWith t (directive (now (file .entry)) v)) (vertices (now (file .entry))) ⌝ }
+{
+    let n = h.vertices;
+    let mut any = false;
+    let mut v = 0;
+    while v < n {
+        any = any | realigns_with(t, vertex::at(file, h, v));
+        v += 1;
+    }
+    any
+}
+
+// Both rows of vertex v, for template t.
+fn fill_row(
+    file: &[u8],
+    h: Header,
+    t: usize,
+    first: usize,
+    v: usize,
+    reached: &[Set],
+    gives: &mut [Set],
+    passes: &mut [Set],
+)
+    requires { ⌜ DirectivesRead (now file) h ⌝ }
+    requires { ⌜ first ≤ 8 ⌝ }
+    requires { ⌜ v < vertices (now file) ⌝ }
+    requires { ⌜ Reached (now file) (now reached) ⌝ }
+    requires { ⌜ length (now gives) ≡ 8 * vertices (now file) ⌝ }
+    requires { ⌜ length (now passes) ≡ 8 * vertices (now file) ⌝ }
+    ensures { λ _. ⌜ now (gives .exit) ≡ withRow (now (gives .entry)) v (λ c. spreadGives (now (file .entry)) t (first + c) v) 8 ⌝ }
+    ensures { λ _. ⌜ now (passes .exit) ≡ withRow (now (passes .entry)) v (λ c. spreadPasses (now (file .entry)) t v) 8 ⌝ }
+{
+    let gave = (v == 0) | directive::redistributes(t, vertex::at(file, h, v));
+    let given = reached::is_reached(file, reached, v) & gave;
+    let column = v / sets::WIDTH;
+    let set = sets::single((v % sets::WIDTH) as u8);
+    let mut c: usize = 0;
+    while c < flow::COLUMNS {
+        let at = flow::COLUMNS * v + c;
+        gives[at] = event::set_if(given & (column == first + c), set);
+        passes[at] = event::every_if(!gave);
+        c += 1;
+    }
+}
+
+// The tables of the pass for template t.
+fn fill(
+    file: &[u8],
+    h: Header,
+    t: usize,
+    first: usize,
+    reached: &[Set],
+    gives: &mut [Set],
+    passes: &mut [Set],
+)
+    requires { ⌜ DirectivesRead (now file) h ⌝ }
+    requires { ⌜ first ≤ 8 ⌝ }
+    requires { ⌜ Reached (now file) (now reached) ⌝ }
+    requires { ⌜ length (now gives) ≡ 8 * vertices (now file) ⌝ }
+    requires { ⌜ length (now passes) ≡ 8 * vertices (now file) ⌝ }
+    ensures { λ _. ⌜ Cells 8 (vertices (now (file .entry))) (λ c v. spreadGives (now (file .entry)) t (first + c) v) (now (gives .exit)) ⌝ }
+    ensures { λ _. ⌜ Cells 8 (vertices (now (file .entry))) (λ c v. spreadPasses (now (file .entry)) t v) (now (passes .exit)) ⌝ }
+{
+    let n = h.vertices;
+    let mut v = 0;
+    while v < n {
+        fill_row(file, h, t, first, v, reached, gives, passes);
+        v += 1;
+    }
+}
+
+// Copies the row of vertex v.
+fn copy_row(v: usize, sets: &[Set], spreads: &mut [Set])
+    requires { ⌜ v < 256 ⌝ }
+    requires { ⌜ 8 * v + 8 ≤ length (now sets) ⌝ }
+    requires { ⌜ 8 * v + 8 ≤ length (now spreads) ⌝ }
+    ensures { λ _. ⌜ now (spreads .exit) ≡ withRow (now (spreads .entry)) v (λ c. getD (now (sets .entry)) (8 * v + c) 0) 8 ⌝ }
+{
+    let mut c: usize = 0;
+    while c < flow::COLUMNS {
+        let at = flow::COLUMNS * v + c;
+        spreads[at] = sets[at];
+        c += 1;
+    }
+}
+
+// Copies the rows of the vertices that realign an array with template t.
+fn copy_asked(file: &[u8], h: Header, t: usize, first: usize, sets: &[Set], spreads: &mut [Set])
+    requires { ⌜ DirectivesRead (now file) h ⌝ }
+    requires { ⌜ Cells 8 (vertices (now file)) (λ c v. getD (spreadColumn (now file) t (first + c)) v 0) (now sets) ⌝ }
+    requires { ⌜ SpreadsTo (now file) first t (now spreads) ⌝ }
+    ensures { λ _. ⌜ SpreadsTo (now (file .entry)) first (t + 1) (now (spreads .exit)) ⌝ }
+{
+    let n = h.vertices;
+    let mut v = 0;
+    while v < n {
+        if realigns_with(t, vertex::at(file, h, v)) {
+            copy_row(v, sets, spreads);
+        }
+        v += 1;
+    }
+}
+
+// Those of template t, if a directive asks for them.
+fn solve_template(
+    file: &[u8],
+    h: Header,
+    order: &[u16],
+    t: usize,
+    first: usize,
+    reached: &[Set],
+    spreads: &mut [Set],
+    sets: &mut [Set],
+    gives: &mut [Set],
+    passes: &mut [Set],
+)
+    requires { ⌜ DirectivesRead (now file) h ⌝ }
+    requires { ⌜ EdgeOrder (now file) (now order) ⌝ }
+    requires { ⌜ first ≤ 8 ⌝ }
+    requires { ⌜ Reached (now file) (now reached) ⌝ }
+    requires { ⌜ SpreadsTo (now file) first t (now spreads) ⌝ }
+    requires { ⌜ length (now sets) ≡ 8 * vertices (now file) ⌝ }
+    requires { ⌜ length (now gives) ≡ 8 * vertices (now file) ⌝ }
+    requires { ⌜ length (now passes) ≡ 8 * vertices (now file) ⌝ }
+    ensures { λ _. ⌜ SpreadsTo (now (file .entry)) first (t + 1) (now (spreads .exit)) ⌝ }
+{
+    let asked = is_asked(file, h, t);
+    if !asked {
+        return;
+    }
+    fill(file, h, t, first, reached, gives, passes);
+    pass::solve(file, h, order, gives, passes, sets);
+    copy_asked(file, h, t, first, sets, spreads);
+}
+
+// Fills in the eight columns from `first` on. `sets`, `gives` and `passes` are work slices.
+pub fn solve(
+    file: &[u8],
+    h: Header,
+    order: &[u16],
+    first: usize,
+    reached: &[Set],
+    spreads: &mut [Set],
+    sets: &mut [Set],
+    gives: &mut [Set],
+    passes: &mut [Set],
+)
+    requires { ⌜ DirectivesRead (now file) h ⌝ }
+    requires { ⌜ EdgeOrder (now file) (now order) ⌝ }
+    requires { ⌜ first ≤ 8 ⌝ }
+    requires { ⌜ Reached (now file) (now reached) ⌝ }
+    requires { ⌜ length (now spreads) ≡ 8 * vertices (now file) ⌝ }
+    requires { ⌜ length (now sets) ≡ 8 * vertices (now file) ⌝ }
+    requires { ⌜ length (now gives) ≡ 8 * vertices (now file) ⌝ }
+    requires { ⌜ length (now passes) ≡ 8 * vertices (now file) ⌝ }
+    ensures { λ _. ⌜ Spreads (now (file .entry)) first (now (spreads .exit)) ⌝ }
+{
+    let n = h.templates;
+    let mut t = 0;
+    while t < n {
+        solve_template(
+            file,
+            h,
+            order,
+            t,
+            first,
+            reached,
+            spreads,
+            sets,
+            gives,
+            passes,
+        );
+        t += 1;
+    }
+}

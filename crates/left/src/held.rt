@@ -1,0 +1,104 @@
+// The versions in which paths bring each array while it is aligned with template t.
+use directives::array;
+use directives::header::Header;
+use directives::vertex;
+use directives::vertex::Directive;
+use facts::directive;
+use facts::pass;
+use labels::event;
+use sets::Set;
+ghost use mathlib.Core.Path.{_≡_};
+ghost use Prim.Native.Nat.{_+_, _*_, _<_};
+ghost use lib.ListN.{length, getD};
+ghost use Rattle.words.specs.Tables.{withRow};
+ghost use Rattle.directives.specs.Directives.{directive};
+ghost use Rattle.directives.specs.Fields.{DirectivesRead};
+ghost use Rattle.directives.specs.Layout.{arrays, vertices};
+ghost use Rattle.mappings.specs.Computed.{heldSets};
+ghost use Rattle.mappings.specs.Tables.{EdgeOrder, ArrayCells, Given};
+ghost use Rattle.left.specs.Cells.{heldGives, heldPasses};
+
+// What vertex v, whose directive is d and gives array a these versions, gives it with template t.
+fn gives_at(file: &[u8], h: Header, t: usize, a: usize, v: usize, d: Directive, given: Set) -> Set
+    requires { ⌜ DirectivesRead (now file) h ⌝ }
+    requires { ⌜ a < arrays (now file) ⌝ }
+    requires { ⌜ d ≡ directive (now file) v ⌝ }
+    requires { ⌜ v < vertices (now file) ⌝ }
+    ensures { λ r. ⌜ r ≡ heldGives (now (file .entry)) t a v given ⌝ }
+{
+    if v == 0 {
+        return event::set_if(array::initial_alignment(file, h, a).template == t, 1);
+    }
+    event::set_if(directive::aligns_with(t, d), given)
+}
+
+// Both rows of vertex v.
+fn fill_row(
+    file: &[u8],
+    h: Header,
+    t: usize,
+    v: usize,
+    given: &[Set],
+    gives: &mut [Set],
+    passes: &mut [Set],
+)
+    requires { ⌜ DirectivesRead (now file) h ⌝ }
+    requires { ⌜ v < vertices (now file) ⌝ }
+    requires { ⌜ Given (now file) (now given) ⌝ }
+    requires { ⌜ length (now gives) ≡ 8 * vertices (now file) ⌝ }
+    requires { ⌜ length (now passes) ≡ 8 * vertices (now file) ⌝ }
+    ensures { λ _. ⌜ now (gives .exit)
+        ≡ withRow (now (gives .entry)) v (λ a. heldGives (now (file .entry)) t a v (getD (now (given .entry)) (8 * v + a) 0)) (arrays (now (file .entry))) ⌝ }
+    ensures { λ _. ⌜ now (passes .exit) ≡ withRow (now (passes .entry)) v (λ a. heldPasses (now (file .entry)) t a v) (arrays (now (file .entry))) ⌝ }
+{
+    let d = vertex::at(file, h, v);
+    let spread = directive::redistributes(t, d);
+    let m = h.arrays;
+    let mut a = 0;
+    while a < m {
+        let at = flow::COLUMNS * v + a;
+        gives[at] = gives_at(file, h, t, a, v, d, given[at]);
+        passes[at] = event::every_if(!(directive::realigns(a, d) | spread));
+        a += 1;
+    }
+}
+
+// The tables of the pass.
+fn fill(file: &[u8], h: Header, t: usize, given: &[Set], gives: &mut [Set], passes: &mut [Set])
+    requires { ⌜ DirectivesRead (now file) h ⌝ }
+    requires { ⌜ Given (now file) (now given) ⌝ }
+    requires { ⌜ length (now gives) ≡ 8 * vertices (now file) ⌝ }
+    requires { ⌜ length (now passes) ≡ 8 * vertices (now file) ⌝ }
+    ensures { λ _. ⌜ ArrayCells (now (file .entry)) (λ a v. heldGives (now (file .entry)) t a v (getD (now (given .entry)) (8 * v + a) 0)) (now (gives .exit)) ⌝ }
+    ensures { λ _. ⌜ ArrayCells (now (file .entry)) (heldPasses (now (file .entry)) t) (now (passes .exit)) ⌝ }
+{
+    let n = h.vertices;
+    let mut v = 0;
+    while v < n {
+        fill_row(file, h, t, v, given, gives, passes);
+        v += 1;
+    }
+}
+
+// Fills in the versions. `gives` and `passes` are work slices.
+pub fn solve(
+    file: &[u8],
+    h: Header,
+    order: &[u16],
+    t: usize,
+    given: &[Set],
+    held: &mut [Set],
+    gives: &mut [Set],
+    passes: &mut [Set],
+)
+    requires { ⌜ DirectivesRead (now file) h ⌝ }
+    requires { ⌜ EdgeOrder (now file) (now order) ⌝ }
+    requires { ⌜ Given (now file) (now given) ⌝ }
+    requires { ⌜ length (now held) ≡ 8 * vertices (now file) ⌝ }
+    requires { ⌜ length (now gives) ≡ 8 * vertices (now file) ⌝ }
+    requires { ⌜ length (now passes) ≡ 8 * vertices (now file) ⌝ }
+    ensures { λ _. ⌜ ArrayCells (now (file .entry)) (λ a v. getD (heldSets (now (file .entry)) a t) v 0) (now (held .exit)) ⌝ }
+{
+    fill(file, h, t, given, gives, passes);
+    pass::solve(file, h, order, gives, passes, held);
+}

@@ -1,0 +1,58 @@
+//! What request 4 promises of references, on a report: the report has each reference of the
+//! directive file along the path, in a version whose mapping is the one that the directives give.
+
+use super::meaning::State;
+use super::{Mapping, Program, Statement};
+use crate::run;
+
+/// The bytes of a report for an array, and for a reference.
+const HEAD: usize = 6;
+const RECORD: usize = 10;
+
+/// A reference: its step, its array, and its byte in the row.
+type Found = (usize, usize, u8);
+
+/// The references that a report tells, and the version of each.
+fn told(report: &[u8], arrays: usize) -> impl Iterator<Item = (Found, u8)> {
+    let records = report[HEAD * arrays..].chunks_exact(RECORD);
+    records.map(|record| {
+        let step = usize::from(u16::from_le_bytes([record[0], record[1]]));
+        ((step, record[2].into(), record[4] << 4), record[3])
+    })
+}
+
+/// Holds a report of a path against the directives; gives the number of references. `versions` has
+/// for each array the mappings of its versions.
+pub fn of_report(
+    program: &Program,
+    versions: &[Vec<Mapping>],
+    path: &[u8],
+    report: &[u8],
+) -> Result<usize, String> {
+    let mut told = told(report, program.arrays.len());
+    let mut state = State::initial(program);
+    let mut references = 0;
+    for (before, vertex) in run::vertices(path).enumerate() {
+        let statement = &program.vertices[vertex];
+        if let Statement::References(row) = statement {
+            for (array, &byte) in row.iter().enumerate().filter(|(_, byte)| **byte != 0) {
+                let due = (before + 1, array, byte);
+                let (found, version) = told.next().unwrap_or_default();
+                let mapping = versions[array].get(usize::from(version));
+                let given = state.mapping(array);
+                if found != due {
+                    return Err(format!("reference {found:?}, due {due:?}"));
+                }
+                if mapping != Some(&given) {
+                    return Err(format!("{due:?}: version {version}, due {given}"));
+                }
+                references += 1;
+            }
+        }
+        state = state.after(statement);
+    }
+    match told.next() {
+        None => Ok(references),
+        Some((found, _)) => Err(format!("reference {found:?}, none is due")),
+    }
+}
