@@ -1,5 +1,5 @@
 /* Array remapping by copies: hpf_plan plans the copies of a routine, hpf_run runs a path through it, hpf_convert makes
- * a routine of directives.
+ * a routine of directives, hpf_rounds tells what planning took.
  *
  * Memory    A call reads the bytes and writes the buffer that its caller lends. It keeps no state and takes no heap,
  *           and less than 48 KiB of stack. Any number of threads may call at once, each with a buffer of its own.
@@ -10,39 +10,40 @@
  *           indices count from 0, the steps of a path from 1. A set of versions has 16 bits, bit k for version k.
  * Linking   C and C++ programs link libremap.a, which is for x86-64 Linux and needs at most memcpy and memset.
  *
- * What a call answers, P hpf_plan, R hpf_run, C hpf_convert; a number with two reasons has a line for each.
+ * What a call answers, P hpf_plan, R hpf_run, C hpf_convert, N hpf_rounds; a number with two reasons has a line for
+ * each.
  *
  *   number  calls     what it says                                            first                       second
  *   ------  --------  ------------------------------------------------------  --------------------------  ------
- *      0    P R C     done                                                    length written              0
+ *      0    P R C N   done                                                    length written              0
  *
  *   The library's caller
- *      1    P C       the buffer is too short                                 length needed               0
+ *      1    P C N     the buffer is too short                                 length needed               0
  *      2    R         the buffer is too short                                 length needed               0
  *
  *   The writer of the routine file
- *     10    P R       the file has under 18 bytes                             its length                  0
+ *     10    P R N     the file has under 18 bytes                             its length                  0
  *                     its mark is not `HPFR`                                  0                           0
- *     11    P R       the edition is not 1                                    4                           0
- *     12    P R       a count is outside its limits                           its first byte: 8, 12, 16   0
- *     13    P R       an offset is wrong                                      its first byte: 6, 10, 14   0
+ *     11    P R N     the edition is not 1                                    4                           0
+ *     12    P R N     a count is outside its limits                           its first byte: 8, 12, 16   0
+ *     13    P R N     an offset is wrong                                      its first byte: 6, 10, 14   0
  *                     the file does not end with its last edge                18                          0
- *     14    P R       array: kind above 3, versions not 1 to 16, initial      the byte                    0
+ *     14    P R N     array: kind above 3, versions not 1 to 16, initial      the byte                    0
  *                     version not below them, or last byte not zero
- *     15    P R       action: unknown                                         the byte                    0
- *     16    P R       edge: an end not below the vertex count, into the       its first byte              0
+ *     15    P R N     action: unknown                                         the byte                    0
+ *     16    P R N     edge: an end not below the vertex count, into the       its first byte              0
  *                     entry, out of the exit, or not above the edge before
- *     17    P R       action: a remapping to, or a call with, a version       the byte                    0
+ *     17    P R N     action: a remapping to, or a call with, a version       the byte                    0
  *                     not below the array's versions
- *     18    P R       action: not 00 at entry or exit                         the byte                    0
- *     19    P R       action: a reference, remapping or call where an         the byte                    0
+ *     18    P R N     action: not 00 at entry or exit                         the byte                    0
+ *     19    P R N     action: a reference, remapping or call where an         the byte                    0
  *                     earlier byte of its vertex is one of another sort
- *     22    P R       the expanded routine has more than 256 vertices         how many                    0
+ *     22    P R N     the expanded routine has more than 256 vertices         how many                    0
  *
  *   The routine's programmer
- *     20    P R C     an in argument is defined, modified, or passed as       vertex                      array
+ *     20    P R C N   an in argument is defined, modified, or passed as       vertex                      array
  *                     out or inout
- *     21    P R C     a reference or a call is ambiguous: two paths from      vertex                      array
+ *     21    P R C N   a reference or a call is ambiguous: two paths from      vertex                      array
  *                     the entry bring different versions to it
  *     41    C         an array has more than 16 mappings: that with which     array                       0
  *                     it starts, and all that a directive can give it on
@@ -83,12 +84,12 @@ typedef struct {
 } hpf_outcome;
 
 /* Lengths in bytes that always suffice, and the most vertices of a path (two bytes each). Most reports are far
- * shorter: with an empty buffer (null, 0) hpf_run answers 2 and the length needed, as hpf_plan and hpf_convert
- * answer 1. */
+ * shorter: with an empty buffer (null, 0) hpf_run answers 2 and the length needed, as the other calls answer 1. */
 #define HPF_LARGEST_DIRECTIVES 9334 /* 22 + 8 * 8 + 4 * 8 + 256 * (12 + 8) + 4 * 1024 */
 #define HPF_LARGEST_ROUTINE 6194    /* 18 + 4 * 8 + 256 * 8 + 4 * 1024 */
 #define HPF_LARGEST_PLAN 17416      /* 8 + 4 * 256 + 8 * 256 * 8 */
 #define HPF_LARGEST_REPORT 327648   /* 6 * 8 + 10 * 4095 * 8: at the entry stands no reference */
+#define HPF_LARGEST_ROUNDS 12       /* 2 * 6 */
 #define HPF_LONGEST_PATH 4096
 
 /* Plans a routine.
@@ -247,6 +248,32 @@ hpf_outcome hpf_run(const uint8_t *routine, size_t routine_len,
  * 41, 10, 00.
  */
 hpf_outcome hpf_convert(const uint8_t *directives, size_t directives_len, uint8_t *routine, size_t routine_len);
+
+/* Tells how many rounds over the edges each pass of the planner takes for a routine. It answers as hpf_plan does, but 1
+ * by the length of the rounds.
+ *
+ * A pass finds a set for each vertex and array. A round takes every edge once that could alter a set, and hands on what
+ * is known at its one end to the other; the pass ends with the first round that alters no set. That round counts too:
+ * every earlier one altered a set. So a pass that is made has at least 1, and at most its vertices and one more.
+ *
+ *   rounds         bytes  of a routine without calls
+ *   -------------  -----  ----------------------------------------------------------------------------------------
+ *   0, 2, 4, 6     2 each letters (what segments meet); reached vertices; reaching sets; kept sets
+ *
+ *   rounds         bytes  of a routine with calls
+ *   -------------  -----  ----------------------------------------------------------------------------------------
+ *   0              2      reached vertices, of the file; 0 where each vertex but the entry is entered from an earlier
+ *                         one, so that all are reached and no pass is made
+ *   2              2      versions that arrive at the calls, of the file
+ *   4, 6, 8, 10    2 each letters, reached vertices, reaching sets and kept sets, of the expanded routine
+ *
+ * This is the order in which the passes are made. In which order a round takes the edges is the library's own: the
+ * numbers are those of that order, and may be others in another edition of the library. The plan is the same with any.
+ *
+ * Two or three is ordinary. As many as vertices tells that a fact travels by one vertex a round, against the order in
+ * which the edges are taken; numbering vertices in the order in which paths mostly pass them helps.
+ */
+hpf_outcome hpf_rounds(const uint8_t *routine, size_t routine_len, uint8_t *rounds, size_t rounds_len);
 
 #ifdef __cplusplus
 }

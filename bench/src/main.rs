@@ -1,10 +1,7 @@
 //! Times of the verified library and of the oracle on the same inputs, in one process: medians
 //! of repeated batches, taken in turn: plans, runs and conversions of directive files. For a plan
-//! also the rounds over the edges. Then times of the library on routines with calls and on the same
+//! also the rounds over the edges that the library's passes take. Then times of the library on routines with calls and on the same
 //! routines written out without calls.
-
-mod order;
-mod rounds;
 
 use std::collections::{BTreeSet, HashSet};
 use std::hint::black_box;
@@ -13,16 +10,14 @@ use std::time::{Duration, Instant};
 use compare::VERIFIED;
 use harness::library::{Input, Library, ORACLE};
 use oracle::builder::{self, DEFINE, Draft, LOCAL, MODIFY, READ, call_in, call_inout, call_out};
-use oracle::calls::Room;
 use oracle::directives::Program;
 use oracle::directives::figures::FIGURE_10;
 use oracle::generate::rng::Rng;
 use oracle::generate::routines::{self, Size};
 use oracle::generate::{directives, limits, paths};
-use oracle::labels::fixpoint;
-use oracle::routine::{MAX_VERTICES, Routine};
+use oracle::rounds::LONGEST_ROUNDS;
+use oracle::routine::MAX_VERTICES;
 use oracle::run::{LONGEST_REPORT, MAX_PATH};
-use rounds::Rounds;
 
 const SEED: u64 = 1;
 const BATCHES: usize = 31;
@@ -245,19 +240,43 @@ fn check(name: &str, sides: &[Side; 2]) {
     }
 }
 
-/// The most rounds of a plan's passes, its calls expanded; other calls have no column for them.
+/// The heads of the columns of rounds: the first two are of the file, if it has calls.
+const HEADS: &str = "  file: reached arriving  letters  reached reaching     kept";
+
+/// The rounds of the library's passes for a routine, in the columns of all six.
+fn rounds(routine: &[u8]) -> [u16; 6] {
+    let mut out = [0; LONGEST_ROUNDS];
+    let answer = (VERIFIED.rounds)(routine, &mut out);
+    assert_eq!(answer.number, 0, "{answer:?}");
+    let words = out[..answer.first as usize].as_chunks::<2>().0;
+    let mut rounds = [0; 6];
+    for (number, word) in rounds[6 - words.len()..].iter_mut().zip(words) {
+        *number = u16::from_le_bytes(*word);
+    }
+    rounds
+}
+
+/// The most rounds of each pass for the plans of a line; other calls have no columns for them, and
+/// what no pass took has no number.
 fn rounds_of(line: &Line) -> String {
-    let routines = line.inputs.iter().filter_map(|input| match input {
-        Input::Plan { routine } => Routine::parse(routine).ok(),
+    let plans = line.inputs.iter().filter_map(|input| match input {
+        Input::Plan { routine } => Some(rounds(routine)),
         _ => None,
     });
-    routines
-        .map(|routine| {
-            let mut room = Room::EMPTY;
-            Rounds::of(&fixpoint::expanded(&routine, &mut room))
-        })
-        .reduce(Rounds::most)
-        .map_or_else(String::new, |rounds| rounds.to_string())
+    let Some(most) =
+        plans.reduce(|most, more| std::array::from_fn(|pass| most[pass].max(more[pass])))
+    else {
+        return String::new();
+    };
+    let widths = [15, 9, 9, 9, 9, 9];
+    let columns = most
+        .iter()
+        .zip(widths)
+        .map(|(&number, width)| match number {
+            0 => " ".repeat(width),
+            number => format!("{number:width$}"),
+        });
+    columns.collect()
 }
 
 /// The time of one call, from `turns` through the inputs.
@@ -326,12 +345,7 @@ fn main() {
     println!("the buffer is not cleared between calls: each call finds what the one before wrote");
     println!(
         "{:36} {:>9} {:>9} {:>7} {:>11}{}",
-        "",
-        "library",
-        "Rust",
-        "ratio",
-        "calls/s",
-        rounds::HEADS
+        "", "library", "Rust", "ratio", "calls/s", HEADS
     );
     let calls = calls();
     for line in lines().iter().chain(&calls).chain(&conversions()) {

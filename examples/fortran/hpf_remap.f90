@@ -4,13 +4,14 @@ module hpf_remap
   use iso_c_binding, only: c_int64_t, c_int8_t, c_size_t
   implicit none
   private
-  public :: hpf_outcome, hpf_plan, hpf_run, hpf_convert
+  public :: hpf_outcome, hpf_plan, hpf_run, hpf_convert, hpf_rounds
 
   ! Sizes in bytes that always suffice, and the most vertices of a path.
   integer, parameter, public :: hpf_largest_directives = 9334
   integer, parameter, public :: hpf_largest_routine = 6194
   integer, parameter, public :: hpf_largest_plan = 17416
   integer, parameter, public :: hpf_largest_report = 327648
+  integer, parameter, public :: hpf_largest_rounds = 12
   integer, parameter, public :: hpf_longest_path = 4096
 
   ! In C these are unsigned. No answer comes near 2**63, so that none is negative here.
@@ -47,5 +48,14 @@ module hpf_remap
       integer(c_size_t), value :: routine_len
       type(hpf_outcome) :: outcome
     end function hpf_convert
+
+    function hpf_rounds(routine, routine_len, rounds, rounds_len) bind(c) result(outcome)
+      import :: hpf_outcome, c_int8_t, c_size_t
+      integer(c_int8_t), intent(in) :: routine(*)
+      integer(c_size_t), value :: routine_len
+      integer(c_int8_t), intent(inout) :: rounds(*)
+      integer(c_size_t), value :: rounds_len
+      type(hpf_outcome) :: outcome
+    end function hpf_rounds
   end interface
 end module hpf_remap

@@ -13,7 +13,7 @@ ghost use mathlib.Core.Path.{_≡_};
 ghost use mathlib.Core.Bool.{cond};
 ghost use Prim.Native.Nat.{_*_, _^_, _<_};
 ghost use lib.ListN.{length};
-ghost use Rattle.flow.specs.Cells.{Cells};
+ghost use Rattle.flow.specs.Cells.{Cells, NoneBeyond};
 ghost use Rattle.words.specs.Tables.{withRow};
 ghost use Rattle.directives.specs.Fields.{DirectivesRead};
 ghost use Rattle.directives.specs.Layout.{arrays, vertices};
@@ -22,6 +22,7 @@ ghost use Rattle.mappings.specs.Computed.{alignmentOf, code};
 ghost use Rattle.mappings.specs.Tables.{EdgeOrder, Reached, Alignments};
 ghost use Rattle.mappings.specs.Theorem.{Right};
 ghost use Rattle.brought.specs.Cells.{alignGives, alignPasses};
+ghost use Rattle.brought.specs.Counted.{AlignmentsStop};
 
 // All alignments: 2 for each of 8 templates.
 const EVERY: Set = 0xffff;
@@ -89,14 +90,16 @@ fn fill_row(
     }
 }
 
-// The tables of the pass.
+// The tables of the pass, where nothing stands in the columns of `gives` beyond the arrays.
 fn fill(file: &[u8], h: Header, reached: &[Set], gives: &mut [Set], passes: &mut [Set])
     requires { ⌜ DirectivesRead (now file) h ⌝ }
     requires { ⌜ Reached (now file) (now reached) ⌝ }
     requires { ⌜ length (now gives) ≡ 8 * vertices (now file) ⌝ }
     requires { ⌜ length (now passes) ≡ 8 * vertices (now file) ⌝ }
+    requires { ⌜ NoneBeyond (arrays (now file)) (vertices (now file)) (now gives) ⌝ }
     ensures { λ _. ⌜ Cells (arrays (now (file .entry))) (vertices (now (file .entry))) (alignGives (now (file .entry))) (now (gives .exit)) ⌝ }
     ensures { λ _. ⌜ Cells (arrays (now (file .entry))) (vertices (now (file .entry))) (alignPasses (now (file .entry))) (now (passes .exit)) ⌝ }
+    ensures { λ _. ⌜ NoneBeyond (arrays (now (file .entry))) (vertices (now (file .entry))) (now (gives .exit)) ⌝ }
 {
     let n = h.vertices;
     let mut v = 0;
@@ -106,7 +109,7 @@ fn fill(file: &[u8], h: Header, reached: &[Set], gives: &mut [Set], passes: &mut
     }
 }
 
-// Fills in the alignments. `gives` and `passes` are work slices.
+// Fills in the alignments. `gives` and `passes` are work slices. Returns the number of rounds.
 pub fn solve(
     file: &[u8],
     h: Header,
@@ -115,7 +118,7 @@ pub fn solve(
     aligned: &mut [Set],
     gives: &mut [Set],
     passes: &mut [Set],
-)
+) -> usize
     requires { ⌜ DirectivesRead (now file) h ⌝ }
     requires { ⌜ EdgeOrder (now file) (now order) ⌝ }
     requires { ⌜ Reached (now file) (now reached) ⌝ }
@@ -123,7 +126,9 @@ pub fn solve(
     requires { ⌜ length (now gives) ≡ 8 * vertices (now file) ⌝ }
     requires { ⌜ length (now passes) ≡ 8 * vertices (now file) ⌝ }
     ensures { λ _. ⌜ Alignments (now (file .entry)) (now (aligned .exit)) ⌝ }
+    ensures { λ r. ⌜ AlignmentsStop (now (file .entry)) r ⌝ }
 {
+    flow::clear(gives);
     fill(file, h, reached, gives, passes);
-    pass::solve(file, h, order, gives, passes, aligned);
+    pass::solve(file, h, order, gives, passes, aligned)
 }

@@ -19,6 +19,7 @@ ghost use Rattle.directives.specs.Fields.{DirectivesRead};
 ghost use Rattle.directives.specs.Layout.{vertices};
 ghost use Rattle.mappings.specs.Tables.{EdgeOrder, Reached, Spreads, spreadColumn};
 ghost use Rattle.brought.specs.Cells.{realignsWith, spreadGives, spreadPasses, SpreadsTo};
+ghost use Rattle.brought.specs.Counted.{SpreadsAsked};
 
 // Whether a directive realigns an array with template t.
 fn realigns_with(t: usize, d: Directive) -> bool
@@ -137,7 +138,7 @@ fn copy_asked(file: &[u8], h: Header, t: usize, first: usize, sets: &[Set], spre
     }
 }
 
-// Those of template t, if a directive asks for them.
+// Those of template t, if a directive asks for them. Returns the number of rounds, 0 if none does.
 fn solve_template(
     file: &[u8],
     h: Header,
@@ -149,7 +150,7 @@ fn solve_template(
     sets: &mut [Set],
     gives: &mut [Set],
     passes: &mut [Set],
-)
+) -> usize
     requires { ⌜ DirectivesRead (now file) h ⌝ }
     requires { ⌜ EdgeOrder (now file) (now order) ⌝ }
     requires { ⌜ first ≤ 8 ⌝ }
@@ -159,14 +160,16 @@ fn solve_template(
     requires { ⌜ length (now gives) ≡ 8 * vertices (now file) ⌝ }
     requires { ⌜ length (now passes) ≡ 8 * vertices (now file) ⌝ }
     ensures { λ _. ⌜ SpreadsTo (now (file .entry)) first (t + 1) (now (spreads .exit)) ⌝ }
+    ensures { λ r. ⌜ SpreadsAsked (now (file .entry)) t first r ⌝ }
 {
     let asked = is_asked(file, h, t);
     if !asked {
-        return;
+        return 0;
     }
     fill(file, h, t, first, reached, gives, passes);
-    pass::solve(file, h, order, gives, passes, sets);
+    let rounds = pass::solve(file, h, order, gives, passes, sets);
     copy_asked(file, h, t, first, sets, spreads);
+    rounds
 }
 
 // Fills in the eight columns from `first` on. `sets`, `gives` and `passes` are work slices.

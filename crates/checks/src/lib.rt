@@ -25,6 +25,23 @@ ghost use Rattle.routine.specs.Layout.{arrays, vertices, edges};
 ghost use Rattle.refusal.specs.declared.Refusal.the-variants.{WritesInArgument, AmbiguousReference};
 ghost use Rattle.sets.specs.Sets.{has, several};
 
+// What `prepare` answers, and the rounds of the passes that it made: those for the letters, the vertices that are reached and the reaching
+// sets. All are 0 where 20 refuses, since none is made.
+pub struct Prepared {
+    pub verdict: Verdict,
+    pub letters: usize,
+    pub reached: usize,
+    pub reaching: usize,
+}
+
+// What `judge` answers, and the rounds of the passes that it made: that for the vertices that are reached, 0 if it was not needed, and that
+// for the versions that paths bring. Both are 0 where 20 refuses.
+pub struct Judgement {
+    pub verdict: Verdict,
+    pub reached: usize,
+    pub brought: usize,
+}
+
 // Whether a cell that gives this to the sets of use is a write that this mask looks for.
 fn is_write(uses: Set, mask: Set) -> bool
     ensures { λ r. ⌜ r ≡ not (eqb (bitAnd uses mask) 0) ⌝ }
@@ -225,7 +242,7 @@ fn check(
     reaching: &mut [Set],
     gives: &mut [Set],
     passes: &mut [Set],
-) -> Verdict
+) -> Prepared
     requires { ⌜ ReadAs (now file) h ⌝ }
     requires { ⌜ EdgeOrder (now file) (now order) ⌝ }
     requires { ⌜ Versions (now file) (now versions) ⌝ }
@@ -239,12 +256,23 @@ fn check(
 {
     let writes = check_writes(file, h, uses);
     if let Verdict::Failed(_) = writes {
-        return writes;
+        return Prepared {
+            verdict: writes,
+            letters: 0,
+            reached: 0,
+            reaching: 0,
+        };
     }
-    let rounds = tables::letters(file, h, order, uses, letters, reaching, passes);
-    pass::reorder(file, h, order, rounds);
-    tables::reaching(file, h, order, versions, letters, reaching, gives, passes);
-    check_ambiguous(file, h, uses, reaching)
+    let first = tables::letters(file, h, order, uses, letters, reaching, passes);
+    pass::reorder(file, h, order, first);
+    let next = tables::reaching(file, h, order, versions, letters, reaching, gives, passes);
+    let verdict = check_ambiguous(file, h, uses, reaching);
+    Prepared {
+        verdict,
+        letters: first,
+        reached: next.reached,
+        reaching: next.sets,
+    }
 }
 
 // The order of the edges, the tables of events, then refusals 20 and 21. Where both pass, `letters` and `reaching` are left with their
@@ -259,7 +287,7 @@ pub fn prepare(
     reaching: &mut [Set],
     gives: &mut [Set],
     passes: &mut [Set],
-) -> Verdict
+) -> Prepared
     requires { ⌜ ReadAs (now file) h ⌝ }
     requires { ⌜ length (now order) ≡ edges (now file) ⌝ }
     requires { ⌜ length (now versions) ≡ 8 * vertices (now file) ⌝ }
@@ -297,7 +325,7 @@ pub fn judge(
     brought: &mut [Set],
     gives: &mut [Set],
     passes: &mut [Set],
-) -> Verdict
+) -> Judgement
     requires { ⌜ ReadAs (now file) h ⌝ }
     requires { ⌜ length (now order) ≡ edges (now file) ⌝ }
     requires { ⌜ length (now versions) ≡ 8 * vertices (now file) ⌝ }
@@ -311,8 +339,17 @@ pub fn judge(
     events::tabulate(file, h, versions, uses);
     let writes = check_writes(file, h, uses);
     if let Verdict::Failed(_) = writes {
-        return writes;
+        return Judgement {
+            verdict: writes,
+            reached: 0,
+            brought: 0,
+        };
     }
-    tables::brought(file, h, order, versions, brought, gives, passes);
-    check_ambiguous(file, h, uses, brought)
+    let rounds = tables::brought(file, h, order, versions, brought, gives, passes);
+    let verdict = check_ambiguous(file, h, uses, brought);
+    Judgement {
+        verdict,
+        reached: rounds.reached,
+        brought: rounds.sets,
+    }
 }

@@ -99,7 +99,8 @@ fn judge(
     ensures { λ r. ⌜ r ≡ programmerCheck (converted (now (file .entry))) ⌝ }
 {
     let r = writer::header_of(file, h);
-    checks::judge(routine, r, order, versions, uses, brought, gives, passes)
+    let answer = checks::judge(routine, r, order, versions, uses, brought, gives, passes);
+    answer.verdict
 }
 
 // Writes the routine into `work`, and checks it. The slices behind `counts` are work slices.

@@ -11,6 +11,7 @@ use Rattle.calls.proofs.Formed.{expanded-formed}
 use Rattle.calls.specs.Checks.{callsCheck}
 use Rattle.calls.specs.Expanded.{expanded}
 use Rattle.expansion.specs.Expansion.{Expansion}
+use Rattle.expansion.specs.declared.Expanded.{Expanded}
 use Rattle.labels.specs.Routines.{ReadAs}
 use Rattle.refusal.specs.declared.Refusal.{Refusal}
 use Rattle.refusal.specs.declared.Verdict.the-variants.{Passed, Failed}
@@ -19,14 +20,13 @@ use Rattle.routine.proofs.Form.{heads, few-actions}
 use Rattle.routine.specs.Layout.{headerOf}
 use Rattle.routine.specs.Reader.{WellFormed, readCheck}
 use Rattle.routine.specs.declared.header.Header.{Header}
-use Rattle.routine.specs.declared.reader.Answer.{Answer}
 use Rattle.routine.specs.declared.reader.Answer.the-variants.{Routine, Refused}
 
-module _ {file : List ℕ} {answer : Answer} {after : List ℕ} (x : Expansion file answer after) where
-  pub calls-failed : {r : Refusal} → answer ≡ Refused r → callsCheck file ≡ Failed r
+module _ {file : List ℕ} {result : Expanded} {after : List ℕ} (x : Expansion file result after) where
+  pub calls-failed : {r : Refusal} → result .answer ≡ Refused r → callsCheck file ≡ Failed r
   calls-failed e = answered-failed (callsCheck file) (headerOf (expanded file)) (sym (x .answers) ∙ e)
 
-  module _ {h : Header} (e : answer ≡ Routine h) where
+  module _ {h : Header} (e : result .answer ≡ Routine h) where
     passed : (callsCheck file ≡ Passed) × (h ≡ headerOf (expanded file))
     passed = answered-passed (callsCheck file) (headerOf (expanded file)) h (sym (x .answers) ∙ e)
 

@@ -3,6 +3,7 @@
 use calls::expanded;
 use calls::references;
 use calls::scan;
+use checks::Judgement;
 use refusal::Refusal;
 use refusal::Verdict;
 use routine::header::Header;
@@ -18,6 +19,14 @@ ghost use Rattle.expansion.specs.Expansion.{JudgedCalls, Expansion};
 ghost use Rattle.labels.specs.Routines.{ReadAs};
 ghost use Rattle.routine.specs.Layout.{vertices, edges};
 
+// What becomes of a file with calls, and the rounds of the passes that were made for it: that for the vertices that are reached, 0 if it was
+// not needed, and that for the versions that arrive. Both are 0 where 22 or 20 refuses.
+pub struct Expanded {
+    pub answer: Answer,
+    pub reached: usize,
+    pub arriving: usize,
+}
+
 // 20 and 21 of the file with calls as references, which is written into `judged`. Where both pass, `brought` is left with the versions that
 // arrive at its vertices. `order` holds an entry for each edge, the other tables eight for each vertex.
 fn judge(
@@ -30,7 +39,7 @@ fn judge(
     brought: &mut [Set],
     gives: &mut [Set],
     passes: &mut [Set],
-) -> Verdict
+) -> Judgement
     requires { ⌜ ReadAs (now file) h ⌝ }
     requires { ⌜ Interfaces (now file) ⌝ }
     requires { ⌜ length (now judged) ≡ length (now file) ⌝ }
@@ -59,7 +68,7 @@ fn expand_with(
     brought: &mut [Set],
     gives: &mut [Set],
     passes: &mut [Set],
-) -> Answer
+) -> Expanded
     requires { ⌜ ReadAs (now file) h ⌝ }
     requires { ⌜ Expandable (now file) ⌝ }
     requires { ⌜ Firsts (now file) (now firsts) ⌝ }
@@ -85,10 +94,20 @@ fn expand_with(
         gives,
         passes,
     );
-    if let Verdict::Failed(r) = judged {
-        return Answer::Refused(r);
+    let verdict = judged.verdict;
+    if let Verdict::Failed(r) = verdict {
+        return Expanded {
+            answer: Answer::Refused(r),
+            reached: judged.reached,
+            arriving: judged.brought,
+        };
     }
-    Answer::Routine(expanded::write(file, h, brought, firsts, count, out))
+    let e = expanded::write(file, h, brought, firsts, count, out);
+    Expanded {
+        answer: Answer::Routine(e),
+        reached: judged.reached,
+        arriving: judged.brought,
+    }
 }
 
 // The same with work slices that are large enough.
@@ -104,7 +123,7 @@ fn expand_within(
     brought: &mut [Set],
     gives: &mut [Set],
     passes: &mut [Set],
-) -> Answer
+) -> Expanded
     requires { ⌜ ReadAs (now file) h ⌝ }
     requires { ⌜ Expandable (now file) ⌝ }
     requires { ⌜ Firsts (now file) (now firsts) ⌝ }
@@ -136,7 +155,7 @@ fn expand_within(
 }
 
 // With tables for any file.
-fn expand_large(file: &[u8], h: Header, firsts: &[u16], count: usize, out: &mut [u8]) -> Answer
+fn expand_large(file: &[u8], h: Header, firsts: &[u16], count: usize, out: &mut [u8]) -> Expanded
     requires { ⌜ ReadAs (now file) h ⌝ }
     requires { ⌜ Expandable (now file) ⌝ }
     requires { ⌜ Firsts (now file) (now firsts) ⌝ }
@@ -166,7 +185,7 @@ fn expand_large(file: &[u8], h: Header, firsts: &[u16], count: usize, out: &mut 
 }
 
 // With tables for at most 32 vertices and 128 edges, as `plan` has them for small routines.
-fn expand_small(file: &[u8], h: Header, firsts: &[u16], count: usize, out: &mut [u8]) -> Answer
+fn expand_small(file: &[u8], h: Header, firsts: &[u16], count: usize, out: &mut [u8]) -> Expanded
     requires { ⌜ ReadAs (now file) h ⌝ }
     requires { ⌜ Expandable (now file) ⌝ }
     requires { ⌜ Firsts (now file) (now firsts) ⌝ }
@@ -197,7 +216,7 @@ fn expand_small(file: &[u8], h: Header, firsts: &[u16], count: usize, out: &mut 
 }
 
 // With tables of either size.
-fn expand_few(file: &[u8], h: Header, firsts: &[u16], count: usize, out: &mut [u8]) -> Answer
+fn expand_few(file: &[u8], h: Header, firsts: &[u16], count: usize, out: &mut [u8]) -> Expanded
     requires { ⌜ ReadAs (now file) h ⌝ }
     requires { ⌜ Expandable (now file) ⌝ }
     requires { ⌜ Firsts (now file) (now firsts) ⌝ }
@@ -215,7 +234,7 @@ fn expand_few(file: &[u8], h: Header, firsts: &[u16], count: usize, out: &mut [u
 }
 
 // 22; then the rest, with the first vertices in hand.
-fn expand_counted(file: &[u8], h: Header, firsts: &mut [u16], out: &mut [u8]) -> Answer
+fn expand_counted(file: &[u8], h: Header, firsts: &mut [u16], out: &mut [u8]) -> Expanded
     requires { ⌜ ReadAs (now file) h ⌝ }
     requires { ⌜ Interfaces (now file) ⌝ }
     requires { ⌜ edges (now file) ≤ 1024 ⌝ }
@@ -225,13 +244,18 @@ fn expand_counted(file: &[u8], h: Header, firsts: &mut [u16], out: &mut [u8]) ->
 {
     let count = scan::fill_firsts(file, h, firsts);
     if count > Header::MAX_VERTICES {
-        return Answer::Refused(Refusal::TooManyVertices { vertices: count });
+        let r = Refusal::TooManyVertices { vertices: count };
+        return Expanded {
+            answer: Answer::Refused(r),
+            reached: 0,
+            arriving: 0,
+        };
     }
     expand_few(file, h, firsts, count, out)
 }
 
 // 22, 20 and 21 of a file with calls that was read; else the header of its expanded routine, which is then at the front of `out`.
-pub fn expand(file: &[u8], h: Header, out: &mut [u8]) -> Answer
+pub fn expand(file: &[u8], h: Header, out: &mut [u8]) -> Expanded
     requires { ⌜ ReadAs (now file) h ⌝ }
     requires { ⌜ Interfaces (now file) ⌝ }
     requires { ⌜ edges (now file) ≤ 1024 ⌝ }

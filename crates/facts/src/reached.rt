@@ -10,8 +10,9 @@ ghost use Rattle.labels.specs.Reaching.{isReachedOver};
 ghost use Rattle.directives.specs.Fields.{DirectivesRead};
 ghost use Rattle.directives.specs.Layout.{vertices, edgeBytes};
 ghost use Rattle.mappings.specs.Tables.{EdgeOrder, Reached};
+ghost use Rattle.facts.specs.Counted.{ReachedStops};
 
-// Fills in their table. `gives` and `passes` are work slices.
+// Fills in their table. `gives` and `passes` are work slices. Returns the number of rounds.
 pub fn solve(
     file: &[u8],
     h: Header,
@@ -19,16 +20,17 @@ pub fn solve(
     reached: &mut [Set],
     gives: &mut [Set],
     passes: &mut [Set],
-)
+) -> usize
     requires { ⌜ DirectivesRead (now file) h ⌝ }
     requires { ⌜ EdgeOrder (now file) (now order) ⌝ }
     requires { ⌜ length (now reached) ≡ 8 * vertices (now file) ⌝ }
     requires { ⌜ length (now gives) ≡ 8 * vertices (now file) ⌝ }
     requires { ⌜ length (now passes) ≡ 8 * vertices (now file) ⌝ }
     ensures { λ _. ⌜ Reached (now (file .entry)) (now (reached .exit)) ⌝ }
+    ensures { λ r. ⌜ ReachedStops (now (file .entry)) r ⌝ }
 {
-    reaching::fill_reached(gives, passes);
-    pass::solve(file, h, order, gives, passes, reached);
+    reaching::fill_reached(flow::COLUMNS, gives, passes);
+    pass::solve(file, h, order, gives, passes, reached)
 }
 
 // Whether v is the entry, or its row says that a path reaches it.

@@ -8,12 +8,12 @@ use native.Mathlib.Decide.{ℕ-discrete}
 use native.Mathlib.Omega.{arith}
 use borrow.Author.Tests.{lt-ltb, le-ltb}
 use lib.Dec.{ltb}
-use lib.ListN.{length, getD}
+use lib.ListN.{length, getD, replicate}
 use Rattle.words.specs.Tables.{table, withRow}
 use Rattle.words.proofs.Replaced.{replaced-length, replaced-other, replaced-at}
-use Rattle.words.proofs.Tables.{table-length, table-at, rows-same}
+use Rattle.words.proofs.Tables.{table-length, table-at, rows-same, zeros-at}
 use Rattle.words.proofs.Tests.{one-more}
-use Rattle.flow.specs.Cells.{Cells, Pass}
+use Rattle.flow.specs.Cells.{Cells, NoneBeyond, Pass}
 use Rattle.flow.specs.Solver.{column, solution, Solved}
 
 -- of a table that is filled row by row: the rows below v are those of f, the others as they were
@@ -48,6 +48,21 @@ module _ {m n : ℕ} (few : m ≤ 8) where
         ];
   }
 
+  -- nothing in the columns from m on: empty sets; a table that was filled cell by cell; a row replaced
+  pub none-cleared : {s : List ℕ} (k : ℕ) → s ≡ replicate k 0 → NoneBeyond m n s
+  none-cleared k e = record { empty = λ a v _ _ _. ap (λ (t : List ℕ). getD t (8 * v + a) 0) e ∙ zeros-at k (8 * v + a) }
+
+  pub none-table : (F : ℕ → ℕ) {s : List ℕ} {k : ℕ} → k ≡ 8 * n → s ≡ table F k
+      → ((a v : ℕ) → m ≤ a → a < 8 → v < n → F (8 * v + a) ≡ 0) → NoneBeyond m n s
+  none-table F {k = k} size e h = record {
+    empty = λ a v out col in-v. ap (λ (t : List ℕ). getD t (8 * v + a) 0) e ∙ table-at F k (8 * v + a) (omega arith) ∙ h a v out col in-v;
+  }
+
+  pub none-row : (r : ℕ → ℕ) {s : List ℕ} (w : ℕ) → NoneBeyond m n s → NoneBeyond m n (withRow s w r m)
+  none-row r {s} w h = record {
+    empty = λ a v out col in-v. replaced-other s (8 * w) r 0 m (8 * v + a) (λ b in-b q. omega arith) ∙ h .empty a v out col in-v;
+  }
+
   -- a table that is filled row by row
   module _ (f : ℕ → ℕ → ℕ) (old : List ℕ) where
     pub rows-none : length old ≡ 8 * n → Cells m n (rowsTo f old 0) old
@@ -66,6 +81,10 @@ module _ {m n : ℕ} (few : m ≤ 8) where
       cells = λ a u in-a in-u. h .cells a u in-a in-u ∙ ap (λ (b : Bool). cond b (f a u) (getD old (8 * u + a) 0)) (lt-ltb u v (omega arith));
     }
 
+  -- a column of cells is the table of its numbers
+  pub column-cells : {f : ℕ → ℕ → ℕ} {s : List ℕ} {a : ℕ} → a < m → Cells m n f s → column s n a ≡ table (f a) n
+  column-cells h c = rows-same _ _ n (λ u in-u. ap (λ (x : ℕ). x ∷ []) (c .cells _ u h in-u))
+
   -- the sets that a pass leaves
   pub cells-solved : (G P : ℕ → ℕ → ℕ) {es gives passes sets : List ℕ} {along : Bool} → Cells m n G gives → Cells m n P passes → Pass es n along gives passes sets
       → Cells m n (λ a v. getD (solution es along (table (G a) n) (table (P a) n) n) v 0) sets
@@ -73,12 +92,8 @@ module _ {m n : ℕ} (few : m ≤ 8) where
     size = h .size;
     cells = λ a v in-a in-v.
         sym (table-at (λ u. getD sets (8 * u + a) 0) n v in-v)
-        ∙ ap (λ (t : List ℕ). getD t v 0) (h .solved a (omega arith) ∙ ap₂ (λ (x y : List ℕ). solution es along x y n) (same in-a g) (same in-a p));
+        ∙ ap (λ (t : List ℕ). getD t v 0) (h .solved a (omega arith) ∙ ap₂ (λ (x y : List ℕ). solution es along x y n) (column-cells in-a g) (column-cells in-a p));
   }
-    where
-      -- a column of cells is the table of its numbers
-      same : {f : ℕ → ℕ → ℕ} {s : List ℕ} {a : ℕ} → a < m → Cells m n f s → column s n a ≡ table (f a) n
-      same h c = rows-same _ _ n (λ u in-u. ap (λ (x : ℕ). x ∷ []) (c .cells _ u h in-u))
 
 -- what the solver leaves is a pass
 pub solved-pass : {es order : List ℕ} {along : Bool} {gives passes : List ℕ} {n r : ℕ} {sets : List ℕ} → Solved es order along gives passes n r sets

@@ -140,7 +140,7 @@ module _ (es : List ℕ) (along : Bool) (gives passes : List ℕ) {order : List 
       rounds-keeps ord along (relaxed es along gives passes) (λ t. length t ≡ n) (λ t i h e. simp length-set e) (replicate n 0) (length-replicate n 0)
 
   -- sets of any width stay within it
-  after-fits : (w n r : ℕ) → ((u : ℕ) → getD gives u 0 < 2 ^ w) → (u : ℕ) → getD (after n r) u 0 < 2 ^ w
+  pub after-fits : (w n r : ℕ) → ((u : ℕ) → getD gives u 0 < 2 ^ w) → (u : ℕ) → getD (after n r) u 0 < 2 ^ w
   after-fits w n r small =
       rounds-keeps ord along (relaxed es along gives passes) (λ s. (u : ℕ) → getD s u 0 < 2 ^ w)
       (λ s i _ h u. at-set (λ v x. x < 2 ^ w) s _ _ u (or-lt w _ _ (h _) (or-lt w _ _ (small _) (lt-of-le-of-lt (and-le-l _ _) (h (far es along i))))) (h u))

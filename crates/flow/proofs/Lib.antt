@@ -1,4 +1,5 @@
 pub mod Cells
+pub mod Counted
 pub mod Exact
 pub mod Members
 pub mod Paths

@@ -139,7 +139,7 @@ module _ (n a : ℕ) (col : a < 8) where
       ∙ zeros-at (8 * n) (8 * v + a) ∙ sym (zeros-at n v))
 
 -- the columns of a table make it up
-columns-all : (n : ℕ) (s t : List ℕ) → length s ≡ 8 * n → length t ≡ 8 * n → ((a : ℕ) → a < 8 → column s n a ≡ column t n a) → s ≡ t
+pub columns-all : (n : ℕ) (s t : List ℕ) → length s ≡ 8 * n → length t ≡ 8 * n → ((a : ℕ) → a < 8 → column s n a ≡ column t n a) → s ≡ t
 columns-all n s t es et h =
     ext-getD 0 s t (es ∙ sym et)
     (λ x l. let row : x / 8 < n = omega arith in
@@ -304,7 +304,7 @@ module _ (es order : List ℕ) (along : Bool) (gives passes : List ℕ) (n : ℕ
 
   module _ (ord : Order (edgeCount es) order) (ends : Ends es n) where
     -- each column goes its own way
-    column-made : (a : ℕ) → a < 8 → (r : ℕ) → column (made r) n a ≡ after es along (column gives n a) (column passes n a) ord n r
+    pub column-made : (a : ℕ) → a < 8 → (r : ℕ) → column (made r) n a ≡ after es along (column gives n a) (column passes n a) ord n r
     column-made a l r =
         rounds-both ord along (relaxedRow es along gives passes) (relaxed es along (column gives n a) (column passes n a))
         (λ s t. (length s ≡ 8 * n) × (column s n a ≡ t))

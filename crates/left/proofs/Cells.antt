@@ -48,16 +48,19 @@ module _ {file : List ℕ} {h : Header} (is : DirectivesRead file h) where
 
 -- ---- a pass over what each vertex gives and passes
 
-module _ {file : List ℕ} {h : Header} (is : DirectivesRead file h) (t : ℕ) {given gives passes held : List ℕ} where
-  pub cells-held : Given file given → ArrayCells file (λ a v. heldGives file t a v (getD given (8 * v + a) 0)) gives → ArrayCells file (heldPasses file t) passes
-      → Pass (edgeBytes file) (vertices file) false gives passes held → ArrayCells file (λ a v. getD (heldSets file a t) v 0) held
-  unfolding heldSets heldGives heldPasses
-  cells-held g gs ps =
-      let same : ArrayCells file (λ a v. heldGives file t a v (givenSet file a v)) gives = record {
-        size = gs .size;
-        cells = λ a v in-a in-v. gs .cells a v in-a in-v ∙ ap (heldGives file t a v) (g .cells a v in-a in-v);
-      } in
-      cells-solved (few-columns is) (λ a v. heldGives file t a v (givenSet file a v)) (heldPasses file t) same ps
+-- by the versions that directives give
+pub gives-held : (file : List ℕ) (t : ℕ) {given gives : List ℕ} → Given file given → ArrayCells file (λ a v. heldGives file t a v (getD given (8 * v + a) 0)) gives
+    → ArrayCells file (λ a v. heldGives file t a v (givenSet file a v)) gives
+gives-held file t g gs = record {
+  size = gs .size;
+  cells = λ a v in-a in-v. gs .cells a v in-a in-v ∙ ap (heldGives file t a v) (g .cells a v in-a in-v);
+}
+
+pub cells-held : {file : List ℕ} {h : Header} (is : DirectivesRead file h) (t : ℕ) {gives passes held : List ℕ}
+    → ArrayCells file (λ a v. heldGives file t a v (givenSet file a v)) gives → ArrayCells file (heldPasses file t) passes
+    → Pass (edgeBytes file) (vertices file) false gives passes held → ArrayCells file (λ a v. getD (heldSets file a t) v 0) held
+unfolding heldSets heldGives heldPasses
+cells-held {file} is t = cells-solved (few-columns is) (λ a v. heldGives file t a v (givenSet file a v)) (heldPasses file t)
 
 -- ---- what a redistribute leaves
 

@@ -10,6 +10,7 @@ use sets::Set;
 ghost use mathlib.Core.Path.{_≡_};
 ghost use Prim.Native.Nat.{_+_, _*_, _<_};
 ghost use lib.ListN.{length, getD};
+ghost use Rattle.flow.specs.Cells.{NoneBeyond};
 ghost use Rattle.words.specs.Tables.{withRow};
 ghost use Rattle.directives.specs.Directives.{directive};
 ghost use Rattle.directives.specs.Fields.{DirectivesRead};
@@ -17,6 +18,7 @@ ghost use Rattle.directives.specs.Layout.{arrays, vertices};
 ghost use Rattle.mappings.specs.Computed.{heldSets};
 ghost use Rattle.mappings.specs.Tables.{EdgeOrder, ArrayCells, Given};
 ghost use Rattle.left.specs.Cells.{heldGives, heldPasses};
+ghost use Rattle.left.specs.Counted.{HeldStops};
 
 // What vertex v, whose directive is d and gives array a these versions, gives it with template t.
 fn gives_at(file: &[u8], h: Header, t: usize, a: usize, v: usize, d: Directive, given: Set) -> Set
@@ -63,14 +65,16 @@ fn fill_row(
     }
 }
 
-// The tables of the pass.
+// The tables of the pass, where nothing stands in the columns of `gives` beyond the arrays.
 fn fill(file: &[u8], h: Header, t: usize, given: &[Set], gives: &mut [Set], passes: &mut [Set])
     requires { ⌜ DirectivesRead (now file) h ⌝ }
     requires { ⌜ Given (now file) (now given) ⌝ }
     requires { ⌜ length (now gives) ≡ 8 * vertices (now file) ⌝ }
     requires { ⌜ length (now passes) ≡ 8 * vertices (now file) ⌝ }
+    requires { ⌜ NoneBeyond (arrays (now file)) (vertices (now file)) (now gives) ⌝ }
     ensures { λ _. ⌜ ArrayCells (now (file .entry)) (λ a v. heldGives (now (file .entry)) t a v (getD (now (given .entry)) (8 * v + a) 0)) (now (gives .exit)) ⌝ }
     ensures { λ _. ⌜ ArrayCells (now (file .entry)) (heldPasses (now (file .entry)) t) (now (passes .exit)) ⌝ }
+    ensures { λ _. ⌜ NoneBeyond (arrays (now (file .entry))) (vertices (now (file .entry))) (now (gives .exit)) ⌝ }
 {
     let n = h.vertices;
     let mut v = 0;
@@ -80,7 +84,7 @@ fn fill(file: &[u8], h: Header, t: usize, given: &[Set], gives: &mut [Set], pass
     }
 }
 
-// Fills in the versions. `gives` and `passes` are work slices.
+// Fills in the versions. `gives` and `passes` are work slices. Returns the number of rounds.
 pub fn solve(
     file: &[u8],
     h: Header,
@@ -90,7 +94,7 @@ pub fn solve(
     held: &mut [Set],
     gives: &mut [Set],
     passes: &mut [Set],
-)
+) -> usize
     requires { ⌜ DirectivesRead (now file) h ⌝ }
     requires { ⌜ EdgeOrder (now file) (now order) ⌝ }
     requires { ⌜ Given (now file) (now given) ⌝ }
@@ -98,7 +102,9 @@ pub fn solve(
     requires { ⌜ length (now gives) ≡ 8 * vertices (now file) ⌝ }
     requires { ⌜ length (now passes) ≡ 8 * vertices (now file) ⌝ }
     ensures { λ _. ⌜ ArrayCells (now (file .entry)) (λ a v. getD (heldSets (now (file .entry)) a t) v 0) (now (held .exit)) ⌝ }
+    ensures { λ r. ⌜ HeldStops (now (file .entry)) t r ⌝ }
 {
+    flow::clear(gives);
     fill(file, h, t, given, gives, passes);
-    pass::solve(file, h, order, gives, passes, held);
+    pass::solve(file, h, order, gives, passes, held)
 }

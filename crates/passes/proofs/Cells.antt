@@ -8,20 +8,25 @@ use native.Mathlib.Omega.{arith}
 use borrow.Author.Tests.{ne-eqb}
 use lib.Dec.{eqb}
 use lib.ListN.{length, drop}
+use Rattle.flow.specs.Cells.{NoneBeyond}
 use Rattle.flow.specs.Solver.{rowCount, Ends, Tables, Solved}
-use Rattle.flow.proofs.Cells.{in-cells, cells-row}
+use Rattle.flow.proofs.Cells.{in-cells, cells-table, cells-row, none-table, none-row, rowsTo, rows-none, rows-next, rows-all}
 use Rattle.routine.specs.Actions.{action}
 use Rattle.routine.specs.Layout.{arrays, vertices, entry, exit, edgesAt}
 use Rattle.routine.specs.Reader.{WellFormed}
 use Rattle.routine.specs.declared.action.Action.{Action}
 use Rattle.routine.specs.declared.header.Header.{Header}
-use Rattle.words.specs.Tables.{withRow}
+use Rattle.words.specs.Tables.{table, withRow}
 use Rattle.words.proofs.Tests.{at-cond}
 use Rattle.words.proofs.Written.{partFrom, part-is}
 use Rattle.labels.specs.Events.{edgeBytes, event}
 use Rattle.labels.specs.Routines.{ReadAs}
 use Rattle.labels.proofs.Rules.Events.{inner-event}
-use Rattle.passes.specs.Tables.{Cells}
+use Rattle.passes.specs.Tables.{Cells, CellsAlone}
+
+-- a table with nothing beyond the arrays is one
+pub cells-are : {file : List ℕ} {f : ℕ → ℕ → ℕ} {s : List ℕ} → CellsAlone file f s → Cells file f s
+cells-are h = record { size = h .size; cells = h .cells }
 
 module _ {file : List ℕ} (well : WellFormed file) where
   -- a column for each array
@@ -31,15 +36,49 @@ module _ {file : List ℕ} (well : WellFormed file) where
   pub in-eight : {a : ℕ} → a < arrays file → a < 8
   in-eight h = omega (arith, few-columns)
 
+  -- a table that was filled cell by cell, with nothing beyond the arrays
+  pub alone-table : (F : ℕ → ℕ) {f : ℕ → ℕ → ℕ} {s : List ℕ} {k : ℕ} → k ≡ 8 * vertices file → s ≡ table F k
+      → ((a v : ℕ) → a < arrays file → v < vertices file → F (8 * v + a) ≡ f a v)
+      → ((a v : ℕ) → arrays file ≤ a → a < 8 → v < vertices file → F (8 * v + a) ≡ 0) → CellsAlone file f s
+  alone-table F size e h none =
+      let c = cells-table few-columns F size e h in
+      record { size = c .size; cells = c .cells; beyond = none-table few-columns F size e none }
+
+  -- a row of it replaced
+  pub alone-row : {f g : ℕ → ℕ → ℕ} (r : ℕ → ℕ) {s : List ℕ} (w : ℕ) → w < vertices file → CellsAlone file f s
+      → ((a : ℕ) → a < arrays file → r a ≡ g a w) → ((a v : ℕ) → a < arrays file → (v ≡ w → ⊥) → f a v ≡ g a v)
+      → CellsAlone file g (withRow s w r (arrays file))
+  alone-row r w in-w h new old =
+      let c = cells-row few-columns r w in-w (cells-are h) new old in
+      record { size = c .size; cells = c .cells; beyond = none-row few-columns r w (h .beyond) }
+
+  -- one that is filled row by row
+  module _ (f : ℕ → ℕ → ℕ) (old : List ℕ) where
+    pub rows-begin : length old ≡ 8 * vertices file → NoneBeyond (arrays file) (vertices file) old → CellsAlone file (rowsTo f old 0) old
+    rows-begin size none = let c = rows-none few-columns f old size in record { size = c .size; cells = c .cells; beyond = none }
+
+    pub rows-further : {s t : List ℕ} (v : ℕ) → v < vertices file → CellsAlone file (rowsTo f old v) s → t ≡ withRow s v (λ a. f a v) (arrays file)
+        → CellsAlone file (rowsTo f old (v + 1)) t
+    rows-further v in-v h e =
+        let c = rows-next few-columns f old v in-v (cells-are h) e in
+        record {
+          size = c .size;
+          cells = c .cells;
+          beyond = subst (NoneBeyond (arrays file) (vertices file)) (sym e) (none-row few-columns (λ a. f a v) v (h .beyond));
+        }
+
+    pub rows-filled : {s : List ℕ} (v : ℕ) → vertices file ≤ v → CellsAlone file (rowsTo f old v) s → CellsAlone file f s
+    rows-filled v all h = let c = rows-all few-columns f old v all (cells-are h) in record { size = c .size; cells = c .cells; beyond = h .beyond }
+
   -- the actions of all vertices, and then the events of the entry and the exit
-  pub cells-events : (f : Action → ℕ) {s t u : List ℕ} → Cells file (λ a v. f (action file a v)) s → t ≡ withRow s entry (λ a. f (event file a entry)) (arrays file)
-      → {w : ℕ} → w ≡ exit file → u ≡ withRow t w (λ a. f (event file a w)) (arrays file) → Cells file (λ a v. f (event file a v)) u
+  pub cells-events : (f : Action → ℕ) {s t u : List ℕ} → CellsAlone file (λ a v. f (action file a v)) s → t ≡ withRow s entry (λ a. f (event file a entry)) (arrays file)
+      → {w : ℕ} → w ≡ exit file → u ≡ withRow t w (λ a. f (event file a w)) (arrays file) → CellsAlone file (λ a v. f (event file a v)) u
   cells-events f {s} {t} h e last g =
       let two = well .laid .limits .two-vertices in
-      subst (Cells file (λ a v. f (event file a v))) (sym (g ∙ ap (λ (w : ℕ). withRow t w (λ a. f (event file a w)) (arrays file)) last))
-      (cells-row few-columns (λ a. f (event file a (exit file))) (exit file) (omega arith)
-      (subst (Cells file (λ a v. cond (eqb v (exit file)) (f (action file a v)) (f (event file a v)))) (sym e)
-      (cells-row few-columns (λ a. f (event file a entry)) entry (omega arith) h
+      subst (CellsAlone file (λ a v. f (event file a v))) (sym (g ∙ ap (λ (w : ℕ). withRow t w (λ a. f (event file a w)) (arrays file)) last))
+      (alone-row (λ a. f (event file a (exit file))) (exit file) (omega arith)
+      (subst (CellsAlone file (λ a v. cond (eqb v (exit file)) (f (action file a v)) (f (event file a v)))) (sym e)
+      (alone-row (λ a. f (event file a entry)) entry (omega arith) h
       (λ a in-a. ap (λ (b : Bool). cond b (f (action file a entry)) (f (event file a entry))) (sym (ne-eqb entry (exit file) (λ q. omega arith))))
       (λ a v in-a other.
       at-cond (λ (x : ℕ). f (action file a v) ≡ x) (eqb v (exit file)) (λ _. refl)

@@ -4,6 +4,7 @@ use mathlib.Core.Path.{_≡_, refl, sym, ap, ap₂, subst, _∙_}
 use mathlib.Core.Bool.{Bool, true, false, not, _&&_, _||_, cond, and-comm, or-false}
 use mathlib.Core.List.{List}
 use Prim.Native.Nat.{ℕ, zero, suc, _+_, _*_, _≤_, _<_, _^_}
+use native.Mathlib.Nat.{le-refl}
 use native.Mathlib.Omega.{arith}
 use borrow.Author.Tests.{lt-ltb, le-ltb, eq-eqb, ne-eqb}
 use lib.Bits.{bitOr}
@@ -11,27 +12,32 @@ use lib.Dec.{eqb, ltb, eqb·suc-zero}
 use lib.Ieee.Bits.{is-true}
 use lib.ListN.{length, getD}
 use lib.Pow.{pow-pos}
-use Rattle.flow.proofs.Cells.{cells-table, cells-row, cells-solved}
+use Rattle.flow.proofs.Cells.{cells-table, cells-row, none-table, cells-solved}
+use Rattle.flow.proofs.Counted.{stops-after}
 use Rattle.flow.specs.Cells as columns
+use Rattle.flow.specs.Solver.{Rounds}
 use Rattle.routine.specs.Layout.{arrays, vertices, entry, exit}
 use Rattle.routine.specs.Reader.{WellFormed}
 use Rattle.routine.specs.declared.action.Action.{Action}
 use Rattle.sets.specs.Sets.{has, everyVersion}
 use Rattle.words.specs.Tables.{table, withRow}
 use Rattle.labels.specs.Ambiguity.{broughtGives, broughtPasses, broughtSets, broughtOf}
-use Rattle.labels.specs.Events.{event, isLabel, versionOf, version}
+use Rattle.labels.specs.Events.{edgeBytes, event, isLabel, versionOf, version}
+use Rattle.labels.specs.Routines.{EdgeOrder}
 use Rattle.routine.specs.Arrays.{kind, initial, isInOrInout}
 use Rattle.labels.specs.Kept.{isNOrR, passesKept, leavingSet, keptSets, keptOf}
 use Rattle.labels.specs.Letters.{letterByte, useOfByte}
 use Rattle.labels.specs.Reaching.{reachedOver, isReachedOver, isReached, reachGives, reachPasses, reachSets, reachingOf}
+use Rattle.passes.specs.Counted.{Stops}
 use Rattle.passes.specs.Marks.{AllReached}
-use Rattle.passes.specs.Tables.{Cells, reachedCell, Versions, UseGives, Reached, Letters, Pass}
+use Rattle.passes.specs.Tables.{Cells, CellsAlone, reachedCell, Versions, UseGives, Reached, Letters, Pass}
 use Rattle.labels.specs.declared.Use.the-variants.{W}
 use Rattle.labels.specs.Uses.{useGives, usePasses, passesBy, useSets, letterOf, useOf, isN, isKept}
 use Rattle.labels.specs.declared.Use.{Use}
 use Rattle.labels.proofs.Rules.Events.{by-event}
+use Rattle.labels.proofs.Rules.Proper.{ends-within}
 use Rattle.words.proofs.Tests.{cond-not}
-use Rattle.passes.proofs.Cells.{few-columns, in-eight}
+use Rattle.passes.proofs.Cells.{cells-are, few-columns, in-eight, alone-table, alone-row}
 use Rattle.labels.proofs.Letters.{letter-use}
 
 -- ---- use
@@ -42,14 +48,19 @@ use-passes = by-event (λ x. passesBy (useGives x) ≡ usePasses x) refl refl re
 -- ---- cells and tests
 
 -- the entry's row
-first-row : (v a : ℕ) → a < 8 → ltb (8 * v + a) 8 ≡ eqb v entry
-first-row zero a h = lt-ltb (8 * 0 + a) 8 (omega arith)
-first-row (suc v) a h = le-ltb (8 * suc v + a) 8 (omega arith) ∙ sym (eqb·suc-zero v)
+first-row : (m v a : ℕ) → m ≤ 8 → a < m → ltb (8 * v + a) m ≡ eqb v entry
+first-row m zero a few h = lt-ltb (8 * 0 + a) m (omega arith)
+first-row m (suc v) a few h = le-ltb (8 * suc v + a) m (omega arith) ∙ sym (eqb·suc-zero v)
 
 -- a test within a test
 cond-and : (b c : Bool) (x : ℕ) → cond b (cond c x 0) 0 ≡ cond (b && c) x 0
 cond-and true c x = refl
 cond-and false c x = refl
+
+-- nothing is given either way
+none-given : (b : Bool) {x : ℕ} → x ≡ 0 → cond b x 0 ≡ 0
+none-given true e = e
+none-given false e = refl
 
 -- a set of one version is not empty
 pub single-none : (b : Bool) (k : ℕ) → eqb (cond b (2 ^ k) 0) 0 ≡ not b
@@ -63,9 +74,12 @@ single-passes b k = ap (λ (t : Bool). cond t everyVersion 0) (single-none b k) 
 -- ---- reached vertices, in m columns of n vertices
 
 module _ {m n : ℕ} (few : m ≤ 8) where
-  pub reached-gives : {s : List ℕ} {k : ℕ} → k ≡ 8 * n → s ≡ table (λ i. cond (ltb i 8) 1 0) k → columns.Cells m n (λ a v. cond (eqb v entry) 1 0) s
+  pub reached-gives : {s : List ℕ} {k : ℕ} → k ≡ 8 * n → s ≡ table (λ i. cond (ltb i m) 1 0) k → columns.Cells m n (λ a v. cond (eqb v entry) 1 0) s
   reached-gives size e =
-      cells-table few (λ i. cond (ltb i 8) 1 0) size e (λ a v in-a in-v. ap (λ (b : Bool). cond b 1 0) (first-row v a (omega arith)))
+      cells-table few (λ i. cond (ltb i m) 1 0) size e (λ a v in-a in-v. ap (λ (b : Bool). cond b 1 0) (first-row m v a few in-a))
+
+  reached-none : {s : List ℕ} {k : ℕ} → k ≡ 8 * n → s ≡ table (λ i. cond (ltb i m) 1 0) k → columns.NoneBeyond m n s
+  reached-none size e = none-table few (λ i. cond (ltb i m) 1 0) size e (λ a v out col in-v. ap (λ (b : Bool). cond b 1 0) (le-ltb (8 * v + a) m (omega arith)))
 
   pub reached-passes : {s : List ℕ} {k : ℕ} → k ≡ 8 * n → s ≡ table (λ i. 1) k → columns.Cells m n (λ a v. 1) s
   reached-passes size e = cells-table few (λ i. 1) size e (λ a v in-a in-v. refl)
@@ -76,29 +90,47 @@ module _ {m n : ℕ} (few : m ≤ 8) where
   reached-sets g p h = cells-solved few (λ a v. cond (eqb v entry) 1 0) (λ a v. 1) g p h
 
 module _ {file : List ℕ} (well : WellFormed file) where
+  -- ---- the number of rounds
+
+  pub pass-stops : {order gives passes : List ℕ} {along : Bool} {r : ℕ} {G P : ℕ → ℕ → ℕ} → EdgeOrder file order → CellsAlone file G gives → Cells file P passes
+      → Rounds (edgeBytes file) order along gives passes (vertices file) r → Stops file along G P r
+  pass-stops {order} {gives} {passes} {along} {G = G} {P} ord g p h =
+      stops-after (edgeBytes file) order along gives passes (vertices file) G P (few-columns well) ord (ends-within file well) (cells-are g) p (g .beyond) h
+
+  -- ---- reached vertices, in a column for each array
+
+  pub reached-alone : {s : List ℕ} {m k : ℕ} → m ≡ arrays file → k ≡ 8 * vertices file → s ≡ table (λ i. cond (ltb i m) 1 0) k
+      → CellsAlone file (λ a v. cond (eqb v entry) 1 0) s
+  reached-alone {k = k} all size e =
+      let now = e ∙ ap (λ (x : ℕ). table (λ i. cond (ltb i x) 1 0) k) all in
+      let c = reached-gives (few-columns well) size now in
+      record { size = c .size; cells = c .cells; beyond = reached-none (few-columns well) size now }
+
   reached-at : {reached : List ℕ} → Reached file reached → (a v : ℕ) → a < arrays file → v < vertices file → reachedCell (8 * v + a) (getD reached (8 * v + a) 0) ≡ isReached file v
   unfolding isReachedOver
-  reached-at h a v in-a in-v = ap₂ _||_ (first-row v a (in-eight well in-a)) (ap (λ (m : ℕ). has m 0) (h .cells a v in-a in-v))
+  reached-at h a v in-a in-v = ap₂ _||_ (first-row 8 v a (le-refl 8) (in-eight well in-a)) (ap (λ (m : ℕ). has m 0) (h .cells a v in-a in-v))
 
   -- ---- the versions that paths bring
 
   module _ {versions : List ℕ} (vs : Versions file versions) where
     pub brought-gives : {reached s : List ℕ} → Reached file reached → s ≡ table (λ i. cond (reachedCell i (getD reached i 0)) (getD versions i 0) 0) (length versions)
-        → Cells file (broughtGives file) s
+        → CellsAlone file (broughtGives file) s
     unfolding broughtGives version
     brought-gives {reached} h e =
-        cells-table (few-columns well) (λ i. cond (reachedCell i (getD reached i 0)) (getD versions i 0) 0) (vs .size) e
+        alone-table well (λ i. cond (reachedCell i (getD reached i 0)) (getD versions i 0) 0) (vs .size) e
         (λ a v in-a in-v.
         ap₂ (λ (b : Bool) (x : ℕ). cond b x 0) (reached-at h a v in-a in-v) (vs .cells a v in-a in-v)
         ∙ cond-and (isReached file v) (isLabel file a v) (2 ^ versionOf (event file a v)))
+        (λ a v out col in-v. none-given (reachedCell (8 * v + a) (getD reached (8 * v + a) 0)) (vs .beyond .empty a v out col in-v))
 
     -- every vertex is reached
-    pub brought-versions : AllReached file → Cells file (broughtGives file) versions
+    pub brought-versions : AllReached file → CellsAlone file (broughtGives file) versions
     unfolding broughtGives version
     brought-versions all = record {
       size = vs .size;
       cells = λ a v in-a in-v. vs .cells a v in-a in-v
           ∙ sym (ap (λ (b : Bool). cond (b && isLabel file a v) (2 ^ versionOf (event file a v)) 0) (is-true (isReached file v) (all .reached v in-v)));
+      beyond = vs .beyond;
     }
 
     pub brought-passes : {s : List ℕ} → s ≡ table (λ i. cond (eqb (getD versions i 0) 0) everyVersion 0) (length versions) → Cells file (broughtPasses file) s
@@ -107,10 +139,10 @@ module _ {file : List ℕ} (well : WellFormed file) where
         cells-table (few-columns well) (λ i. cond (eqb (getD versions i 0) 0) everyVersion 0) (vs .size) e
         (λ a v in-a in-v. ap (λ (x : ℕ). cond (eqb x 0) everyVersion 0) (vs .cells a v in-a in-v) ∙ single-passes (isLabel file a v) (versionOf (event file a v)))
 
-  pub brought-sets : {gives passes sets : List ℕ} → Cells file (broughtGives file) gives → Cells file (broughtPasses file) passes → Pass file false gives passes sets
+  pub brought-sets : {gives passes sets : List ℕ} → CellsAlone file (broughtGives file) gives → Cells file (broughtPasses file) passes → Pass file false gives passes sets
       → Cells file (broughtOf file) sets
   unfolding broughtSets broughtOf
-  brought-sets g p h = cells-solved (few-columns well) (broughtGives file) (broughtPasses file) g p h
+  brought-sets g p h = cells-solved (few-columns well) (broughtGives file) (broughtPasses file) (cells-are g) p h
 
   -- ---- letters
 
@@ -121,7 +153,7 @@ module _ {file : List ℕ} (well : WellFormed file) where
   letter-sets : {gives passes sets : List ℕ} → UseGives file gives → Cells file (λ a v. usePasses (event file a v)) passes
       → Pass file true gives passes sets → Cells file (λ a v. getD (useSets file a) v 0) sets
   unfolding useSets
-  letter-sets g p h = cells-solved (few-columns well) (λ a v. useGives (event file a v)) (λ a v. usePasses (event file a v)) g p h
+  letter-sets g p h = cells-solved (few-columns well) (λ a v. useGives (event file a v)) (λ a v. usePasses (event file a v)) (cells-are g) p h
 
   -- away from the exit, and at it
   letter-at : (a v : ℕ) {last : Bool} → eqb v (exit file) ≡ last
@@ -156,6 +188,9 @@ module _ {file : List ℕ} (well : WellFormed file) where
         ∙ cond-and (not (isN (useOf file a v))) (isLabel file a v) (2 ^ versionOf (event file a v))
         ∙ ap (λ (b : Bool). cond b (2 ^ versionOf (event file a v)) 0) (and-comm (not (isN (useOf file a v))) (isLabel file a v))
 
+    leaving-beyond : (a v : ℕ) → arrays file ≤ a → a < 8 → v < vertices file → leaving (8 * v + a) ≡ 0
+    leaving-beyond a v out col in-v = none-given (not (isN (useOfByte (getD letters (8 * v + a) 0)))) (vs .beyond .empty a v out col in-v)
+
     leaving-none : (a v : ℕ) → a < arrays file → v < vertices file → cond (eqb (leaving (8 * v + a)) 0) everyVersion 0 ≡ cond (isKept file a v) 0 everyVersion
     leaving-none a v in-a in-v =
         ap (λ (x : ℕ). cond (eqb x 0) everyVersion 0) (leaving-at a v in-a in-v) ∙ single-passes (isKept file a v) (version file a v)
@@ -179,15 +214,16 @@ module _ {file : List ℕ} (well : WellFormed file) where
 
     pub reach-gives : {reached mid s : List ℕ} → Reached file reached → mid ≡ table (λ i. cond (reachedCell i (getD reached i 0)) (leaving i) 0) (length versions)
         → s ≡ withRow mid entry (λ a. cond (not (isN (useOfByte (getD letters a 0))) || isInOrInout (kind file a)) (2 ^ initial file a) 0) (arrays file)
-        → Cells file (reachGives file) s
+        → CellsAlone file (reachGives file) s
     reach-gives {reached} {mid} {s} h e f =
-        let first : Cells file (λ a v. cond (isReached file v && isKept file a v) (2 ^ version file a v) 0) mid =
-        cells-table (few-columns well) (λ i. cond (reachedCell i (getD reached i 0)) (leaving i) 0) (vs .size) e
+        let first : CellsAlone file (λ a v. cond (isReached file v && isKept file a v) (2 ^ version file a v) 0) mid =
+        alone-table well (λ i. cond (reachedCell i (getD reached i 0)) (leaving i) 0) (vs .size) e
         (λ a v in-a in-v.
         ap₂ (λ (b : Bool) (x : ℕ). cond b x 0) (reached-at h a v in-a in-v) (leaving-at a v in-a in-v)
-        ∙ cond-and (isReached file v) (isKept file a v) (2 ^ version file a v)) in
-        subst (Cells file (reachGives file)) (sym f)
-        (cells-row (few-columns well) (λ a. cond (not (isN (useOfByte (getD letters a 0))) || isInOrInout (kind file a)) (2 ^ initial file a) 0) entry
+        ∙ cond-and (isReached file v) (isKept file a v) (2 ^ version file a v))
+        (λ a v out col in-v. none-given (reachedCell (8 * v + a) (getD reached (8 * v + a) 0)) (leaving-beyond a v out col in-v)) in
+        subst (CellsAlone file (reachGives file)) (sym f)
+        (alone-row well (λ a. cond (not (isN (useOfByte (getD letters a 0))) || isInOrInout (kind file a)) (2 ^ initial file a) 0) entry
         (omega (arith, well .laid .limits .two-vertices)) first (λ a in-a. reach-entry a in-a) (λ a v in-a away. reach-elsewhere a v away))
 
     pub reach-passes : {s : List ℕ} → s ≡ table (λ i. cond (eqb (leaving i) 0) everyVersion 0) (length versions) → Cells file (reachPasses file) s
@@ -196,9 +232,9 @@ module _ {file : List ℕ} (well : WellFormed file) where
 
     -- ---- kept sets
 
-    pub kept-gives : {s : List ℕ} → s ≡ table leaving (length versions) → Cells file (leavingSet file) s
+    pub kept-gives : {s : List ℕ} → s ≡ table leaving (length versions) → CellsAlone file (leavingSet file) s
     unfolding leavingSet
-    kept-gives e = cells-table (few-columns well) leaving (vs .size) e (λ a v in-a in-v. leaving-at a v in-a in-v)
+    kept-gives e = alone-table well leaving (vs .size) e leaving-at leaving-beyond
 
     pub kept-passes : {s : List ℕ} → s ≡ table (λ i. cond (eqb (getD versions i 0) 0 || isNOrR (useOfByte (getD letters i 0))) everyVersion 0) (length versions)
         → Cells file (λ a v. cond (passesKept file a v) everyVersion 0) s
@@ -208,12 +244,12 @@ module _ {file : List ℕ} (well : WellFormed file) where
         (λ a v in-a in-v. ap₂ (λ (b : Bool) (u : Use). cond (b || isNOrR u) everyVersion 0)
         (ap (λ (x : ℕ). eqb x 0) (vs .cells a v in-a in-v) ∙ single-none (isLabel file a v) (versionOf (event file a v))) (use-at a v in-a in-v))
 
-    pub kept-sets : {gives passes sets s : List ℕ} → Cells file (leavingSet file) gives → Cells file (λ a v. cond (passesKept file a v) everyVersion 0) passes
+    pub kept-sets : {gives passes sets s : List ℕ} → CellsAlone file (leavingSet file) gives → Cells file (λ a v. cond (passesKept file a v) everyVersion 0) passes
         → Pass file true gives passes sets
         → s ≡ table (λ i. bitOr (getD gives i 0) (cond (isNOrR (useOfByte (getD letters i 0))) (getD sets i 0) 0)) (length sets) → Cells file (keptOf file) s
     unfolding keptSets keptOf
     kept-sets {gives} {passes} {sets} g p h e =
-        let found = cells-solved (few-columns well) (leavingSet file) (λ a v. cond (passesKept file a v) everyVersion 0) g p h in
+        let found = cells-solved (few-columns well) (leavingSet file) (λ a v. cond (passesKept file a v) everyVersion 0) (cells-are g) p h in
         cells-table (few-columns well) (λ i. bitOr (getD gives i 0) (cond (isNOrR (useOfByte (getD letters i 0))) (getD sets i 0) 0)) (h .size) e
         (λ a v in-a in-v. ap₂ bitOr (g .cells a v in-a in-v) (ap₂ (λ (u : Use) (x : ℕ). cond (isNOrR u) x 0) (use-at a v in-a in-v) (found .cells a v in-a in-v)))
 
@@ -222,10 +258,10 @@ module _ {file : List ℕ} (well : WellFormed file) where
   unfolding reachingOf
   reaching-elsewhere a v h = ap (λ (b : Bool). cond b (cond (isInOrInout (kind file a)) (2 ^ initial file a) 0) (getD (reachSets file a) v 0)) (sym (ne-eqb v entry h))
 
-  pub reaching-sets : {gives passes sets s : List ℕ} → Cells file (reachGives file) gives → Cells file (reachPasses file) passes → Pass file false gives passes sets
+  pub reaching-sets : {gives passes sets s : List ℕ} → CellsAlone file (reachGives file) gives → Cells file (reachPasses file) passes → Pass file false gives passes sets
       → s ≡ withRow sets entry (λ a. reachingOf file a entry) (arrays file) → Cells file (reachingOf file) s
   unfolding reachSets
   reaching-sets {gives} {passes} {sets} g p h e =
       subst (Cells file (reachingOf file)) (sym e)
-      (cells-row (few-columns well) (λ a. reachingOf file a entry) entry (omega (arith, well .laid .limits .two-vertices)) (cells-solved (few-columns well) (reachGives file) (reachPasses file) g p h)
+      (cells-row (few-columns well) (λ a. reachingOf file a entry) entry (omega (arith, well .laid .limits .two-vertices)) (cells-solved (few-columns well) (reachGives file) (reachPasses file) (cells-are g) p h)
       (λ a in-a. refl) (λ a v in-a away. reaching-elsewhere a v away))

@@ -1,10 +1,11 @@
 -- How the code keeps it: tables of the label rules, a column for each array.
 -- Assumes nothing.
+use mathlib.Core.Path.{_≡_}
 use mathlib.Core.Bool.{Bool, _||_}
 use mathlib.Core.List.{List}
-use Prim.Native.Nat.{ℕ}
+use Prim.Native.Nat.{ℕ, _+_, _*_, _<_}
 use lib.Dec.{ltb}
-use lib.ListN.{getD}
+use lib.ListN.{length, getD}
 use Rattle.flow.specs.Cells as columns
 use Rattle.routine.specs.Layout.{arrays, vertices}
 use Rattle.sets.specs.Sets.{has}
@@ -18,6 +19,12 @@ use Rattle.labels.specs.Uses.{useGives, useOf}
 abbrev pub Cells : List ℕ → (ℕ → ℕ → ℕ) → List ℕ → Type 0
 Cells file f s = columns.Cells (arrays file) (vertices file) f s
 
+-- the same, and nothing in the columns beyond the arrays
+pub record CellsAlone (file : List ℕ) (f : ℕ → ℕ → ℕ) (s : List ℕ) : Type 0 where
+  pub size : length s ≡ 8 * vertices file
+  pub cells : (a v : ℕ) → a < arrays file → v < vertices file → getD s (8 * v + a) 0 ≡ f a v
+  pub beyond : columns.NoneBeyond (arrays file) (vertices file) s
+
 -- whether cell i is the entry's, or its set says that a path from the entry reaches it
 abbrev pub reachedCell : ℕ → ℕ → Bool
 reachedCell i set = ltb i 8 || has set 0
@@ -26,11 +33,11 @@ reachedCell i set = ltb i 8 || has set 0
 
 -- a label's version as a set
 abbrev pub Versions : List ℕ → List ℕ → Type 0
-Versions file s = Cells file (λ a v. versionSet (event file a v)) s
+Versions file s = CellsAlone file (λ a v. versionSet (event file a v)) s
 
 -- what events give to the sets of use
 abbrev pub UseGives : List ℕ → List ℕ → Type 0
-UseGives file s = Cells file (λ a v. useGives (event file a v)) s
+UseGives file s = CellsAlone file (λ a v. useGives (event file a v)) s
 
 -- which vertices a path from the entry reaches
 abbrev pub Reached : List ℕ → List ℕ → Type 0

@@ -8,10 +8,11 @@ use sets::Set;
 ghost use mathlib.Core.Path.{_≡_};
 ghost use Prim.Native.Nat.{_*_, _<_};
 ghost use lib.ListN.{length};
+ghost use Rattle.flow.specs.Cells.{NoneBeyond};
 ghost use Rattle.labels.specs.Events.{event, versionSet};
 ghost use Rattle.labels.specs.Routines.{ReadAs};
 ghost use Rattle.labels.specs.Uses.{useGives};
-ghost use Rattle.passes.specs.Tables.{Cells, Versions, UseGives};
+ghost use Rattle.passes.specs.Tables.{CellsAlone, Versions, UseGives};
 ghost use Rattle.routine.specs.Actions.{action};
 ghost use Rattle.routine.specs.Layout.{arrays, vertices};
 ghost use Rattle.words.specs.Tables.{withRow};
@@ -77,8 +78,10 @@ fn action_rows(file: &[u8], h: Header, versions: &mut [Set], uses: &mut [Set])
     requires { ⌜ ReadAs (now file) h ⌝ }
     requires { ⌜ length (now versions) ≡ 8 * vertices (now file) ⌝ }
     requires { ⌜ length (now uses) ≡ 8 * vertices (now file) ⌝ }
-    ensures { λ _. ⌜ Cells (now (file .entry)) (λ a v. versionSet (action (now (file .entry)) a v)) (now (versions .exit)) ⌝ }
-    ensures { λ _. ⌜ Cells (now (file .entry)) (λ a v. useGives (action (now (file .entry)) a v)) (now (uses .exit)) ⌝ }
+    requires { ⌜ NoneBeyond (arrays (now file)) (vertices (now file)) (now versions) ⌝ }
+    requires { ⌜ NoneBeyond (arrays (now file)) (vertices (now file)) (now uses) ⌝ }
+    ensures { λ _. ⌜ CellsAlone (now (file .entry)) (λ a v. versionSet (action (now (file .entry)) a v)) (now (versions .exit)) ⌝ }
+    ensures { λ _. ⌜ CellsAlone (now (file .entry)) (λ a v. useGives (action (now (file .entry)) a v)) (now (uses .exit)) ⌝ }
 {
     let n = h.vertices;
     let mut v = 0;
@@ -89,7 +92,7 @@ fn action_rows(file: &[u8], h: Header, versions: &mut [Set], uses: &mut [Set])
     }
 }
 
-// Fills in both tables.
+// Fills in both tables, and leaves nothing in the columns beyond the arrays.
 pub fn tabulate(file: &[u8], h: Header, versions: &mut [Set], uses: &mut [Set])
     requires { ⌜ ReadAs (now file) h ⌝ }
     requires { ⌜ length (now versions) ≡ 8 * vertices (now file) ⌝ }
@@ -97,6 +100,8 @@ pub fn tabulate(file: &[u8], h: Header, versions: &mut [Set], uses: &mut [Set])
     ensures { λ _. ⌜ Versions (now (file .entry)) (now (versions .exit)) ⌝ }
     ensures { λ _. ⌜ UseGives (now (file .entry)) (now (uses .exit)) ⌝ }
 {
+    flow::clear(versions);
+    flow::clear(uses);
     action_rows(file, h, versions, uses);
     event_rows(file, h, 0, versions, uses);
     event_rows(file, h, h.vertices - 1, versions, uses);

@@ -19,19 +19,36 @@ ghost use Rattle.routine.specs.Layout.{arrays, entry};
 ghost use Rattle.words.specs.Tables.{table, withRow};
 ghost use Rattle.sets.specs.Sets.{everyVersion};
 
-// The tables of the pass that finds the vertices which a path from the entry reaches.
-pub fn fill_reached(gives: &mut [Set], passes: &mut [Set])
-    requires { ⌜ length (now passes) ≡ length (now gives) ⌝ }
-    ensures { λ _. ⌜ now (gives .exit) ≡ table (λ i. cond (ltb i 8) 1 0) (length (now (gives .entry))) ⌝ }
-    ensures { λ _. ⌜ now (passes .exit) ≡ table (λ i. 1) (length (now (gives .entry))) ⌝ }
+// The entry gives, in each of m columns.
+fn enter_reached(m: usize, gives: &mut [Set])
+    requires { ⌜ m ≤ length (now gives) ⌝ }
+    ensures { λ _. ⌜ now (gives .exit) ≡ withRow (now (gives .entry)) entry (λ a. 1) m ⌝ }
 {
-    let n = gives.len();
-    let mut i = 0;
-    while i < n {
-        gives[i] = event::set_if(i < flow::COLUMNS, 1);
-        passes[i] = 1;
-        i += 1;
+    let mut a = 0;
+    while a < m {
+        gives[a] = 1;
+        a += 1;
     }
+}
+
+// Every vertex passes.
+fn pass_reached(passes: &mut [Set])
+    ensures { λ _. ⌜ now (passes .exit) ≡ table (λ i. 1) (length (now (passes .entry))) ⌝ }
+{
+    for i in 0..passes.len() {
+        passes[i] = 1;
+    }
+}
+
+// The tables of the pass that finds the vertices which a path from the entry reaches, in each of m columns.
+pub fn fill_reached(m: usize, gives: &mut [Set], passes: &mut [Set])
+    requires { ⌜ m ≤ length (now gives) ⌝ }
+    ensures { λ _. ⌜ now (gives .exit) ≡ table (λ i. cond (ltb i m) 1 0) (length (now (gives .entry))) ⌝ }
+    ensures { λ _. ⌜ now (passes .exit) ≡ table (λ i. 1) (length (now (passes .entry))) ⌝ }
+{
+    flow::clear(gives);
+    enter_reached(m, gives);
+    pass_reached(passes);
 }
 
 // Whether a cell is the entry's, or its set says that a path from the entry reaches it.

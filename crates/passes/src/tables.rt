@@ -10,15 +10,20 @@ ghost use mathlib.Core.Path.{_≡_};
 ghost use mathlib.Core.Bool.{true, false};
 ghost use Prim.Native.Nat.{_*_};
 ghost use lib.ListN.{length};
-ghost use Rattle.flow.specs.Solver.{Rounds};
 ghost use Rattle.labels.specs.Ambiguity.{broughtOf};
-ghost use Rattle.labels.specs.Events.{edgeBytes};
 ghost use Rattle.labels.specs.Kept.{keptOf};
 ghost use Rattle.labels.specs.Reaching.{reachingOf};
 ghost use Rattle.labels.specs.Routines.{ReadAs, EdgeOrder};
+ghost use Rattle.passes.specs.Counted.{LettersStop, ReachedStops, ReachingStops, KeptStops, BroughtStops, ReachedFirst};
 ghost use Rattle.passes.specs.Marks.{AllReached};
 ghost use Rattle.passes.specs.Tables.{Cells, Versions, UseGives, Reached, Letters};
 ghost use Rattle.routine.specs.Layout.{vertices};
+
+// How many rounds two passes took: that for the vertices which a path from the entry reaches, 0 if it was not made, and that for the sets.
+pub struct Rounds {
+    pub reached: usize,
+    pub sets: usize,
+}
 
 // Which vertices a path of one edge or more from the entry reaches. Returns the number of rounds of the pass.
 fn reached(
@@ -35,10 +40,9 @@ fn reached(
     requires { ⌜ length (now gives) ≡ 8 * vertices (now file) ⌝ }
     requires { ⌜ length (now passes) ≡ 8 * vertices (now file) ⌝ }
     ensures { λ _. ⌜ Reached (now (file .entry)) (now (sets .exit)) ⌝ }
-    ensures { λ r. ⌜ Rounds (edgeBytes (now (file .entry))) (now (order .entry)) false (now (gives .exit)) (now (passes .exit))
-        (vertices (now (file .entry))) r ⌝ }
+    ensures { λ r. ⌜ ReachedStops (now (file .entry)) r ⌝ }
 {
-    reaching::fill_reached(gives, passes);
+    reaching::fill_reached(h.arrays, gives, passes);
     pass::solve(file, h, order, false, gives, passes, sets)
 }
 
@@ -51,7 +55,7 @@ fn brought_after_pass(
     sets: &mut [Set],
     gives: &mut [Set],
     passes: &mut [Set],
-)
+) -> Rounds
     requires { ⌜ ReadAs (now file) h ⌝ }
     requires { ⌜ EdgeOrder (now file) (now order) ⌝ }
     requires { ⌜ Versions (now file) (now versions) ⌝ }
@@ -60,11 +64,17 @@ fn brought_after_pass(
     requires { ⌜ length (now passes) ≡ 8 * vertices (now file) ⌝ }
     ensures { λ _. ⌜ EdgeOrder (now (file .entry)) (now (order .exit)) ⌝ }
     ensures { λ _. ⌜ Cells (now (file .entry)) (broughtOf (now (file .entry))) (now (sets .exit)) ⌝ }
+    ensures { λ r. ⌜ ReachedStops (now (file .entry)) (r .reached) ⌝ }
+    ensures { λ r. ⌜ BroughtStops (now (file .entry)) (r .sets) ⌝ }
 {
-    let rounds = reached(file, h, order, sets, gives, passes);
-    pass::reorder(file, h, order, rounds);
+    let reached = reached(file, h, order, sets, gives, passes);
+    pass::reorder(file, h, order, reached);
     reaching::fill_brought(versions, sets, gives, passes);
-    pass::solve(file, h, order, false, gives, passes, sets);
+    let rounds = pass::solve(file, h, order, false, gives, passes, sets);
+    Rounds {
+        reached,
+        sets: rounds,
+    }
 }
 
 // The versions that paths bring, where every vertex is reached: each label gives its version.
@@ -75,7 +85,7 @@ fn brought_everywhere(
     versions: &[Set],
     sets: &mut [Set],
     passes: &mut [Set],
-)
+) -> usize
     requires { ⌜ ReadAs (now file) h ⌝ }
     requires { ⌜ AllReached (now file) ⌝ }
     requires { ⌜ EdgeOrder (now file) (now order) ⌝ }
@@ -83,9 +93,10 @@ fn brought_everywhere(
     requires { ⌜ length (now sets) ≡ 8 * vertices (now file) ⌝ }
     requires { ⌜ length (now passes) ≡ 8 * vertices (now file) ⌝ }
     ensures { λ _. ⌜ Cells (now (file .entry)) (broughtOf (now (file .entry))) (now (sets .exit)) ⌝ }
+    ensures { λ r. ⌜ BroughtStops (now (file .entry)) r ⌝ }
 {
     reaching::fill_passes(versions, passes);
-    pass::solve(file, h, order, false, versions, passes, sets);
+    pass::solve(file, h, order, false, versions, passes, sets)
 }
 
 // The versions that paths bring, dropped labels included; no letter is asked.
@@ -97,7 +108,7 @@ pub fn brought(
     sets: &mut [Set],
     gives: &mut [Set],
     passes: &mut [Set],
-)
+) -> Rounds
     requires { ⌜ ReadAs (now file) h ⌝ }
     requires { ⌜ EdgeOrder (now file) (now order) ⌝ }
     requires { ⌜ Versions (now file) (now versions) ⌝ }
@@ -106,14 +117,19 @@ pub fn brought(
     requires { ⌜ length (now passes) ≡ 8 * vertices (now file) ⌝ }
     ensures { λ _. ⌜ EdgeOrder (now (file .entry)) (now (order .exit)) ⌝ }
     ensures { λ _. ⌜ Cells (now (file .entry)) (broughtOf (now (file .entry))) (now (sets .exit)) ⌝ }
+    ensures { λ r. ⌜ ReachedFirst (now (file .entry)) (r .reached) ⌝ }
+    ensures { λ r. ⌜ BroughtStops (now (file .entry)) (r .sets) ⌝ }
 {
     let n = h.vertices;
     let everywhere = entered::all(file, h, &mut gives[..n]);
     if everywhere {
-        brought_everywhere(file, h, order, versions, sets, passes);
-        return;
+        let rounds = brought_everywhere(file, h, order, versions, sets, passes);
+        return Rounds {
+            reached: 0,
+            sets: rounds,
+        };
     }
-    brought_after_pass(file, h, order, versions, sets, gives, passes);
+    brought_after_pass(file, h, order, versions, sets, gives, passes)
 }
 
 // The letters. Returns the number of rounds of their pass.
@@ -133,8 +149,7 @@ pub fn letters(
     requires { ⌜ length (now sets) ≡ 8 * vertices (now file) ⌝ }
     requires { ⌜ length (now passes) ≡ 8 * vertices (now file) ⌝ }
     ensures { λ _. ⌜ Letters (now (file .entry)) (now (letters .exit)) ⌝ }
-    ensures { λ r. ⌜ Rounds (edgeBytes (now (file .entry))) (now (order .entry)) true (now (uses .entry)) (now (passes .exit))
-        (vertices (now (file .entry))) r ⌝ }
+    ensures { λ r. ⌜ LettersStop (now (file .entry)) r ⌝ }
 {
     uses::fill(uses, passes);
     let rounds = pass::solve(file, h, order, true, uses, passes, sets);
@@ -143,7 +158,7 @@ pub fn letters(
     rounds
 }
 
-// The reaching sets. `sets` first holds the table of reached vertices.
+// The reaching sets, and the rounds of both passes. `sets` first holds the table of reached vertices.
 pub fn reaching(
     file: &[u8],
     h: Header,
@@ -153,7 +168,7 @@ pub fn reaching(
     sets: &mut [Set],
     gives: &mut [Set],
     passes: &mut [Set],
-)
+) -> Rounds
     requires { ⌜ ReadAs (now file) h ⌝ }
     requires { ⌜ EdgeOrder (now file) (now order) ⌝ }
     requires { ⌜ Versions (now file) (now versions) ⌝ }
@@ -162,15 +177,21 @@ pub fn reaching(
     requires { ⌜ length (now gives) ≡ 8 * vertices (now file) ⌝ }
     requires { ⌜ length (now passes) ≡ 8 * vertices (now file) ⌝ }
     ensures { λ _. ⌜ Cells (now (file .entry)) (reachingOf (now (file .entry))) (now (sets .exit)) ⌝ }
+    ensures { λ r. ⌜ ReachedStops (now (file .entry)) (r .reached) ⌝ }
+    ensures { λ r. ⌜ ReachingStops (now (file .entry)) (r .sets) ⌝ }
 {
-    reached(file, h, order, sets, gives, passes);
+    let reached = reached(file, h, order, sets, gives, passes);
     reaching::fill(versions, sets, letters, gives, passes);
     reaching::enter_gives(file, h, letters, gives);
-    pass::solve(file, h, order, false, gives, passes, sets);
+    let rounds = pass::solve(file, h, order, false, gives, passes, sets);
     reaching::enter(file, h, sets);
+    Rounds {
+        reached,
+        sets: rounds,
+    }
 }
 
-// The kept sets.
+// The kept sets. Returns the number of rounds of their pass.
 pub fn kept(
     file: &[u8],
     h: Header,
@@ -180,7 +201,7 @@ pub fn kept(
     sets: &mut [Set],
     gives: &mut [Set],
     passes: &mut [Set],
-)
+) -> usize
     requires { ⌜ ReadAs (now file) h ⌝ }
     requires { ⌜ EdgeOrder (now file) (now order) ⌝ }
     requires { ⌜ Versions (now file) (now versions) ⌝ }
@@ -189,8 +210,10 @@ pub fn kept(
     requires { ⌜ length (now gives) ≡ 8 * vertices (now file) ⌝ }
     requires { ⌜ length (now passes) ≡ 8 * vertices (now file) ⌝ }
     ensures { λ _. ⌜ Cells (now (file .entry)) (keptOf (now (file .entry))) (now (sets .exit)) ⌝ }
+    ensures { λ r. ⌜ KeptStops (now (file .entry)) r ⌝ }
 {
     kept::fill(versions, letters, gives, passes);
-    pass::solve(file, h, order, true, gives, passes, sets);
+    let rounds = pass::solve(file, h, order, true, gives, passes, sets);
     kept::join(letters, gives, sets);
+    rounds
 }

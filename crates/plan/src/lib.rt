@@ -51,8 +51,9 @@ fn plan_with(
         gives,
         passes,
     );
+    let verdict = checked.verdict;
     // from here on `gives` holds the index of each vertex's first label
-    let reply = planned::reply(file, h, out.len(), checked, versions, gives);
+    let reply = planned::reply(file, h, out.len(), verdict, versions, gives);
     if let Reply::Denied(_) = reply {
         return reply;
     }
@@ -179,7 +180,8 @@ fn plan_expanded(file: &[u8], h: Header, out: &mut [u8], work: &mut [u8]) -> Rep
     requires { ⌜ length (now work) ≡ 6866 ⌝ }
     ensures { λ r. ⌜ Planned (now (file .entry)) (now (out .entry)) r (now (out .exit)) ⌝ }
 {
-    let answer = expansion::expand(file, h, work);
+    let expanded = expansion::expand(file, h, work);
+    let answer = expanded.answer;
     let Answer::Routine(e) = answer else {
         return reader::denied(answer);
     };

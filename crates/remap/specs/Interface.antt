@@ -15,15 +15,25 @@ use Rattle.mappings.specs.Demand.{MappingFaults, Demand4}
 use Rattle.planned.specs.Calls.{planOf, planOutcome, planInto}
 use Rattle.refusal.specs.Checks.{_andThen_}
 use Rattle.refusal.specs.declared.Outcome.{Outcome}
+use Rattle.refusal.specs.declared.Refusal.{Refusal}
+use Rattle.refusal.specs.declared.Reply.the-variants.{Written, Denied}
 use Rattle.refusal.specs.declared.Verdict.the-variants.{Passed}
+use Rattle.rounds.specs.Calls.{PassBytes, roundsOf, roundsOutcome}
 use Rattle.routine.specs.Reader.{readCheck}
 use Rattle.run.specs.Calls.{runOf, runOutcome, runInto, DemandMet}
+use Rattle.words.specs.Tables.{wrote}
 
 -- what hpf_plan answers and leaves
 pub record PlannedC (file before : List ℕ) (outcome : Outcome) (after : List ℕ) : Type 0 where
   pub answer : outcome ≡ planOutcome file (length before)
   pub buffer : after ≡ planInto (planOf file (length before)) file before
   pub demand : (readCheck file andThen check22 file) ≡ Passed → Demand2 (routineOf file) (referring file)
+
+-- what hpf_rounds answers and leaves
+pub record RoundedC (file before : List ℕ) (outcome : Outcome) (after : List ℕ) : Type 0 where
+  pub answer : outcome ≡ roundsOutcome file (length before)
+  pub numbers : (n : ℕ) → roundsOf file (length before) ≡ Written n → (bytes : List ℕ) × PassBytes file bytes × (after ≡ wrote before bytes)
+  pub unwritten : (r : Refusal) → roundsOf file (length before) ≡ Denied r → after ≡ before
 
 -- what hpf_run answers and leaves
 pub record RanC (file path before : List ℕ) (outcome : Outcome) (after : List ℕ) : Type 0 where

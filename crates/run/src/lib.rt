@@ -77,7 +77,8 @@ fn run_with(
 {
     // here `kept` holds the reaching sets
     let checked = checks::prepare(file, h, order, versions, uses, letters, kept, gives, passes);
-    let reply = reply(file, h, path, out.len(), checked, counts);
+    let verdict = checked.verdict;
+    let reply = reply(file, h, path, out.len(), verdict, counts);
     if let Reply::Denied(_) = reply {
         return reply;
     }
@@ -165,7 +166,8 @@ fn run_expanded(file: &[u8], h: Header, path: &[u8], out: &mut [u8], work: &mut 
     requires { ⌜ length (now work) ≡ 6866 ⌝ }
     ensures { λ r. ⌜ Ran (now (file .entry)) (now (path .entry)) (now (out .entry)) r (now (out .exit)) ⌝ }
 {
-    let answer = expansion::expand(file, h, work);
+    let expanded = expansion::expand(file, h, work);
+    let answer = expanded.answer;
     let Answer::Routine(e) = answer else {
         return reader::denied(answer);
     };

@@ -29,6 +29,23 @@
 //! assert_eq!(routine[18..22], [0, 2, 0, 0]); // a local array of two versions
 //! assert_eq!(routine[22..27], [0x00, 0x20, 0x41, 0x10, 0x00]); // define, remap to 1, read
 //! ```
+//!
+//! [`rounds`] tells how many rounds over the edges each pass of the planner takes. Three vertices,
+//! and a local array that is defined, remapped nowhere and read by nobody:
+//!
+//! ```
+//! let mut routine = b"HPFR\x01\0\x12\0\x01\0\x16\0\x03\0\x19\0\x02\0".to_vec();
+//! routine.extend([0, 1, 0, 0]); // a local array of one version
+//! routine.extend([0x00, 0x20, 0x00]); // 1 define
+//! routine.extend([0, 0, 1, 0, 1, 0, 2, 0]); // edges 0-1, 1-2
+//! let mut rounds = [0; hpf_remap::LARGEST_ROUNDS];
+//! let answer = hpf_remap::rounds(&routine, &mut rounds);
+//! assert_eq!((answer.number, answer.first), (0, 8)); // no calls: four passes
+//! let number = |pass: usize| u16::from_le_bytes([rounds[2 * pass], rounds[2 * pass + 1]]);
+//! let [letters, reached, reaching, kept] = [0, 1, 2, 3].map(number);
+//! assert_eq!((letters, reached, reaching), (2, 2, 2)); // one round that finds all, and one more
+//! assert_eq!(kept, 1); // no label lies ahead of any vertex, so that even the first finds nothing
+//! ```
 
 /// So many bytes suffice for any routine that is accepted.
 pub const LARGEST_ROUTINE: usize = 6194;
@@ -41,6 +58,9 @@ pub const LARGEST_PLAN: usize = 17_416;
 
 /// So many bytes suffice for any report.
 pub const LARGEST_REPORT: usize = 327_648;
+
+/// So many bytes suffice for the rounds of any routine.
+pub const LARGEST_ROUNDS: usize = 12;
 
 /// The most vertices of a path.
 pub const LONGEST_PATH: usize = 4096;
@@ -70,14 +90,14 @@ pub const LONGEST_PATH: usize = 4096;
 /// | 22 | the expanded routine has more than 256 vertices | how many |
 /// | 20 | an in argument is defined, modified, or passed as out or inout | vertex; array |
 /// | 21 | a reference or a call is ambiguous | vertex; array |
-/// | 1 | the plan's or the routine's buffer is too short | the length that is needed |
+/// | 1 | the buffer of plan, routine or rounds is too short | the length that is needed |
 /// | 30 | a path of no vertex, or of more than 4,096 | how many |
 /// | 31 | a path does not start at the entry | 0 |
 /// | 32 | a step of a path is no edge | index of the vertex arrived at |
 /// | 2 | the report's buffer is too short | the length that is needed |
 ///
 /// [`convert`] answers 0, 40, 41, 42, 20, 21 and 1. 40, 41 and 42 are answered by it alone, 30, 31,
-/// 32 and 2 by [`run`] alone, 1 by [`plan`] and [`convert`].
+/// 32 and 2 by [`run`] alone, 1 by [`plan`], [`rounds`] and [`convert`].
 #[repr(C)]
 #[derive(Clone, Copy, Debug, PartialEq, Eq)]
 pub struct Outcome {
@@ -116,6 +136,13 @@ pub mod ffi {
             directives_len: usize,
             routine: *mut u8,
             routine_len: usize,
+        ) -> Outcome;
+
+        pub fn hpf_rounds(
+            routine: *const u8,
+            routine_len: usize,
+            rounds: *mut u8,
+            rounds_len: usize,
         ) -> Outcome;
     }
 }
@@ -165,4 +192,18 @@ pub fn convert(directives: &[u8], out: &mut [u8]) -> Outcome {
             out.len(),
         )
     }
+}
+
+/// Plans a routine, and writes the rounds of each pass over the edges over the front of `out`, 16
+/// bits each, low byte first, in the order in which the passes are made; leaves the rest of it.
+///
+/// Without calls these are four: letters, reached vertices, reaching sets, kept sets. With calls
+/// two come first, of the file: reached vertices, 0 where each vertex is entered from an earlier one
+/// and no pass is made, and the versions that arrive at calls; the four are of the expanded routine.
+///
+/// A refusal, which is as that of [`plan`], writes nothing. Number 1 says that `out` is too short,
+/// and `first` the length that is needed; [`LARGEST_ROUNDS`] bytes always suffice.
+pub fn rounds(routine: &[u8], out: &mut [u8]) -> Outcome {
+    // SAFETY: as in `plan`.
+    unsafe { ffi::hpf_rounds(routine.as_ptr(), routine.len(), out.as_mut_ptr(), out.len()) }
 }

@@ -2,10 +2,11 @@
 
 use harness::library::Library;
 use harness::raw::{self, Raw};
-use hpf_remap::ffi::{hpf_convert, hpf_plan, hpf_run};
+use hpf_remap::ffi::{hpf_convert, hpf_plan, hpf_rounds, hpf_run};
 use oracle::directives::file;
 use oracle::outcome::Outcome;
 use oracle::plan::LONGEST_PLAN;
+use oracle::rounds::LONGEST_ROUNDS;
 use oracle::routine::LONGEST_FILE;
 use oracle::run::{LONGEST_REPORT, MAX_PATH};
 
@@ -15,6 +16,7 @@ const _: () = assert!(
         && hpf_remap::LARGEST_DIRECTIVES == file::LONGEST_FILE
         && hpf_remap::LARGEST_PLAN == LONGEST_PLAN
         && hpf_remap::LARGEST_REPORT == LONGEST_REPORT
+        && hpf_remap::LARGEST_ROUNDS == LONGEST_ROUNDS
         && hpf_remap::LONGEST_PATH == MAX_PATH
 );
 
@@ -23,6 +25,7 @@ pub const VERIFIED: Library = Library {
     plan: |routine, out| answer(hpf_remap::plan(routine, out)),
     run: |routine, path, out| answer(hpf_remap::run(routine, path, out)),
     convert: |directives, out| answer(hpf_remap::convert(directives, out)),
+    rounds: |routine, out| answer(hpf_remap::rounds(routine, out)),
 };
 
 fn answer(outcome: hpf_remap::Outcome) -> Outcome {
@@ -67,6 +70,7 @@ impl Raw for Pointers {
         // SAFETY: as in `plan`.
         answer(unsafe { hpf_run(routine, routine_len, path, path_len, out, out_len) })
     }
+
     unsafe fn convert(
         directives: *const u8,
         directives_len: usize,
@@ -75,5 +79,15 @@ impl Raw for Pointers {
     ) -> Outcome {
         // SAFETY: as in `plan`.
         answer(unsafe { hpf_convert(directives, directives_len, out, out_len) })
+    }
+
+    unsafe fn rounds(
+        routine: *const u8,
+        routine_len: usize,
+        out: *mut u8,
+        out_len: usize,
+    ) -> Outcome {
+        // SAFETY: as in `plan`.
+        answer(unsafe { hpf_rounds(routine, routine_len, out, out_len) })
     }
 }

@@ -62,6 +62,7 @@ extern "C" fn start(job: *mut c_void) -> *mut c_void {
 pub struct Most {
     plan: usize,
     run: usize,
+    rounds: usize,
     routines: usize,
     conversion: usize,
     directives: usize,
@@ -69,12 +70,14 @@ pub struct Most {
 
 impl Most {
     pub fn bytes(&self) -> usize {
-        self.plan.max(self.run).max(self.conversion)
+        let routines = self.plan.max(self.run).max(self.rounds);
+        routines.max(self.conversion)
     }
 
     fn take(&mut self, draft: &Draft, path: &[u16]) {
         let file = draft.bytes();
         self.plan = self.plan.max(used(&Input::plan(file.clone())));
+        self.rounds = self.rounds.max(used(&Input::rounds(file.clone())));
         self.run = self.run.max(used(&Input::run(file, path_bytes(path))));
         self.routines += 1;
     }
@@ -91,12 +94,16 @@ impl fmt::Display for Most {
         let Most {
             plan,
             run,
+            rounds,
             routines,
             conversion,
             directives,
         } = self;
         write!(f, "stack: {plan} bytes for a plan, {run} for a run, ")?;
-        write!(f, "{conversion} for a conversion, the most over ")?;
+        write!(
+            f,
+            "{rounds} for rounds, {conversion} for a conversion, the most over "
+        )?;
         write!(f, "{routines} routines and {directives} directive files")
     }
 }

@@ -2,12 +2,15 @@
 
 use crate::library::{Form, Input, Library};
 use oracle::calls::Room;
-use oracle::demand3;
 use oracle::directives::{demand4, file, sets};
+use oracle::generate::limits;
 use oracle::labels::fixpoint;
 use oracle::outcome::Outcome;
 use oracle::plan::LONGEST_PLAN;
+use oracle::rounds::LONGEST_ROUNDS;
 use oracle::routine::{LONGEST_FILE, Routine};
+use oracle::{builder, demand3, rounds};
+use std::sync::LazyLock;
 
 /// Bytes before and after a lent buffer that no call may touch.
 const GUARD: usize = 64;
@@ -24,6 +27,8 @@ pub enum Difference {
     Demand3(String),
     /// The mappings of the versions in that report, against the directives.
     Mappings(String),
+    /// Numbers of rounds that no pass takes, whatever the order of the edges.
+    Rounds(String),
     /// Number, places or length.
     Outcome,
     /// A byte of the plan, report or routine, at this place.
@@ -73,7 +78,7 @@ pub struct Checked {
     pub references: usize,
     /// The answer with the longest buffer.
     pub answer: Outcome,
-    /// The plan, report or routine; empty for a refusal.
+    /// The plan, report, routine or rounds; empty for a refusal.
     pub written: Vec<u8>,
 }
 
@@ -130,7 +135,8 @@ pub fn check(library: &Library, input: &Input) -> Result<Checked, Box<Fault>> {
         let difference = (!found.inside)
             .then_some(Difference::Outside)
             .or(broken)
-            .or_else(|| difference(&expected, &found));
+            .or_else(|| difference(input, &expected, &found))
+            .or_else(|| wrong_rounds(input, &found, (index > 0).then_some(&checked.written)));
         if let Some(difference) = difference {
             return Err(Box::new(Fault {
                 difference,
@@ -148,7 +154,7 @@ pub fn check(library: &Library, input: &Input) -> Result<Checked, Box<Fault>> {
 }
 
 /// With room to spare, exact, one byte short and empty where a call succeeds; with room
-/// for any plan or routine of such a file and empty where it is refused.
+/// for any plan, routine or rounds of such a file and empty where it is refused.
 fn lengths(oracle: &Library, input: &Input) -> Vec<usize> {
     match input.call(oracle, &mut []) {
         Outcome {
@@ -163,6 +169,7 @@ fn lengths(oracle: &Library, input: &Input) -> Vec<usize> {
         // of 8 bytes, its row three of the plan's contents of 4.
         _ => match input {
             Input::Convert { directives } => vec![SPARE + directives.len().min(LONGEST_FILE), 0],
+            Input::Rounds { .. } => vec![SPARE + LONGEST_ROUNDS, 0],
             _ => vec![SPARE + LONGEST_PLAN.min(30 * input.file().len()), 0],
         },
     }
@@ -199,12 +206,49 @@ fn demand3(routine: &[u8], path: &[u8], report: &[u8]) -> Result<(), Difference>
     demand3::of_report(&routine, path, report).map_err(Difference::Demand3)
 }
 
-fn difference(expected: &Called, found: &Called) -> Option<Difference> {
+/// The numbers of rounds that the documents tell, of routines without calls.
+static TOLD: LazyLock<[(Vec<u8>, [u16; 4]); 2]> = LazyLock::new(|| {
+    [
+        (builder::p().bytes(), [2, 2, 2, 3]),
+        (limits::chain_both_ways().bytes(), [2, 2, 2, 255]),
+    ]
+});
+
+/// What is wrong with the numbers of rounds that are written: in the longest buffer by themselves,
+/// in the others if they are not the same.
+fn wrong_rounds(input: &Input, found: &Called, longest: Option<&Vec<u8>>) -> Option<Difference> {
+    let Input::Rounds { routine } = input else {
+        return None;
+    };
+    let written = found.written();
+    if written.is_empty() {
+        return None;
+    }
+    let fault = match longest {
+        Some(longest) => (written != longest).then(|| String::from("others in a longer buffer")),
+        None => rounds::fault(routine, written).or_else(|| {
+            let (_, told) = TOLD.iter().find(|(file, _)| file == routine)?;
+            let is_told = written
+                .iter()
+                .copied()
+                .eq(told.map(u16::to_le_bytes).concat());
+            (!is_told).then(|| format!("not those that are told, {told:?}"))
+        }),
+    };
+    fault.map(Difference::Rounds)
+}
+
+/// What differs. Numbers of rounds are the library's own, and not compared.
+fn difference(input: &Input, expected: &Called, found: &Called) -> Option<Difference> {
     if found.outcome != expected.outcome {
         return Some(Difference::Outcome);
     }
-    let mut bytes = found.buffer.iter().zip(&expected.buffer);
-    let place = bytes.position(|(byte, right)| byte != right)?;
+    let own = match input {
+        Input::Rounds { .. } => expected.written().len(),
+        _ => 0,
+    };
+    let mut bytes = found.buffer.iter().zip(&expected.buffer).enumerate();
+    let (place, _) = bytes.find(|(place, (byte, right))| *place >= own && byte != right)?;
     Some(if place < expected.written().len() {
         Difference::Written(place)
     } else if expected.outcome.number == 0 {

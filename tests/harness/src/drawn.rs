@@ -102,6 +102,8 @@ impl Drawn {
             Input::ConvertAndRun { directives, .. } => {
                 self.count_converted_run(directives, answer, written);
             }
+            // Those of routines that are planned, and counted there.
+            Input::Rounds { .. } => {}
         }
     }
 

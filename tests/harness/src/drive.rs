@@ -48,8 +48,8 @@ struct Driver<'a> {
     tally: Tally,
 }
 
-/// Compares a library with the oracle on all inputs: plans, runs and conversions at the same time,
-/// each in a thread up to its first mismatch.
+/// Compares a library with the oracle on all inputs: plans with their rounds, runs and conversions
+/// at the same time, each in a thread up to its first mismatch.
 pub fn compare(library: &Library, options: Options) -> Compared<Tally> {
     let all = thread::scope(|scope| {
         [compare_plans, compare_runs, compare_conversions]
@@ -63,7 +63,7 @@ pub fn compare(library: &Library, options: Options) -> Compared<Tally> {
     Ok(tally)
 }
 
-/// Compares the plans of a library with the oracle's.
+/// Compares the plans of a library and their rounds with the oracle's.
 pub fn compare_plans(library: &Library, options: Options) -> Compared<Tally> {
     let mut driver = Driver::new(library, options);
     driver.named_plans()?;
@@ -237,14 +237,21 @@ impl Driver<'_> {
         }
     }
 
+    /// What is planned is also asked for its rounds.
     fn try_one(&mut self, kind: &'static str, index: u64, input: &Input) -> Compared<Checked> {
-        match check(self.library, input) {
-            Ok(checked) => {
-                self.tally.count(kind, input, &checked);
-                Ok(checked)
-            }
-            Err(fault) => Err(self.mismatch(kind, index, input, *fault)),
+        let checked = self.check(kind, index, input)?;
+        self.tally.count(kind, input, &checked);
+        if let Input::Plan { routine } = input {
+            let input = Input::rounds(routine.clone());
+            let rounds = self.check(kind, index, &input)?;
+            self.tally
+                .count("rounds of what is planned", &input, &rounds);
         }
+        Ok(checked)
+    }
+
+    fn check(&self, kind: &'static str, index: u64, input: &Input) -> Compared<Checked> {
+        check(self.library, input).map_err(|fault| self.mismatch(kind, index, input, *fault))
     }
 
     fn try_all(&mut self, kind: &'static str, inputs: impl Iterator<Item = Input>) -> Compared {

@@ -1,4 +1,5 @@
-//! Holds a library that plans, runs and converts against the oracle, byte by byte.
+//! Holds a library that plans, runs and converts, and gives its rounds, against the oracle, byte by
+//! byte.
 
 pub mod check;
 mod drawn;

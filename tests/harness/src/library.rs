@@ -2,6 +2,7 @@
 
 use oracle::directives::{self, convert, states};
 use oracle::outcome::Outcome;
+use oracle::rounds;
 use oracle::routine::{LONGEST_FILE, Routine};
 
 /// Plans a routine into a buffer.
@@ -13,12 +14,16 @@ pub type Run = fn(&[u8], &[u8], &mut [u8]) -> Outcome;
 /// Converts a directive file to a routine in a buffer.
 pub type Convert = fn(&[u8], &mut [u8]) -> Outcome;
 
+/// Writes the rounds of a planner's passes for a routine into a buffer.
+pub type Rounds = fn(&[u8], &mut [u8]) -> Outcome;
+
 /// A library's calls.
 #[derive(Clone, Copy)]
 pub struct Library {
     pub plan: Plan,
     pub run: Run,
     pub convert: Convert,
+    pub rounds: Rounds,
 }
 
 /// The oracle's own calls, with the labels by data flow and conversions by sets.
@@ -26,6 +31,7 @@ pub const ORACLE: Library = Library {
     plan: oracle::plan::plan,
     run: oracle::run::run,
     convert: convert::convert,
+    rounds: rounds::rounds,
 };
 
 /// The oracle's own calls, with the labels by listing paths and conversions by whole states.
@@ -35,6 +41,7 @@ const LITERAL: Library = Library {
     convert: |directives, out| {
         convert::convert_by_states(directives, MOST_STATES, out).expect("the states are few")
     },
+    rounds: rounds::rounds_by_paths,
 };
 
 /// Whole states say what is expected of a directive file that has no more.
@@ -58,6 +65,9 @@ pub enum Input {
         directives: Vec<u8>,
         path: Vec<u8>,
     },
+    Rounds {
+        routine: Vec<u8>,
+    },
 }
 
 impl Input {
@@ -77,17 +87,23 @@ impl Input {
         Input::ConvertAndRun { directives, path }
     }
 
+    pub fn rounds(routine: Vec<u8>) -> Input {
+        Input::Rounds { routine }
+    }
+
     /// The routine file or the directive file.
     pub fn file(&self) -> &[u8] {
         match self {
-            Input::Plan { routine } | Input::Run { routine, .. } => routine,
+            Input::Plan { routine } | Input::Run { routine, .. } | Input::Rounds { routine } => {
+                routine
+            }
             Input::Convert { directives } | Input::ConvertAndRun { directives, .. } => directives,
         }
     }
 
     pub fn path(&self) -> Option<&[u8]> {
         match self {
-            Input::Plan { .. } | Input::Convert { .. } => None,
+            Input::Plan { .. } | Input::Convert { .. } | Input::Rounds { .. } => None,
             Input::Run { path, .. } | Input::ConvertAndRun { path, .. } => Some(path),
         }
     }
@@ -99,6 +115,7 @@ impl Input {
             Input::Run { path, .. } => Input::run(file, path),
             Input::Convert { .. } => Input::convert(file),
             Input::ConvertAndRun { path, .. } => Input::convert_and_run(file, path),
+            Input::Rounds { .. } => Input::rounds(file),
         }
     }
 
@@ -112,6 +129,7 @@ impl Input {
                 Ok(routine) => (library.run)(&routine, path, out),
                 Err(refusal) => refusal,
             },
+            Input::Rounds { routine } => (library.rounds)(routine, out),
         }
     }
 }
@@ -143,7 +161,9 @@ impl Form {
     /// Literal for small files: there are few paths to list, or few states.
     pub fn of(input: &Input) -> Form {
         match input {
-            Input::Plan { routine } | Input::Run { routine, .. } => Form::of_routine(routine),
+            Input::Plan { routine } | Input::Run { routine, .. } | Input::Rounds { routine } => {
+                Form::of_routine(routine)
+            }
             Input::Convert { directives } => Form::of_directives(directives),
             Input::ConvertAndRun { directives, .. } => {
                 match (

@@ -35,6 +35,16 @@ pub trait Raw {
         out: *mut u8,
         out_len: usize,
     ) -> Outcome;
+
+    /// # Safety
+    ///
+    /// As for `plan`.
+    unsafe fn rounds(
+        routine: *const u8,
+        routine_len: usize,
+        out: *mut u8,
+        out_len: usize,
+    ) -> Outcome;
 }
 
 /// The answer for a call that changed what it was to read: no right call gives it.
@@ -50,6 +60,7 @@ pub fn library<R: Raw>() -> Library {
         plan: plan::<R>,
         run: run::<R>,
         convert: convert::<R>,
+        rounds: rounds::<R>,
     }
 }
 
@@ -94,4 +105,11 @@ fn convert<R: Raw>(directives: &[u8], out: &mut [u8]) -> Outcome {
     // SAFETY: as in `plan`.
     let outcome = unsafe { R::convert(start(&mut lent), lent.len(), start(out), out.len()) };
     if lent == directives { outcome } else { CHANGED }
+}
+
+fn rounds<R: Raw>(routine: &[u8], out: &mut [u8]) -> Outcome {
+    let mut lent = routine.to_vec();
+    // SAFETY: as in `plan`.
+    let outcome = unsafe { R::rounds(start(&mut lent), lent.len(), start(out), out.len()) };
+    if lent == routine { outcome } else { CHANGED }
 }

@@ -106,7 +106,7 @@ impl fmt::Display for Input {
     fn fmt(&self, f: &mut fmt::Formatter) -> fmt::Result {
         let file = self.file();
         match self {
-            Input::Plan { .. } | Input::Run { .. } => {
+            Input::Plan { .. } | Input::Run { .. } | Input::Rounds { .. } => {
                 f.write_str(&named("routine", file))?;
                 let draft = Draft::from_bytes(file);
                 f.write_str(&draft.as_ref().map_or_else(String::new, routine))?;
@@ -142,6 +142,7 @@ impl fmt::Display for Mismatch {
             Difference::Outside => String::from("a byte outside the buffer is touched"),
             Difference::Demand3(reason) => format!("demand 3: {reason}"),
             Difference::Mappings(reason) => format!("mappings: {reason}"),
+            Difference::Rounds(reason) => format!("rounds: {reason}"),
         };
         let length = fault.found.buffer.len();
         writeln!(text, "{difference}, buffer of {length} bytes")?;

@@ -4,13 +4,14 @@ mod calls;
 mod conversions;
 mod interfaces;
 mod plans;
+mod rounds;
 mod runs;
 
 use crate::drawn::Drawn;
 use crate::drive::{
     Mismatch, Options, compare, compare_conversions, compare_plans, compare_runs, named_directives,
 };
-use crate::library::{Convert, Form, Input, Library, ORACLE, Plan, Run};
+use crate::library::{Convert, Form, Input, Library, ORACLE, Plan, Rounds, Run};
 use oracle::builder::{self, Draft};
 use oracle::calls::Room;
 use oracle::directives::{Program, file};
@@ -18,6 +19,7 @@ use oracle::generate::directives::{self, EXAMPLE};
 use oracle::labels::fixpoint;
 use oracle::outcome::Outcome;
 use oracle::routine::Routine;
+use std::collections::BTreeMap;
 
 const FEW: Options = Options {
     routines: 2000,
@@ -56,6 +58,18 @@ fn converter(faulty: Convert) -> (Box<Mismatch>, Option<Program>) {
     let (mismatch, _) = in_parts(mismatch);
     let program = file::parse(mismatch.input.file()).ok();
     (mismatch, program)
+}
+
+/// The mismatch that faulty rounds give, and the parts of their small routine.
+fn counter(faulty: Rounds) -> (Box<Mismatch>, Option<Draft>) {
+    let library = Library {
+        rounds: faulty,
+        ..ORACLE
+    };
+    let mismatch = compare_plans(&library, FEW).expect_err("the fault is not found");
+    let (mismatch, draft) = in_parts(mismatch);
+    assert!(matches!(mismatch.input, Input::Rounds { .. }), "{mismatch}");
+    (mismatch, draft)
 }
 
 fn in_parts(mismatch: Box<Mismatch>) -> (Box<Mismatch>, Option<Draft>) {
@@ -166,7 +180,13 @@ fn the_oracle_agrees_with_itself() {
         ("run, refused routine", 100),
         ("run, two arrays of each kind", 100),
     ];
-    assert_eq!(tally.kinds, expected.into());
+    let planned = expected
+        .iter()
+        .filter(|(kind, _)| kind.starts_with("plan, "));
+    let rounds = planned.map(|(_, count)| count).sum();
+    let mut expected = BTreeMap::from(expected);
+    expected.insert("rounds of what is planned", rounds);
+    assert_eq!(tally.kinds, expected);
 }
 
 /// A generator that draws nothing but T without its read: only N, no run with a record.

@@ -21,7 +21,9 @@ pub fn demand(name: &str, input: Input, holds: &dyn Fn(&Input) -> Result<(), Str
 /// A small input that still fails, from one that fails.
 pub fn shrink(input: Input, fails: &dyn Fn(&Input) -> bool) -> Input {
     match input {
-        Input::Plan { .. } | Input::Run { .. } => routines::shrink(input, fails),
+        Input::Plan { .. } | Input::Run { .. } | Input::Rounds { .. } => {
+            routines::shrink(input, fails)
+        }
         Input::Convert { .. } | Input::ConvertAndRun { .. } => directives::shrink(input, fails),
     }
 }

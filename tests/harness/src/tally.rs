@@ -7,7 +7,7 @@ use crate::library::{Form, Input};
 use std::collections::{BTreeMap, BTreeSet};
 use std::fmt;
 
-/// Every answer of a call, 0 being success.
+/// Every answer of a call, 0 being success. Rounds have those of a plan.
 const PLAN_ANSWERS: [u64; 15] = [0, 1, 10, 11, 12, 13, 14, 15, 16, 17, 18, 19, 20, 21, 22];
 const RUN_ANSWERS: [u64; 18] = [
     0, 2, 10, 11, 12, 13, 14, 15, 16, 17, 18, 19, 20, 21, 22, 30, 31, 32,
@@ -27,6 +27,7 @@ pub struct Tally {
     conversions: Answers,
     /// Of conversions whose routine was run.
     converted_runs: Answers,
+    rounds: Answers,
     /// Inputs whose labels were expected by the literal rules, and by data flow.
     literal: u64,
     fixpoint: u64,
@@ -57,6 +58,7 @@ impl Tally {
             Input::ConvertAndRun { .. } => {
                 (&mut self.converted_runs, &mut self.states, &mut self.sets)
             }
+            Input::Rounds { .. } => (&mut self.rounds, &mut self.literal, &mut self.fixpoint),
         };
         for &number in &checked.numbers {
             *answers.entry(number).or_default() += 1;
@@ -75,6 +77,7 @@ impl Tally {
         add(&mut self.runs, &other.runs);
         add(&mut self.conversions, &other.conversions);
         add(&mut self.converted_runs, &other.converted_runs);
+        add(&mut self.rounds, &other.rounds);
         self.literal += other.literal;
         self.fixpoint += other.fixpoint;
         self.states += other.states;
@@ -100,6 +103,7 @@ impl Tally {
             &CONVERT_AND_RUN_ANSWERS,
             &self.converted_runs,
         ));
+        missing.extend(never("rounds", &PLAN_ANSWERS, &self.rounds));
         // An accepted run answers 0 with the two buffers that are long enough.
         let reports = |answers: &Answers| answers.get(&0).map_or(0, |count| count / 2);
         let reports = reports(&self.runs) + reports(&self.converted_runs);
@@ -130,21 +134,22 @@ impl fmt::Display for Tally {
         }
         writeln!(
             f,
-            "{:<10}{:>13}{:>13}{:>13}{:>16}",
-            "answer", "plans", "runs", "conversions", "converted runs"
+            "{:<10}{:>13}{:>13}{:>13}{:>16}{:>13}",
+            "answer", "plans", "runs", "conversions", "converted runs", "rounds"
         )?;
         let calls = [
             &self.plans,
             &self.runs,
             &self.conversions,
             &self.converted_runs,
+            &self.rounds,
         ];
         let numbers: BTreeSet<u64> = calls.iter().flat_map(|call| call.keys().copied()).collect();
         for number in numbers {
-            let [plans, runs, conversions, converted_runs] =
+            let [plans, runs, conversions, converted_runs, rounds] =
                 calls.map(|answers| answers.get(&number).copied().unwrap_or(0));
             write!(f, "{number:<10}{plans:>13}{runs:>13}")?;
-            writeln!(f, "{conversions:>13}{converted_runs:>16}")?;
+            writeln!(f, "{conversions:>13}{converted_runs:>16}{rounds:>13}")?;
         }
         write!(f, "{}", self.drawn)?;
         let Tally {

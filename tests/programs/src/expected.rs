@@ -55,6 +55,7 @@ pub fn program(input: &Input) -> &'static str {
         Input::Run { .. } => "runner",
         Input::Convert { .. } => "converter",
         Input::ConvertAndRun { .. } => unreachable!("no program makes both calls"),
+        Input::Rounds { .. } => unreachable!("no program makes this call"),
     }
 }
 

@@ -38,6 +38,9 @@ returns c =
         answers = fails (check21 (s .args .file .now)) (c .before .before .check-writes .ensures) f;
         letters-are = not-passed f;
         reaching-are = not-passed f;
+        letters-stop = not-passed f;
+        reached-stops = not-passed f;
+        reaching-stops = not-passed f;
       },
     )
 
@@ -68,7 +71,7 @@ check-ambiguous-requires : tie.Need-check-ambiguous-requires
 check-ambiguous-requires c κs =
     let r = c .before .before .before .before .before .before .before in
     let p = start (lettered r) .pre in
-    (p .0, (p .1 .1 .1 .0, reaching-there (r .reaching2 .ensures)))
+    (p .0, (p .1 .1 .1 .0, reaching-there (r .reaching2 .ensures .0)))
 
 same-length : tie.Need-same-length
 same-length c = reached c .before .before .before .before .before .before .before .before .reorder .kept .1 .1 .0
@@ -93,8 +96,11 @@ returns-2 c =
       r .before .before .before .before .before .before .before .before .reorder .ensures,
       record {
         answers = passes (l .before .before .before .before .before .before .before .check-writes .ensures) (l .before .before .before .before .before .enum-told2 .given .1) (c .check-ambiguous .ensures);
-        letters-are = λ e. l .letters .ensures .0;
-        reaching-are = λ e. r .reaching2 .ensures;
+        letters-are = λ _. l .letters .ensures .0;
+        reaching-are = λ _. r .reaching2 .ensures .0;
+        letters-stop = λ _. l .letters .ensures .1;
+        reached-stops = λ _. r .reaching2 .ensures .1 .0;
+        reaching-stops = λ _. r .reaching2 .ensures .1 .1;
       },
     )
 

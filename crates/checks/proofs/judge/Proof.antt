@@ -61,6 +61,8 @@ returns c =
     record {
       answers = fails (check21 (start (ordered (tabled w)) .args .file .now)) (w .check-writes .ensures) f;
       brought-are = not-passed f;
+      reached-first = not-passed f;
+      brought-stops = not-passed f;
     }
 
 -- ---- 21
@@ -80,7 +82,7 @@ check-ambiguous-requires c κs =
     let b = c .before .before .before .before .before .before .before .before .before .before in
     let t = tabled (written b) in
     let is = start (ordered t) .pre .0 in
-    (is, (t .tabulate .ensures .1, brought-there (is .well) (b .brought .ensures .1)))
+    (is, (t .tabulate .ensures .1, brought-there (is .well) (b .brought .ensures .1 .0)))
 
 same-length-4 : tie.Need-same-length-4
 same-length-4 c = brought c .brought .kept .1 .1 .0 ∙ ordered (tabled (written (brought c))) .by-number .kept .1 .1 .0
@@ -106,7 +108,9 @@ returns-2 c =
     let b = brought c in
     record {
       answers = passes (written b .check-writes .ensures) (b .before .before .before .before .before .before .enum-told2 .given .1) (c .check-ambiguous .ensures);
-      brought-are = λ e. b .brought .ensures .1;
+      brought-are = λ _. b .brought .ensures .1 .0;
+      reached-first = λ _. b .brought .ensures .1 .1 .0;
+      brought-stops = λ _. b .brought .ensures .1 .1 .1;
     }
 
 pub judge-spec : {M : Type 1} → statement M

@@ -40,7 +40,7 @@ solve-requires-2 c κs =
     let r = c .before .before .before .before .before .before .before .before .before .before .before in
     let o = ordered r in
     let s = start o in
-    (s .pre .0, (o .order .ensures, (r .solve .ensures, (s .pre .1 .1 .1 .1 .1 .0, (r .solve .kept .1 .1 .1 .1 .0 ∙ s .pre .1 .1 .1 .1 .1 .1 .1 .1 .0, r .solve .kept .1 .1 .1 .1 .1 .0 ∙ s .pre .1 .1 .1 .1 .1 .1 .1 .1 .1)))))
+    (s .pre .0, (o .order .ensures, (r .solve .ensures .0, (s .pre .1 .1 .1 .1 .1 .0, (r .solve .kept .1 .1 .1 .1 .0 ∙ s .pre .1 .1 .1 .1 .1 .1 .1 .1 .0, r .solve .kept .1 .1 .1 .1 .1 .0 ∙ s .pre .1 .1 .1 .1 .1 .1 .1 .1 .1)))))
 
 solve-requires-3 : tie.Need-solve-requires-3
 solve-requires-3 c κs =
@@ -48,7 +48,7 @@ solve-requires-3 c κs =
     let r = reaches a in
     let o = ordered r in
     let s = start o in
-    (s .pre .0, (o .order .ensures, (omega arith, (r .solve .ensures, (s .pre .1 .1 .1 .1 .1 .1 .0, (s .pre .1 .1 .0, (a .solve2 .kept .1 .1 .1 .1 .1 .0 ∙ r .solve .kept .1 .1 .1 .1 .0 ∙ s .pre .1 .1 .1 .1 .1 .1 .1 .1 .0, a .solve2 .kept .1 .1 .1 .1 .1 .1 .0 ∙ r .solve .kept .1 .1 .1 .1 .1 .0 ∙ s .pre .1 .1 .1 .1 .1 .1 .1 .1 .1)))))))
+    (s .pre .0, (o .order .ensures, (omega arith, (r .solve .ensures .0, (s .pre .1 .1 .1 .1 .1 .1 .0, (s .pre .1 .1 .0, (a .solve2 .kept .1 .1 .1 .1 .1 .0 ∙ r .solve .kept .1 .1 .1 .1 .0 ∙ s .pre .1 .1 .1 .1 .1 .1 .1 .1 .0, a .solve2 .kept .1 .1 .1 .1 .1 .1 .0 ∙ r .solve .kept .1 .1 .1 .1 .1 .0 ∙ s .pre .1 .1 .1 .1 .1 .1 .1 .1 .1)))))))
 
 solve-requires-4 : tie.Need-solve-requires-4
 solve-requires-4 c κs =
@@ -57,7 +57,7 @@ solve-requires-4 c κs =
     let r = reaches a in
     let o = ordered r in
     let s = start o in
-    (s .pre .0, (o .order .ensures, (omega arith, (r .solve .ensures, (s .pre .1 .1 .1 .1 .1 .1 .1 .0, (l .solve3 .kept .1 .1 .1 .1 .1 .1 .0 ∙ s .pre .1 .1 .0, (l .solve3 .kept .1 .1 .1 .1 .1 .1 .1 .0 ∙ a .solve2 .kept .1 .1 .1 .1 .1 .0 ∙ r .solve .kept .1 .1 .1 .1 .0 ∙ s .pre .1 .1 .1 .1 .1 .1 .1 .1 .0, l .solve3 .kept .1 .1 .1 .1 .1 .1 .1 .1 .0 ∙ a .solve2 .kept .1 .1 .1 .1 .1 .1 .0 ∙ r .solve .kept .1 .1 .1 .1 .1 .0 ∙ s .pre .1 .1 .1 .1 .1 .1 .1 .1 .1)))))))
+    (s .pre .0, (o .order .ensures, (omega arith, (r .solve .ensures .0, (s .pre .1 .1 .1 .1 .1 .1 .1 .0, (l .solve3 .kept .1 .1 .1 .1 .1 .1 .0 ∙ s .pre .1 .1 .0, (l .solve3 .kept .1 .1 .1 .1 .1 .1 .1 .0 ∙ a .solve2 .kept .1 .1 .1 .1 .1 .0 ∙ r .solve .kept .1 .1 .1 .1 .0 ∙ s .pre .1 .1 .1 .1 .1 .1 .1 .1 .0, l .solve3 .kept .1 .1 .1 .1 .1 .1 .1 .1 .0 ∙ a .solve2 .kept .1 .1 .1 .1 .1 .1 .0 ∙ r .solve .kept .1 .1 .1 .1 .1 .0 ∙ s .pre .1 .1 .1 .1 .1 .1 .1 .1 .1)))))))
 
 check-requires : tie.Need-check-requires
 check-requires c κs =
@@ -67,7 +67,7 @@ check-requires c κs =
     let r = reaches a in
     let o = ordered r in
     let s = start o in
-    (s .pre .0, (a .solve2 .ensures, (l .solve3 .ensures, (h .solve4 .ensures, (h .solve4 .kept .1 .1 .1 .1 .1 .1 .0 ∙ l .solve3 .kept .1 .1 .1 .1 .1 .1 .0 ∙ s .pre .1 .1 .0, s .pre .1 .1 .1 .0)))))
+    (s .pre .0, (a .solve2 .ensures .0, (l .solve3 .ensures, (h .solve4 .ensures, (h .solve4 .kept .1 .1 .1 .1 .1 .1 .0 ∙ l .solve3 .kept .1 .1 .1 .1 .1 .1 .0 ∙ s .pre .1 .1 .0, s .pre .1 .1 .1 .0)))))
 
 same-length : tie.Need-same-length
 same-length c = ordered (reaches (aligns (lows (highs (c .before .before .before .before))))) .order .kept .1 .1 .0

@@ -1,11 +1,10 @@
 -- `expand_counted` meets its contract: 22, and where it passes the rest.
 -- Assumes nothing.
-use mathlib.Core.Path.{sym, subst}
+use mathlib.Core.Path.{ap}
 use Prim.Native.Nat.{ℕ}
 use native.Mathlib.Omega.{arith}
 use Rattle.refusal.specs.declared.Refusal.the-variants.{TooManyVertices}
 use Rattle.routine.specs.declared.reader.Answer.the-variants.{Refused}
-use Rattle.expansion.specs.Expansion.{Expansion}
 use Rattle.expansion.proofs.Ways.{too-many}
 use borrow.Author.Needs.{needs}
 use Rattle.expansion.proofs.expand_counted.Statement.{statement}
@@ -21,7 +20,7 @@ returns : tie.Need-returns
 returns c =
     let s = c .before .before .before .before .before .before .before .before in
     let e = c .before .before .before .fill-firsts .ensures .1 in
-    subst (λ (n : ℕ). Expansion (s .args .file .now) (Refused (TooManyVertices n)) (s .args .out .now)) (sym e) (too-many (s .args .file .now) (omega (arith, e)))
+    too-many (s .args .file .now) (omega (arith, e)) (ap (λ (n : ℕ). Refused (TooManyVertices n)) e)
 
 expand-few-requires : tie.Need-expand-few-requires
 expand-few-requires c κs =

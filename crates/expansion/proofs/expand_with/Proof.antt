@@ -1,6 +1,6 @@
 -- `expand_with` meets its contract: 20 and 21, and where both pass the expanded routine.
 -- Assumes nothing.
-use mathlib.Core.Path.{sym}
+use mathlib.Core.Path.{refl, sym}
 use mathlib.Core.List.{_++_}
 use native.Mathlib.Omega.{arith}
 use lib.ListN.{length, drop}
@@ -25,8 +25,8 @@ judge-requires c κs =
     let s = c .before .before .before .before .before .before .before .before .before .before .before .before .before .before .before .before in
     (s .pre .0, (s .pre .1 .0 .interfaces, (length-take-le (length (s .args .file .now)) (s .args .out .now) (omega (arith, file-fits (s .pre .1 .0), s .pre .1 .1 .1 .1 .0)), s .pre .1 .1 .1 .1 .1)))
 
-enum-known-judged : tie.Need-enum-known-judged
-enum-known-judged c = search needs
+enum-known-verdict : tie.Need-enum-known-verdict
+enum-known-verdict c = search needs
 
 same-length : tie.Need-same-length
 same-length c = search needs
@@ -53,7 +53,7 @@ returns : tie.Need-returns
 returns c =
     let j = c .before .before .before .before .before .before .before .before .before .before .before .before .before .before .before .before .before in
     let s = start j in
-    calls-refused (s .args .file .now) (s .pre .1 .0 .few-vertices) (j .judge .ensures .answers) (c .before .judged .given .1)
+    calls-refused (s .args .file .now) (s .pre .1 .0 .few-vertices) (j .judge .ensures) (c .before .verdict .given .1) refl
 
 enum-told : tie.Need-enum-told
 enum-told c = search needs
@@ -92,7 +92,7 @@ returns-2 c =
     let w = c .before .before in
     let j = c .before .before .before .before .before .before .before .before .before .before .before .before .before .before .before .before .before .before .before .before .before in
     let s = start j in
-    calls-expanded (s .args .file .now) (s .pre .1 .0 .few-vertices) (j .judge .ensures .answers)
+    calls-expanded (s .args .file .now) (s .pre .1 .0 .few-vertices) (j .judge .ensures)
     (j .judge .last .1 .1 .0 ++ drop (length (s .args .file .now)) (s .args .out .now)) (w .before .before .before .enum-told .given .1) (w .write .ensures .0) (w .write .ensures .1)
 
 pub expand-with-spec : {M : Type 1} → statement M
@@ -102,7 +102,7 @@ expand-with-spec =
     slice-relend-prefix-judge
     slice-aggregate-judge
     judge-requires
-    enum-known-judged
+    enum-known-verdict
     same-length
     same-length-2
     same-length-3

@@ -69,7 +69,7 @@ enum-told-2 : tie.Need-enum-told-2
 enum-told-2 c = search needs
 
 -- 20 and 21 are passed
-passed : (c : tie.After-enum-told2) → prepared (c .before .before .before .before) .prepare .result ≡ Passed
+passed : (c : tie.After-enum-told2) → prepared (c .before .before .before .before) .prepare .result .verdict ≡ Passed
 passed c =
     let q = c .before .before .before .before in
     let x = prepared q in
@@ -99,7 +99,7 @@ write-requires c κs =
           record {
             versions-are = k .1 .0;
             reaching-are = k .1 .1 .reaching-are (passed e);
-            letters-and-kept = record { letters-are = k .1 .1 .letters-are (passed e); kept-are = t .kept .ensures };
+            letters-and-kept = record { letters-are = k .1 .1 .letters-are (passed e); kept-are = t .kept .ensures .0 };
           },
           plan-fits (s .args .file .now) (s .args .out .now) (q .reply .ensures .answer) (e .enum-told2 .given .1),
         ),

@@ -72,7 +72,7 @@ enum-told-2 : tie.Need-enum-told-2
 enum-told-2 c = search needs
 
 -- 20 and 21 are passed
-passed : (c : tie.After-enum-told2) → prepared (c .before .before .before .before) .prepare .result ≡ Passed
+passed : (c : tie.After-enum-told2) → prepared (c .before .before .before .before) .prepare .result .verdict ≡ Passed
 passed c =
     let q = c .before .before .before .before in
     let x = prepared q in
@@ -100,7 +100,7 @@ write-requires c κs =
       (
         run-follows f (s .args .path .now) (s .args .out .now) (q .reply .ensures) w,
         (
-          record { letters-are = x .prepare .ensures .1 .1 .letters-are (passed e); kept-are = t .kept2 .ensures },
+          record { letters-are = x .prepare .ensures .1 .1 .letters-are (passed e); kept-are = t .kept2 .ensures .0 },
           run-fits f (s .args .path .now) (s .args .out .now) (q .reply .ensures) w,
         ),
       ),

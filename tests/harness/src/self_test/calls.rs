@@ -1,13 +1,13 @@
 //! Faults of all calls: lengths, inputs that are changed, memory that threads share.
 
-use super::{FEW, converter, outcome, planner, runner};
+use super::{FEW, converter, counter, outcome, planner, runner};
 use crate::check::Difference;
 use crate::drive::{compare, compare_conversions, compare_plans, compare_runs};
-use crate::library::Library;
+use crate::library::{Library, ORACLE};
 use crate::raw::{self, CHANGED, Raw};
 use oracle::directives::convert;
 use oracle::outcome::Outcome;
-use oracle::{plan, run};
+use oracle::{plan, rounds, run};
 use std::slice;
 use std::sync::Mutex;
 use std::thread;
@@ -21,7 +21,11 @@ fn a_file_length_of_16_bits() {
     fn faulty_run(file: &[u8], path: &[u8], out: &mut [u8]) -> Outcome {
         run::run(&file[..file.len() % 65_536], path, out)
     }
-    for (mismatch, _) in [planner(faulty), runner(faulty_run)] {
+    fn faulty_rounds(file: &[u8], out: &mut [u8]) -> Outcome {
+        rounds::rounds(&file[..file.len() % 65_536], out)
+    }
+    let mismatches = [planner(faulty), runner(faulty_run), counter(faulty_rounds)];
+    for (mismatch, _) in mismatches {
         assert_eq!(mismatch.fault.difference, Difference::Outcome);
         assert_eq!(mismatch.fault.expected.outcome, outcome(13, 18, 0));
         assert!(mismatch.kind.ends_with(", far too long"), "{mismatch}");
@@ -109,16 +113,37 @@ impl Raw for Scribbler {
         }
         answer
     }
+
+    unsafe fn rounds(
+        routine: *const u8,
+        routine_len: usize,
+        out: *mut u8,
+        out_len: usize,
+    ) -> Outcome {
+        // SAFETY: as in `plan`.
+        let (routine, out) =
+            unsafe { (bytes(routine.cast_mut(), routine_len), bytes(out, out_len)) };
+        let answer = rounds::rounds(routine, out);
+        if answer.number == 22 {
+            routine[routine_len - 1] ^= 1;
+        }
+        answer
+    }
 }
 
 /// A file, and a path, that is not as it was after the call.
 #[test]
 fn a_changed_input() {
     let library = raw::library::<Scribbler>();
+    let rounds_alone = Library {
+        rounds: library.rounds,
+        ..ORACLE
+    };
     for (mismatch, number) in [
         (compare_plans(&library, FEW).unwrap_err(), 21),
         (compare_runs(&library, FEW).unwrap_err(), 32),
         (compare_conversions(&library, FEW).unwrap_err(), 42),
+        (compare_plans(&rounds_alone, FEW).unwrap_err(), 22),
     ] {
         assert_eq!(mismatch.fault.difference, Difference::Outcome);
         assert_eq!(mismatch.fault.expected.outcome.number, number);
@@ -140,6 +165,7 @@ fn threads_that_share_memory() {
         plan: |file, out| plan::plan(&keep(file), out),
         run: |file, path, out| run::run(&keep(file), path, out),
         convert: |file, out| convert::convert(&keep(file), out),
+        rounds: |file, out| rounds::rounds(&keep(file), out),
     };
     compare(&library, FEW).expect_err("the fault is not found");
 }

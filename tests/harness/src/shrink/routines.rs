@@ -12,6 +12,8 @@ struct Parts {
     /// the expanded routine's follow on the file's last vertex.
     path: Option<Vec<Place>>,
     odd_byte: bool,
+    /// Whether rounds are asked for, and no plan.
+    rounds: bool,
 }
 
 /// The vertices that the rows of a routine become, and the first one's number for each row.
@@ -38,6 +40,7 @@ impl Parts {
             path: input.path().map(path),
             routine,
             odd_byte: input.path().is_some_and(|path| path.len() % 2 == 1),
+            rounds: matches!(input, Input::Rounds { .. }),
         }
     }
 
@@ -69,7 +72,10 @@ impl super::Parts for Parts {
             Err(bytes) => bytes.clone(),
         };
         let Some(path) = &self.path else {
-            return Input::plan(routine);
+            return match self.rounds {
+                true => Input::rounds(routine),
+                false => Input::plan(routine),
+            };
         };
         let mut path = path_bytes(&self.numbers(path));
         path.extend(self.odd_byte.then_some(0));

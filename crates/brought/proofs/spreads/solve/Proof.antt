@@ -52,7 +52,7 @@ loop-again c =
     let t = c .before .before .before .before .before .before .before .before .before .before .before .before .before in
     let inv = t .before .loop .inv in (
       omega (arith, t .loop-test .taken),
-      c .before .before .before .before .before .before .before .before .solve-template .ensures,
+      c .before .before .before .before .before .before .before .before .solve-template .ensures .0,
       c .before .before .before .before .before .sets .given ∙ inv .2,
       c .before .before .before .gives .given ∙ inv .3,
       c .before .passes .given ∙ inv .4,

@@ -1,8 +1,13 @@
 -- `spreads::solve_template` meets its contract: the tables are filled, the pass solved, and the rows that are asked for copied.
 -- Assumes nothing.
-use mathlib.Core.Path.{sym, _∙_}
+use mathlib.Core.Path.{refl, sym, _∙_}
+use mathlib.Core.Logic.{inl, inr}
+use Prim.Native.Nat.{_+_}
+use native.Mathlib.Nat.{le-refl}
 use borrow.Author.Needs.{needs}
 use borrow.Author.Tests.{not-true}
+use Rattle.facts.proofs.Rounds.{pass-stops, none-beyond}
+use Rattle.brought.specs.Cells.{spreadGives, spreadPasses}
 use Rattle.brought.proofs.SpreadRows.{spreads-solved, spreads-on}
 use Rattle.brought.proofs.spreads.solve_template.Statement.{statement}
 use Rattle.brought.proofs.spreads.solve_template.Tie as tie
@@ -13,7 +18,8 @@ is-asked-requires c κs = search needs
 returns : tie.Need-returns
 returns c =
     let s = c .before .before .before .before .before .before .before .before .before in
-    spreads-on (s .args .t) (s .pre .1 .1 .1 .1 .0) (sym (c .before .is-asked .ensures) ∙ not-true _ (c .if1 .taken))
+    let none = sym (c .before .is-asked .ensures) ∙ not-true _ (c .if1 .taken) in
+    (spreads-on (s .args .t) (s .pre .1 .1 .1 .1 .0) none, inr (refl, none))
 
 fill-requires : tie.Need-fill-requires
 fill-requires c κs =
@@ -45,7 +51,15 @@ same-length-4 : tie.Need-same-length-4
 same-length-4 c = search needs
 
 returns-2 : tie.Need-returns-2
-returns-2 c = search needs
+returns-2 c =
+    let x = c .before .before in
+    let s = x .before .before .before .before .before .before .before .before .before .before .before .before .before .before .before .before .before .before .before .before .before .before .before .before .before in
+    let file = s .args .file .now in
+    let t = s .args .t in
+    let filled = x .before .before .before .before .before .before .before .before .before .before .before .before .before .fill .ensures in (
+      x .copy-asked .ensures,
+      inl (pass-stops (λ k v. spreadGives file t (s .args .first + k) v) (λ k v. spreadPasses file t v) (s .pre .0) (le-refl 8) (s .pre .1 .0) (filled .0) (filled .1) (none-beyond _ _) (x .before .before .before .before .before .solve .ensures .1)),
+    )
 
 pub solve-template-spec : {M : Type 1} → statement M
 solve-template-spec =

@@ -5,10 +5,12 @@ use mathlib.Core.List.{List}
 use Prim.Native.Nat.{ℕ, _+_, _-_, _*_, _≤_, _<_}
 use native.Mathlib.Omega.{arith}
 use lib.ListN.{getD}
+use Rattle.flow.specs.Cells.{NoneBeyond}
 use Rattle.flow.proofs.Cells.{rowsTo, rows-none, rows-next, rows-all}
 use Rattle.directives.proofs.Limits.{read-heads}
-use Rattle.directives.specs.Layout.{vertices}
+use Rattle.directives.specs.Layout.{arrays, vertices}
 use Rattle.mappings.specs.Tables.{ArrayCells}
+use Rattle.facts.proofs.Rounds.{none-next}
 use Rattle.left.specs.Cells.{heldGives, heldPasses}
 use Rattle.left.proofs.Cells.{few-columns}
 use Rattle.left.proofs.held.fill.Statement.{statement}
@@ -21,6 +23,7 @@ givesAt file t given a v = heldGives file t a v (getD given (8 * v + a) 0)
 abbrev Inv-loop : tie.InvT-loop
 Inv-loop file h t given gives₀ passes₀ n v₀ gives passes v =
     ArrayCells file (rowsTo (givesAt file t given) gives₀ v) gives × ArrayCells file (rowsTo (heldPasses file t) passes₀ v) passes
+    × NoneBeyond (arrays file) (vertices file) gives
 
 abbrev μ-loop : tie.MeasureT-loop
 μ-loop file h t given gives₀ passes₀ n v₀ gives passes v = n - v
@@ -36,7 +39,7 @@ module _ (c : tie.In-loop Inv-loop μ-loop) where
 loop-holds : tie.Need-loop-holds Inv-loop μ-loop
 loop-holds c =
     let p = c .before .before .before .before .pre in
-    (rows-none (few-columns (p .0)) _ _ (p .1 .1 .0), rows-none (few-columns (p .0)) _ _ (p .1 .1 .1))
+    (rows-none (few-columns (p .0)) _ _ (p .1 .1 .0), rows-none (few-columns (p .0)) _ _ (p .1 .1 .1 .0), p .1 .1 .1 .1)
 
 fill-row-requires : tie.Need-fill-row-requires Inv-loop μ-loop
 fill-row-requires c κs =
@@ -58,13 +61,14 @@ loop-again c =
     let few = few-columns (s t .pre .0) in (
       rows-next few (givesAt (g .file .now) (g .t) (g .given .now)) (g .gives .now) (l .v) (in-v t) (l .inv .0) (f .fill-row .ensures .0),
       rows-next few (heldPasses (g .file .now) (g .t)) (g .passes .now) (l .v) (in-v t) (l .inv .1) (f .fill-row .ensures .1),
+      none-next few (λ a. givesAt (g .file .now) (g .t) (g .given .now) a (l .v)) (l .v) (l .inv .2) (f .fill-row .ensures .0),
     )
 
 same-length : tie.Need-same-length Inv-loop μ-loop
 same-length c = c .before .loop .inv .0 .size ∙ sym (c .before .before .before .before .before .before .pre .1 .1 .0)
 
 same-length-2 : tie.Need-same-length-2 Inv-loop μ-loop
-same-length-2 c = c .before .loop .inv .1 .size ∙ sym (c .before .before .before .before .before .before .pre .1 .1 .1)
+same-length-2 c = c .before .loop .inv .1 .size ∙ sym (c .before .before .before .before .before .before .pre .1 .1 .1 .0)
 
 returns : tie.Need-returns Inv-loop μ-loop
 returns c =
@@ -74,7 +78,7 @@ returns c =
     let few = few-columns (s .pre .0) in
     let all : vertices (g .file .now) ≤ l .v = omega (arith, read-heads (s .pre .0) .vertices-are) in (
       rows-all few (givesAt (g .file .now) (g .t) (g .given .now)) (g .gives .now) (l .v) all (l .inv .0),
-      rows-all few (heldPasses (g .file .now) (g .t)) (g .passes .now) (l .v) all (l .inv .1),
+      (rows-all few (heldPasses (g .file .now) (g .t)) (g .passes .now) (l .v) all (l .inv .1), l .inv .2),
     )
 
 pub fill-spec : {M : Type 1} → statement M

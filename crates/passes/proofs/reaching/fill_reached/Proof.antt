@@ -1,74 +1,63 @@
--- `fill_reached` meets its contract: two tables are filled.
+-- `fill_reached` meets its contract: the entry's row of an empty table is replaced, and the other table filled.
 -- Assumes nothing.
-use mathlib.Core.Path.{refl}
-use mathlib.Core.Bool.{cond}
-use Prim.Native.Nat.{_-_}
-use lib.Dec.{ltb}
-use Rattle.words.proofs.Filling.{Filling, fill-begin, fill-next, fill-end}
+use mathlib.Core.Path.{_≡_, sym, ap, _∙_}
+use mathlib.Core.Bool.{Bool, cond}
+use mathlib.Core.List.{List}
+use Prim.Native.Nat.{ℕ, _*_, _≤_, _<_}
+use native.Mathlib.Decide.{decLt}
 use native.Mathlib.Omega.{arith}
 use borrow.Author.Needs.{needs}
+use borrow.Author.Tests.{lt-ltb, le-ltb}
+use lib.Dec.{ltb}
+use lib.ListN.{length, replicate, length-replicate}
+use lib.Seq.{ext-getD}
+use Rattle.routine.specs.Layout.{entry}
+use Rattle.words.proofs.Replaced.{replaced-length, replaced-other, replaced-at}
+use Rattle.words.proofs.Tables.{table-length, table-at, zeros-at}
+use Rattle.words.specs.Tables.{table, withRow}
 use Rattle.passes.proofs.reaching.fill_reached.Statement.{statement}
 use Rattle.passes.proofs.reaching.fill_reached.Tie as tie
 
-abbrev Inv-loop : tie.InvT-loop
-Inv-loop gives₀ passes₀ n i₀ gives passes i = Filling (λ i. cond (ltb i 8) 1 0) n gives₀ gives i × Filling (λ i. 1) n passes₀ passes i
+-- an empty table with the first m cells replaced
+first-cells : (n m : ℕ) → m ≤ n → withRow (replicate n 0) entry (λ a. 1) m ≡ table (λ i. cond (ltb i m) 1 0) n
+first-cells n m few =
+    let none : List ℕ = replicate n 0 in
+    let size : length none ≡ n = length-replicate n 0 in
+    let sized = replaced-length none (8 * entry) (λ a. 1) m in
+    let at = table-at (λ i. cond (ltb i m) 1 0) n in
+    ext-getD 0 _ _ (sized ∙ size ∙ sym (table-length (λ i. cond (ltb i m) 1 0) n))
+    (λ i l. let in-i : i < n = omega (arith, sized, size) in
+    elim (decLt i m) [
+      | yes h ↦ replaced-at none (8 * entry) (λ a. 1) 0 m i (omega arith) h (omega (arith, size))
+          ∙ sym (at i in-i ∙ ap (λ (b : Bool). cond b 1 0) (lt-ltb i m h))
+      | no h ↦ replaced-other none (8 * entry) (λ a. 1) 0 m i (λ a in-a e. h (omega arith)) ∙ zeros-at n i
+          ∙ sym (at i in-i ∙ ap (λ (b : Bool). cond b 1 0) (le-ltb i m (omega arith)))
+    ])
 
-abbrev μ-loop : tie.MeasureT-loop
-μ-loop gives₀ passes₀ n i₀ gives passes i = n - i
+clear-requires : tie.Need-clear-requires
+clear-requires c κs = search needs
 
-loop-holds : tie.Need-loop-holds Inv-loop μ-loop
-loop-holds c = (fill-begin _ refl, fill-begin _ (c .before .before .pre))
+enter-reached-requires : tie.Need-enter-reached-requires
+enter-reached-requires c κs = omega (arith, c .before .before .before .clear .kept .0)
 
-set-if-requires : tie.Need-set-if-requires Inv-loop μ-loop
-set-if-requires c κs = search needs
+pass-reached-requires : tie.Need-pass-reached-requires
+pass-reached-requires c κs = search needs
 
-mul-gives : tie.Need-mul-gives Inv-loop μ-loop
-mul-gives c = omega arith
+same-length : tie.Need-same-length
+same-length c = c .before .before .before .before .before .before .enter-reached .kept .1 .0 ∙ c .before .before .before .before .before .before .before .before .before .before .clear .kept .0
 
-slice-write-gives : tie.Need-slice-write-gives Inv-loop μ-loop
-slice-write-gives c = omega arith
+same-length-2 : tie.Need-same-length-2
+same-length-2 c = c .before .before .pass-reached .kept .0
 
-mul-passes : tie.Need-mul-passes Inv-loop μ-loop
-mul-passes c = omega arith
-
-slice-write-passes : tie.Need-slice-write-passes Inv-loop μ-loop
-slice-write-passes c = omega arith
-
-add-i : tie.Need-add-i Inv-loop μ-loop
-add-i c = omega arith
-
-loop-less : tie.Need-loop-less Inv-loop μ-loop
-loop-less c = omega arith
-
-loop-again : tie.Need-loop-again Inv-loop μ-loop
-loop-again c =
-    let l = c .before .before in
-    (fill-next (l .loop .inv .0) (c .before .loop-test .taken) (c .set-if .ensures), fill-next (l .loop .inv .1) (c .before .loop-test .taken) refl)
-
-same-length : tie.Need-same-length Inv-loop μ-loop
-same-length c = omega arith
-
-same-length-2 : tie.Need-same-length-2 Inv-loop μ-loop
-same-length-2 c = omega arith
-
-returns : tie.Need-returns Inv-loop μ-loop
-returns c = (fill-end (c .before .loop .inv .0) (c .loop-test .left), fill-end (c .before .loop .inv .1) (c .loop-test .left))
+returns : tie.Need-returns
+returns c =
+    let e = c .before .before .before .before .before .before in
+    let s = e .before .before .before .before .before .before .before .before in
+    let n = length (s .args .gives .now) in (
+      e .enter-reached .ensures ∙ ap (λ (t : List ℕ). withRow t entry (λ a. 1) (s .args .m)) (e .before .before .before .before .clear .ensures) ∙ first-cells n (s .args .m) (s .pre),
+      c .before .before .pass-reached .ensures,
+    )
 
 pub fill-reached-spec : {M : Type 1} → statement M
 fill-reached-spec =
-    tie.close
-    (tie.spec
-    Inv-loop
-    μ-loop
-    loop-holds
-    set-if-requires
-    mul-gives
-    slice-write-gives
-    mul-passes
-    slice-write-passes
-    add-i
-    loop-less
-    loop-again
-    same-length
-    same-length-2
-    returns)
+    tie.close (tie.spec clear-requires enter-reached-requires pass-reached-requires same-length same-length-2 returns)

@@ -1,7 +1,8 @@
 -- `tables::brought` meets its contract, either way.
 -- Assumes nothing.
-use mathlib.Core.Path.{_≡_, sym, _∙_}
+use mathlib.Core.Path.{_≡_, refl, sym, _∙_}
 use mathlib.Core.List.{List, _++_}
+use mathlib.Core.Logic.{inl, inr}
 use Prim.Native.Nat.{ℕ, _+_, _≤_}
 use native.Mathlib.Omega.{arith}
 use borrow.Author.Needs.{needs}
@@ -55,7 +56,10 @@ same-length-4 : tie.Need-same-length-4
 same-length-4 c = c .before .before .before .before .brought-everywhere .kept .1 .1 .1 .1 .1 .0
 
 returns : tie.Need-returns
-returns c = (c .before .before .before .before .before .before .before .before .before .before .before .before .before .before .before .before .before .before .before .pre .1 .0, c .before .before .before .before .brought-everywhere .ensures)
+returns c =
+    let b = c .before .before .before .before in
+    let all = b .before .before .before .before .before .before .before .all in
+    (c .before .before .before .before .before .before .before .before .before .before .before .before .before .before .before .before .before .before .before .pre .1 .0, (b .brought-everywhere .ensures .0, (inr (refl, all .ensures (b .before .before .before .before .if1 .taken)), b .brought-everywhere .ensures .1)))
 
 -- ---- a pass is to find it
 
@@ -79,7 +83,7 @@ same-length-8 : tie.Need-same-length-8
 same-length-8 c = c .before .before .before .before .before .before .before .before .brought-after-pass .kept .1 .1 .1 .1 .1 .1 .0
 
 returns-2 : tie.Need-returns-2
-returns-2 c = c .before .before .before .before .before .before .before .before .brought-after-pass .ensures
+returns-2 c = let e = c .before .before .before .before .before .before .before .before .brought-after-pass .ensures in (e .0, (e .1 .0, (inl (e .1 .1 .0), e .1 .1 .1)))
 
 pub brought-spec : {M : Type 1} → statement M
 brought-spec =

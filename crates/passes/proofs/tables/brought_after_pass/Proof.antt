@@ -1,7 +1,7 @@
 -- `tables::brought_after_pass` meets its contract: the reached vertices are found, the edges are ordered anew, and both tables are filled and solved.
 -- Assumes nothing.
 use mathlib.Core.Path.{sym, _∙_}
-use Rattle.passes.proofs.Steps.{brought-gives, brought-passes, brought-sets}
+use Rattle.passes.proofs.Steps.{pass-stops, brought-gives, brought-passes, brought-sets}
 use Rattle.passes.proofs.tables.brought_after_pass.Statement.{statement}
 use Rattle.passes.proofs.tables.brought_after_pass.Tie as tie
 
@@ -70,7 +70,9 @@ returns c =
     let p = start x .pre in
     let vs = p .1 .1 .0 in
     let well = p .0 .well in
-    (o .reorder .ensures, brought-sets well (brought-gives well vs (x .reached .ensures .0) (f .fill-brought .ensures .0)) (brought-passes well vs (f .fill-brought .ensures .1)) (v .solve .ensures .0))
+    let given = brought-gives well vs (x .reached .ensures .0) (f .fill-brought .ensures .0) in
+    let passed = brought-passes well vs (f .fill-brought .ensures .1) in
+    (o .reorder .ensures, (brought-sets well given passed (v .solve .ensures .0), (x .reached .ensures .1, pass-stops well (o .reorder .ensures) given passed (v .solve .ensures .1))))
 
 pub brought-after-pass-spec : {M : Type 1} → statement M
 brought-after-pass-spec =

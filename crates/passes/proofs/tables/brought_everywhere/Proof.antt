@@ -1,7 +1,7 @@
 -- `tables::brought_everywhere` meets its contract: the table of versions is what is given.
 -- Assumes nothing.
 use borrow.Author.Needs.{needs}
-use Rattle.passes.proofs.Steps.{brought-versions, brought-passes, brought-sets}
+use Rattle.passes.proofs.Steps.{pass-stops, brought-versions, brought-passes, brought-sets}
 use Rattle.passes.proofs.tables.brought_everywhere.Statement.{statement}
 use Rattle.passes.proofs.tables.brought_everywhere.Tie as tie
 
@@ -25,7 +25,9 @@ returns c =
     let p = c .before .before .before .before .before .before .before .before .before .before .before .before .before .before .pre in
     let vs = p .1 .1 .1 .0 in
     let well = p .0 .well in
-    brought-sets well (brought-versions well vs (p .1 .0)) (brought-passes well vs (c .before .before .before .before .before .before .before .fill-passes .ensures)) (c .before .before .solve .ensures .0)
+    let given = brought-versions well vs (p .1 .0) in
+    let passed = brought-passes well vs (c .before .before .before .before .before .before .before .fill-passes .ensures) in
+    (brought-sets well given passed (c .before .before .solve .ensures .0), pass-stops well (p .1 .1 .0) given passed (c .before .before .solve .ensures .1))
 
 pub brought-everywhere-spec : {M : Type 1} → statement M
 brought-everywhere-spec =

@@ -1,7 +1,7 @@
 -- `tables::kept` meets its contract: both tables are filled and solved, and the leaving sets are joined.
 -- Assumes nothing.
 use mathlib.Core.Path.{sym, _∙_}
-use Rattle.passes.proofs.Steps.{kept-gives, kept-passes, kept-sets}
+use Rattle.passes.proofs.Steps.{pass-stops, kept-gives, kept-passes, kept-sets}
 use Rattle.passes.proofs.tables.kept.Statement.{statement}
 use Rattle.passes.proofs.tables.kept.Tie as tie
 
@@ -44,7 +44,9 @@ returns c =
     let p = f .before .before .before .before .before .before .before .before .before .before .pre in
     let q = p .1 .1 in
     let well = p .0 .well in
-    kept-sets well (q .0) (q .1 .0) (kept-gives well (q .0) (q .1 .0) (f .fill .ensures .0)) (kept-passes well (q .0) (q .1 .0) (f .fill .ensures .1)) (v .solve .ensures .0) (c .before .before .join .ensures)
+    let given = kept-gives well (q .0) (q .1 .0) (f .fill .ensures .0) in
+    let passed = kept-passes well (q .0) (q .1 .0) (f .fill .ensures .1) in
+    (kept-sets well (q .0) (q .1 .0) given passed (v .solve .ensures .0) (c .before .before .join .ensures), pass-stops well (p .1 .0) given passed (v .solve .ensures .1))
 
 pub kept-spec : {M : Type 1} → statement M
 kept-spec =

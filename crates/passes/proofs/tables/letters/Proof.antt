@@ -3,7 +3,7 @@
 use mathlib.Core.Path.{sym, ap, _∙_}
 use lib.ListN.{length}
 use Rattle.words.proofs.Tables.{table-length}
-use Rattle.passes.proofs.Steps.{letter-passes, letters-are}
+use Rattle.passes.proofs.Steps.{pass-stops, letter-passes, letters-are}
 use Rattle.passes.proofs.tables.letters.Statement.{statement}
 use Rattle.passes.proofs.tables.letters.Tie as tie
 
@@ -43,7 +43,8 @@ returns c =
     let p = f .before .before .before .before .before .before .before .before .pre in
     let q = p .1 .1 in
     let well = p .0 .well in
-    (letters-are well (q .0) (letter-passes well (q .0) (f .fill .ensures)) (v .solve .ensures .0) (w .write .ensures) (c .before .before .leave .ensures), v .solve .ensures .1)
+    let passed = letter-passes well (q .0) (f .fill .ensures) in
+    (letters-are well (q .0) passed (v .solve .ensures .0) (w .write .ensures) (c .before .before .leave .ensures), pass-stops well (p .1 .0) (q .0) passed (v .solve .ensures .1))
 
 pub letters-spec : {M : Type 1} → statement M
 letters-spec =

@@ -2,7 +2,7 @@
 -- Assumes nothing.
 use mathlib.Core.Path.{sym, _∙_}
 use native.Mathlib.Omega.{arith}
-use Rattle.passes.proofs.Steps.{reach-gives, reach-passes, reaching-sets}
+use Rattle.passes.proofs.Steps.{pass-stops, reach-gives, reach-passes, reaching-sets}
 use Rattle.passes.proofs.tables.reaching.Statement.{statement}
 use Rattle.passes.proofs.tables.reaching.Tie as tie
 
@@ -81,8 +81,9 @@ returns c =
     let p = start x .pre in
     let q = p .1 .1 in
     let well = p .0 .well in
-    reaching-sets well (reach-gives well (q .0) (q .1 .0) (x .reached .ensures .0) (f .fill .ensures .0) (g .enter-gives .ensures)) (reach-passes well (q .0) (q .1 .0) (f .fill .ensures .1))
-    (v .solve .ensures .0) (c .before .before .enter .ensures)
+    let gives = reach-gives well (q .0) (q .1 .0) (x .reached .ensures .0) (f .fill .ensures .0) (g .enter-gives .ensures) in
+    let passes = reach-passes well (q .0) (q .1 .0) (f .fill .ensures .1) in
+    (reaching-sets well gives passes (v .solve .ensures .0) (c .before .before .enter .ensures), (x .reached .ensures .1, pass-stops well (p .1 .0) gives passes (v .solve .ensures .1)))
 
 pub reaching-spec : {M : Type 1} → statement M
 reaching-spec =
