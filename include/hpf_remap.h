@@ -41,8 +41,8 @@
  *     22    P R N     the expanded routine has more than 256 vertices         how many                    0
  *
  *   The routine's programmer
- *     20    P R C N   an in argument is defined, modified, or passed as       vertex                      array
- *                     out or inout
+ *     20    P R C N   an in argument is defined, modified, killed, or         vertex                      array
+ *                     passed as out or inout
  *     21    P R C N   a reference or a call is ambiguous: two paths from      vertex                      array
  *                     the entry bring different versions to it
  *     41    C         an array has more than 16 mappings: that with which     array                       0
@@ -104,13 +104,17 @@ typedef struct {
  *   18             4A     for each array: kind (0 local, 1 in, 2 out, 3 inout; the last three are arguments),
  *                         number of versions (1 to 16), initial version (below that number), zero
  *   18 + 4A        VA     for each vertex an action for each array: hexadecimal 00 nothing; 10 read, 20 define (all
- *                         of it rewritten, nothing read) and 30 modify (old value needed), which are references;
- *                         40+k (k below 16) remap to version k; 60+k, A0+k, C0+k (k below 32) a call of another
- *                         routine, which gets the array in version k with intent in, out or inout. A vertex has
- *                         references, remappings or calls, never two of these sorts. Vertex 0 is the entry, the last
- *                         is the exit; their actions are all 00
+ *                         of it rewritten, nothing read), 30 modify (old value needed) and 80 kill (its value is
+ *                         dead), which are references; 40+k (k below 16) remap to version k; 60+k, A0+k, C0+k (k
+ *                         below 32) a call of another routine, which gets the array in version k with intent in, out
+ *                         or inout. A vertex has references, remappings or calls, never two of these sorts. Vertex 0
+ *                         is the entry, the last is the exit; their actions are all 00
  *   18 + 4A + VA   4E     for each edge: from (2), to (2), below V. Edges strictly rise by from, then to; none enters
  *                         the entry, none leaves the exit. With the last the file ends
+ *
+ * A kill is the programmer's word that no value of the array is needed any more until it is defined again. It is a
+ * define in every rule below, but gives no value: what is then read or modified sees stamp 0. So a label before it is D
+ * where nothing needs the old value earlier, and nothing is copied there.
  *
  * A vertex with calls becomes three, which the arrays that it passes share. The first remaps each of them to the
  * version k in which it is passed; the second reads it (intent in), defines it (out) or modifies it (inout); the third
@@ -215,12 +219,12 @@ hpf_outcome hpf_plan(const uint8_t *routine, size_t routine_len, uint8_t *plan, 
  *   6A             10N    for each reference on the path, by step, then array:
  *     + 0          2      step; the entry is step 1
  *     + 2, 3              array; version that is used
- *     + 4, 5              kind: 1 read, 2 define, 3 modify; zero
- *     + 6          2      stamp seen by a read or modify; 0 for a define
- *     + 8          2      new stamp, given by a define or modify: the step; 0 for a read
+ *     + 4, 5              kind: 1 read, 2 define, 3 modify, 4 kill; zero
+ *     + 6          2      stamp seen by a read or modify; 0 for a define or kill
+ *     + 8          2      new stamp, given by a define or modify: the step; 0 for a read, and for a kill, which gives 0
  *
  * A stamp tells a value: it is the step that gave it, 65,535 for what the caller gave (in and inout), 0 for what was
- * never given.
+ * never given or is killed.
  */
 hpf_outcome hpf_run(const uint8_t *routine, size_t routine_len,
                     const uint8_t *path, size_t path_len, /* in bytes: twice the number of vertices */

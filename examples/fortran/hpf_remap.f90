@@ -1,5 +1,6 @@
 ! Array remapping by copies, from Fortran. `include/hpf_remap.h` documents formats, answers and the rules for buffers.
 ! A byte is a c_int8_t, which has a sign: iand(int(b), 255) is its number from 0 to 255. All lengths are in bytes.
+! So the action byte of a kill, hexadecimal 80, is -128; in a report its kind is 4.
 module hpf_remap
   use iso_c_binding, only: c_int64_t, c_int8_t, c_size_t
   implicit none

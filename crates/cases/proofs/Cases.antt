@@ -51,6 +51,9 @@ all-hold =
     also (refl, refl, refl, refl, refl)
     also (refl, refl, refl)
     also (λ size. refl, λ path size. refl)
+    also (refl, refl, refl)
+    also (refl, refl, refl, refl, refl)
+    also (λ size. refl, λ path size. refl)
     also tt
 
 -- ---- demand 3

@@ -7,7 +7,7 @@ use mathlib.Core.List.{List, [], _∷_}
 use mathlib.Core.Option.{Option, none, some}
 use Prim.Native.Nat.{ℕ}
 use lib.Dec.{eqb}
-use lib.ListN.{length}
+use lib.ListN.{length, set}
 use Rattle.calls.specs.Expanded.{routineOf}
 use Rattle.labels.specs.Events.{isLabel, version}
 use Rattle.labels.specs.Kept.{keptOf}
@@ -207,6 +207,20 @@ T-with-call =
     ∷ 0 ∷ 0 ∷ 1 ∷ 0 ∷ 0 ∷ 0 ∷ 2 ∷ 0 ∷ 1 ∷ 0 ∷ 2 ∷ 0 ∷ 2 ∷ 0 ∷ 3 ∷ 0
     ∷ []
 
+-- Z, of document 02, request 6: local, 2 versions, initial 0, a chain: 1 define, 2 remap 1, 3 kill, 4 read, 5 exit
+abbrev pub Z : List ℕ
+Z =
+    72 ∷ 80 ∷ 70 ∷ 82 ∷ 1 ∷ 0 ∷ 18 ∷ 0 ∷ 1 ∷ 0 ∷ 22 ∷ 0 ∷ 6 ∷ 0 ∷ 28 ∷ 0 ∷ 5 ∷ 0
+    ∷ 0 ∷ 2 ∷ 0 ∷ 0
+    ∷ 0x00 ∷ 0x20 ∷ 0x41 ∷ 0x80 ∷ 0x10 ∷ 0x00
+    ∷ 0 ∷ 0 ∷ 1 ∷ 0 ∷ 1 ∷ 0 ∷ 2 ∷ 0 ∷ 2 ∷ 0 ∷ 3 ∷ 0 ∷ 3 ∷ 0 ∷ 4 ∷ 0
+    ∷ 4 ∷ 0 ∷ 5 ∷ 0
+    ∷ []
+
+-- Z of an in argument, with a read at 1
+abbrev pub Z-of-in : List ℕ
+Z-of-in = set (set Z 18 1) 23 0x10
+
 -- ---- paths: 16-bit vertices
 
 -- 0 1 2 3 4 5 6 2 3
@@ -217,7 +231,7 @@ path2 = 0 ∷ 0 ∷ 1 ∷ 0 ∷ 2 ∷ 0 ∷ 3 ∷ 0 ∷ 4 ∷ 0 ∷ 5 ∷ 0 ∷ 
 abbrev pub path4 : List ℕ
 path4 = 0 ∷ 0 ∷ 1 ∷ 0 ∷ 3 ∷ 0 ∷ 4 ∷ 0 ∷ []
 
--- 0 1 2 3 4, of cases 5 and 6
+-- 0 1 2 3 4, of cases 5 and 6 and of Z
 abbrev pub path5 : List ℕ
 path5 = 0 ∷ 0 ∷ 1 ∷ 0 ∷ 2 ∷ 0 ∷ 3 ∷ 0 ∷ 4 ∷ 0 ∷ []
 
@@ -564,6 +578,49 @@ caseUnreached =
 abbrev pub caseT-call : Case
 caseT-call = refuses (record { file = T-with-call; outcome = refused 21 2 0 })
 
--- cases 1 to 8 as starred; labels of S and U, and U's run; request 1; request 3
+-- request 6: Z's labels: the kill needs no value, `2 0 D 1 0001 0002`
+abbrev pub caseZ : Case
+caseZ =
+    plans
+    (record {
+      file = Z;
+      lines =
+          line 0 0 D (some 0) 0x0000 0x0001
+          ∷ line 2 0 D (some 1) 0x0001 0x0002
+          ∷ [];
+      plan =
+          72 ∷ 80 ∷ 70 ∷ 80 ∷ 6 ∷ 0 ∷ 2 ∷ 0
+          ∷ 0 ∷ 0 ∷ 1 ∷ 0 ∷ 1 ∷ 0 ∷ 0 ∷ 0 ∷ 1 ∷ 0 ∷ 1 ∷ 0 ∷ 2 ∷ 0 ∷ 0 ∷ 0
+          ∷ 2 ∷ 0 ∷ 0 ∷ 0 ∷ 2 ∷ 0 ∷ 0 ∷ 0
+          ∷ 0 ∷ 68 ∷ 0 ∷ 0 ∷ 0 ∷ 0 ∷ 1 ∷ 0
+          ∷ 0 ∷ 68 ∷ 1 ∷ 0 ∷ 1 ∷ 0 ∷ 2 ∷ 0
+          ∷ [];
+    })
+
+-- request 6: Z, path 0 1 2 3 4: no copy, against 1; after the kill the read sees 0
+abbrev pub runZ : Case
+runZ =
+    runs
+    (record {
+      file = Z;
+      path = path5;
+      copies = 0 ∷ [];
+      against = 1 ∷ [];
+      reads = seen 0 1 ∷ [];
+      report =
+          0 ∷ 0 ∷ 2 ∷ 0 ∷ 1 ∷ 0
+          ∷ 2 ∷ 0 ∷ 0 ∷ 0 ∷ 2 ∷ 0 ∷ 0 ∷ 0 ∷ 2 ∷ 0
+          ∷ 4 ∷ 0 ∷ 0 ∷ 1 ∷ 4 ∷ 0 ∷ 0 ∷ 0 ∷ 0 ∷ 0
+          ∷ 5 ∷ 0 ∷ 0 ∷ 1 ∷ 1 ∷ 0 ∷ 0 ∷ 0 ∷ 0 ∷ 0
+          ∷ [];
+    })
+
+-- request 6: a kill of an in argument: refused 20
+abbrev pub caseZ-in : Case
+caseZ-in = refuses (record { file = Z-of-in; outcome = refused 20 3 0 })
+
+-- cases 1 to 8 as starred; labels of S and U, and U's run; requests 1, 3 and 6
 abbrev pub cases : List Case
-cases = case1 ∷ case2 ∷ case3 ∷ case4 ∷ case5 ∷ case6 ∷ case7 ∷ case8 ∷ caseS ∷ caseU ∷ runU ∷ caseX ∷ runX ∷ fullRunX ∷ caseK ∷ runK ∷ caseUnreached ∷ caseT-call ∷ []
+cases =
+    case1 ∷ case2 ∷ case3 ∷ case4 ∷ case5 ∷ case6 ∷ case7 ∷ case8 ∷ caseS ∷ caseU ∷ runU ∷ caseX ∷ runX ∷ fullRunX
+    ∷ caseK ∷ runK ∷ caseUnreached ∷ caseT-call ∷ caseZ ∷ runZ ∷ caseZ-in ∷ []

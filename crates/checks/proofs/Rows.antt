@@ -65,8 +65,8 @@ and-where false h = refl
 
 -- a write of an array gives bit 3
 write-masked : (x : Action) (b : Bool) → not (eqb (bitAnd (useGives x) (cond b 0b1000 0)) 0) ≡ (b && isWrite x)
-write-masked x true = by-event (λ x. not (eqb (bitAnd (useGives x) 0b1000) 0) ≡ isWrite x) refl refl refl refl (λ k. refl) refl x
-write-masked x false = by-event (λ x. not (eqb (bitAnd (useGives x) 0) 0) ≡ false) refl refl refl refl (λ k. refl) refl x
+write-masked x true = by-event (λ x. not (eqb (bitAnd (useGives x) 0b1000) 0) ≡ isWrite x) refl refl refl refl refl (λ k. refl) refl x
+write-masked x false = by-event (λ x. not (eqb (bitAnd (useGives x) 0) 0) ≡ false) refl refl refl refl refl (λ k. refl) refl x
 
 module _ {file uses : List ℕ} (us : UseGives file uses) (v : ℕ) (in-v : v < vertices file) (a : ℕ) (in-a : a < arrays file) where
   pub writes-cell : {masks : List ℕ} → InMasks file masks → not (eqb (bitAnd (getD uses (8 * v + a) 0) (getD masks a 0)) 0) ≡ writesIn file a v

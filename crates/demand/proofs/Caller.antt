@@ -11,7 +11,7 @@ use lib.ListN.{replicate}
 use lib.Seq.{getD-set-same, set-getD}
 use Rattle.labels.specs.Events.{isWrite}
 use Rattle.routine.specs.Arrays.{isArgument, isIn}
-use Rattle.routine.specs.declared.action.Access.the-variants.{Read, Define, Modify}
+use Rattle.routine.specs.declared.action.Access.the-variants.{Read, Define, Modify, Kill}
 use Rattle.routine.specs.declared.action.Action.{Action}
 use Rattle.routine.specs.declared.action.Action.the-variants.{Nothing, Reference, Remap, Unknown}
 use Rattle.sets.specs.Sets.{width}
@@ -41,6 +41,7 @@ module _ {p : ArrayPlan} (sound : Sound p) {at : ℕ → ℕ} {n : ℕ} {run : �
   visited-given i h (Reference Read) e g = record { machine = g .machine; own = rw (set-getD (run i .stamps) (run i .current) 0) (g .own) }
   visited-given i h (Reference Define) e g = absurd (unwritten i h (rw e tt))
   visited-given i h (Reference Modify) e g = absurd (unwritten i h (rw e tt))
+  visited-given i h (Reference Kill) e g = absurd (unwritten i h (rw e tt))
   visited-given i h (Remap t) e g =
       let y = matches-at sound f i t h e in
       let u = p .letter (at i) in

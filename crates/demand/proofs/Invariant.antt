@@ -18,7 +18,7 @@ use Rattle.labels.specs.declared.Use.{Use}
 use Rattle.labels.specs.declared.Use.the-variants.{N, D, R, W}
 use Rattle.routine.specs.Actions.{isReference, isRemap}
 use Rattle.routine.specs.Arrays.{isOutOrInout}
-use Rattle.routine.specs.declared.action.Access.the-variants.{Read, Define, Modify}
+use Rattle.routine.specs.declared.action.Access.the-variants.{Read, Define, Modify, Kill}
 use Rattle.routine.specs.declared.action.Action.{Action}
 use Rattle.routine.specs.declared.action.Action.the-variants.{Nothing, Reference, Remap, Unknown}
 use Rattle.routine.specs.declared.array.ArrayRecord.{ArrayRecord}
@@ -192,6 +192,7 @@ module _ {p : ArrayPlan} (sound : Sound p) where
     visit step (Reference Read) e = (label, rw (set-getD (s .stamps) (s .current) 0) (quiet (rw e tt) (rw e tt)))
     visit step (Reference Define) e = (label, writes step (rw e tt) (rw e tt) (rw e tt))
     visit step (Reference Modify) e = (label, writes step (rw e tt) (rw e tt) (rw e tt))
+    visit step (Reference Kill) e = (label, writes 0 (rw e tt) (rw e tt) (rw e tt))
     visit step (Remap t) e = (w, label-holds w t step s m e (matches (rw e tt)))
     visit step Unknown e = (label, quiet (rw e tt) (rw e tt))
 
@@ -202,5 +203,6 @@ module _ {p : ArrayPlan} (sound : Sound p) where
     alike step (Reference Read) e a = cc (used (rw e tt), seen (rw e tt) (rw e tt))
     alike step (Reference Define) e a = cc (used (rw e tt))
     alike step (Reference Modify) e a = cc (used (rw e tt), seen (rw e tt) (rw e tt))
+    alike step (Reference Kill) e a = cc (used (rw e tt))
     alike step (Remap t) e a = refl
     alike step Unknown e a = refl

@@ -5,7 +5,7 @@ use mathlib.Core.List.{List}
 use Prim.Native.Nat.{ℕ, _^_}
 use lib.Dec.{eqb}
 use lib.ListN.{drop}
-use Rattle.routine.specs.declared.action.Access.the-variants.{Read, Define, Modify}
+use Rattle.routine.specs.declared.action.Access.the-variants.{Read, Define, Modify, Kill}
 use Rattle.routine.specs.declared.action.Action.{Action}
 use Rattle.routine.specs.declared.action.Action.the-variants.{Nothing, Reference, Remap, Unknown}
 use Rattle.routine.specs.Actions.{action, isRemap}
@@ -59,15 +59,17 @@ isRead Nothing = false
 isRead (Reference Read) = true
 isRead (Reference Define) = false
 isRead (Reference Modify) = false
+isRead (Reference Kill) = false
 isRead (Remap k) = false
 isRead Unknown = false
 
--- a define
+-- a define; a kill is one
 abbrev pub isDefine : Action → Bool
 isDefine Nothing = false
 isDefine (Reference Read) = false
 isDefine (Reference Define) = true
 isDefine (Reference Modify) = false
+isDefine (Reference Kill) = true
 isDefine (Remap k) = false
 isDefine Unknown = false
 
@@ -77,6 +79,7 @@ isModify Nothing = false
 isModify (Reference Read) = false
 isModify (Reference Define) = false
 isModify (Reference Modify) = true
+isModify (Reference Kill) = false
 isModify (Remap k) = false
 isModify Unknown = false
 

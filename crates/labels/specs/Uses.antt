@@ -10,7 +10,7 @@ use Rattle.flow.specs.Paths.{Path, Finds}
 use Rattle.flow.specs.Solver.{solution}
 use Rattle.routine.specs.Actions.{isReference, isRemap}
 use Rattle.routine.specs.Layout.{exit}
-use Rattle.routine.specs.declared.action.Access.the-variants.{Read, Define, Modify}
+use Rattle.routine.specs.declared.action.Access.the-variants.{Read, Define, Modify, Kill}
 use Rattle.routine.specs.declared.action.Action.{Action}
 use Rattle.routine.specs.declared.action.Action.the-variants.{Nothing, Reference, Remap, Unknown}
 use Rattle.sets.specs.Sets.{has}
@@ -71,6 +71,7 @@ useGives Nothing = 0b0000
 useGives (Reference Read) = 0b0111
 useGives (Reference Define) = 0b1001
 useGives (Reference Modify) = 0b1011
+useGives (Reference Kill) = 0b1001
 useGives (Remap k) = 0b0010
 useGives Unknown = 0b0000
 
@@ -80,6 +81,7 @@ usePasses Nothing = 0b1111
 usePasses (Reference Read) = 0b1111
 usePasses (Reference Define) = 0b1101
 usePasses (Reference Modify) = 0b1111
+usePasses (Reference Kill) = 0b1101
 usePasses (Remap k) = 0b0000
 usePasses Unknown = 0b1111
 

@@ -101,6 +101,7 @@ pub fn gives_of(x: Action) -> Set
             Access::Read => 0b0111,
             Access::Define => 0b1001,
             Access::Modify => 0b1011,
+            Access::Kill => 0b1001,
         },
         Action::Remap(_) => 0b0010,
         Action::Unknown => 0b0000,

@@ -99,6 +99,7 @@ fn buffers() {
 fn written_in_arguments() {
     p_with(b"in_defined", 1, 0x20);
     p_with(b"in_modified", 1, 0x30);
+    p_with(b"in_killed", 1, 0x80);
     p_with(b"in_read", 1, 0x10);
     p_with(b"out_defined", 2, 0x20);
     unreached(b"in_defined_unreached", 0x20);

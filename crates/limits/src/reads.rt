@@ -150,12 +150,21 @@ fn action_bytes() {
     p_with_two(b"17_before_16", 24, 0x43, 58, 7);
 }
 
-// 15: bytes beside those of calls (document 02, request 3).
+// 15: bytes beside those of calls and of a kill (document 02, requests 3 and 6).
 fn bytes_beside_calls() {
     p_with(b"action_5f", 25, 0x5f);
-    p_with(b"action_80", 25, 0x80);
+    p_with(b"action_81", 25, 0x81);
     p_with(b"action_9f", 25, 0x9f);
     p_with(b"action_e0", 25, 0xe0);
+}
+
+// 18, 19: a kill is a reference.
+fn kills() {
+    p_with(b"kill", 25, 0x80);
+    p_with(b"entry_row_kill", 22, 0x80);
+    middle_row(b"kill_after_modify", 0x30, 0x80, 0);
+    middle_row(b"kill_after_remap", 0x40, 0x80, 0);
+    middle_row(b"call_after_kill", 0x80, 0x60, 0);
 }
 
 // 17, 18: a call by itself.
@@ -226,6 +235,7 @@ pub fn all() {
     initial_versions();
     action_bytes();
     bytes_beside_calls();
+    kills();
     calls();
     end_rows();
     mixed_rows();

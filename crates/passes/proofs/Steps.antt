@@ -43,7 +43,7 @@ use Rattle.labels.proofs.Letters.{letter-use}
 -- ---- use
 
 use-passes : (x : Action) → passesBy (useGives x) ≡ usePasses x
-use-passes = by-event (λ x. passesBy (useGives x) ≡ usePasses x) refl refl refl refl (λ k. refl) refl
+use-passes = by-event (λ x. passesBy (useGives x) ≡ usePasses x) refl refl refl refl refl (λ k. refl) refl
 
 -- ---- cells and tests
 

@@ -144,6 +144,14 @@ fn made(x: Access, step: u16, array: u8, version: u8, stamp: u16) -> Record
             seen: stamp,
             new: step,
         },
+        Access::Kill => Record {
+            step,
+            array,
+            version,
+            kind: 4,
+            seen: 0,
+            new: 0,
+        },
     }
 }
 

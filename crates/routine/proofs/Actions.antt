@@ -1,4 +1,4 @@
--- What a byte's action says of its other tests: 40+k remaps, a call is unknown to document 01, and only the byte 0 does nothing.
+-- What a byte's action says of its other tests: 40+k remaps, a call is no action, and only the byte 0 does nothing.
 -- Assumes nothing.
 use mathlib.Core.Path.{_≡_, refl, sym, ap, _∙_}
 use mathlib.Core.Bool.{Bool, true, false, cond, true≢false}
@@ -12,7 +12,7 @@ use Rattle.routine.specs.declared.action.Action.the-variants.{Nothing, R
 use Rattle.routine.specs.Actions.{actionOf, isCall, isKnown, familyOf}
 use Rattle.routine.specs.Layout.{within}
 use Rattle.sets.specs.Sets.{width}
-use Rattle.words.proofs.Tests.{and-left, or-cases, by-test}
+use Rattle.words.proofs.Tests.{and-left, and-right, or-cases, by-test}
 
 -- ---- remappings
 
@@ -26,25 +26,27 @@ remap-action k h =
       ne-eqb (0x40 + k) 0x10 (λ f. omega arith),
       ne-eqb (0x40 + k) 0x20 (λ f. omega arith),
       ne-eqb (0x40 + k) 0x30 (λ f. omega arith),
+      ne-eqb (0x40 + k) 0x80 (λ f. omega arith),
       le-ltb (0x40 + k) 0x40 (omega arith),
       lt-ltb (0x40 + k) (0x40 + width) (omega arith),
     ) (ap Remap e)
 
 -- ---- calls
 
--- document 01 knows no calls
+-- to `actionOf` a call is unknown
 pub call-unknown : (b : ℕ) → isCall b ≡ true → actionOf b ≡ Unknown
 unfolding actionOf
 call-unknown b h = or-cases (within 0x60 0x7f b) (within 0xa0 0xdf b)
-    (λ e. high (omega (arith, leb-true 0x60 b (and-left (leb 0x60 b) (leb b 0x7f) e))))
-    (λ e. high (omega (arith, leb-true 0xa0 b (and-left (leb 0xa0 b) (leb b 0xdf) e)))) h
+    (λ e. high (omega (arith, leb-true 0x60 b (and-left (leb 0x60 b) (leb b 0x7f) e))) (λ f. omega (arith, leb-true b 0x7f (and-right (leb 0x60 b) (leb b 0x7f) e))))
+    (λ e. high (omega (arith, leb-true 0xa0 b (and-left (leb 0xa0 b) (leb b 0xdf) e))) (λ f. omega (arith, leb-true 0xa0 b (and-left (leb 0xa0 b) (leb b 0xdf) e)))) h
   where
-    high : 0x60 ≤ b → actionOf b ≡ Unknown
-    high l = rw (
+    high : 0x60 ≤ b → (b ≡ 0x80 → ⊥) → actionOf b ≡ Unknown
+    high l no-kill = rw (
       ne-eqb b 0x00 (λ f. omega arith),
       ne-eqb b 0x10 (λ f. omega arith),
       ne-eqb b 0x20 (λ f. omega arith),
       ne-eqb b 0x30 (λ f. omega arith),
+      ne-eqb b 0x80 no-kill,
       le-ltb b 0x40 (omega arith),
       le-ltb b (0x40 + width) (omega arith),
     )
@@ -73,7 +75,7 @@ first-branch false x e = e
 
 nothing-zero : (b : ℕ) → isNothing (actionOf b) ≡ eqb b 0
 unfolding actionOf
-nothing-zero b = search (first-branch, neither-branch) depth 8
+nothing-zero b = search (first-branch, neither-branch) depth 9
 
 module _ (b : ℕ) where
   pub zero-if-nothing : actionOf b ≡ Nothing → eqb b 0 ≡ true

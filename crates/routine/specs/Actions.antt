@@ -1,11 +1,11 @@
--- Document 01, "Routine file": vertices, one action byte for each array; with the calls of document 02, request 3.
+-- Document 01, "Routine file": vertices, one action byte for each array; with the calls and the kill of document 02, requests 3 and 6.
 -- Assumes nothing.
 use mathlib.Core.Bool.{Bool, true, false, not, _&&_, _||_, cond}
 use mathlib.Core.List.{List}
 use Prim.Native.Nat.{ℕ, _+_, _-_, _%_}
 use lib.Dec.{eqb, ltb}
 use lib.ListN.{getD}
-use Rattle.routine.specs.declared.action.Access.the-variants.{Read, Define, Modify}
+use Rattle.routine.specs.declared.action.Access.the-variants.{Read, Define, Modify, Kill}
 use Rattle.routine.specs.declared.action.Action.{Action}
 use Rattle.routine.specs.declared.action.Action.the-variants.{Nothing, Reference, Remap, Unknown}
 use Rattle.refusal.specs.declared.Refusal.the-variants.{UnknownAction, VersionTooLarge, ActionAtEntryOrExit, MixedActions}
@@ -16,20 +16,21 @@ use Rattle.routine.specs.Layout.{arrays, vertices, entry, exit, actionAt
 use Rattle.sets.specs.Sets.{width}
 use Rattle.words.specs.Sums.{anyBelow}
 
--- 00 nothing, 10 read, 20 define, 30 modify, 40+k remap to version k, k below 16; every other byte is unknown
+-- 00 nothing, 10 read, 20 define, 30 modify, 80 kill, 40+k remap to version k, k below 16; every other byte is unknown
 unfoldable pub actionOf : ℕ → Action
 actionOf b =
     cond (eqb b 0x00) Nothing
     (cond (eqb b 0x10) (Reference Read)
     (cond (eqb b 0x20) (Reference Define)
     (cond (eqb b 0x30) (Reference Modify)
+    (cond (eqb b 0x80) (Reference Kill)
     (cond (ltb b 0x40) Unknown
     (cond (ltb b (0x40 + width)) (Remap (b - 0x40))
-    Unknown)))))
+    Unknown))))))
 
 -- ---- document 02, request 3: 60+k passes the array in version k with intent in, A0+k out, C0+k inout, k below 32
 
--- a call's byte; to document 01 it is unknown
+-- a call's byte; to `actionOf` it is unknown
 abbrev pub isCall : ℕ → Bool
 isCall b = within 0x60 0x7f b || within 0xa0 0xdf b
 
@@ -48,14 +49,14 @@ unfoldable pub action : List ℕ → ℕ → ℕ → Action
 unfolding actionOf
 action file a v = actionOf (actionByte file a v)
 
--- one of document 01's five
+-- not unknown
 abbrev pub isKnown : Action → Bool
 isKnown Nothing = true
 isKnown (Reference r) = true
 isKnown (Remap k) = true
 isKnown Unknown = false
 
--- the middle three are references
+-- the middle three are references, and so is a kill
 abbrev pub isReference : Action → Bool
 isReference Nothing = false
 isReference (Reference r) = true
@@ -80,7 +81,7 @@ remapsBelow Unknown n = true
 abbrev pub isEntryOrExit : List ℕ → ℕ → Bool
 isEntryOrExit file v = eqb v entry || eqb v (exit file)
 
--- one of document 01's actions, or a call
+-- a known action, or a call
 abbrev pub isKnownByte : ℕ → Bool
 isKnownByte b = isKnown (actionOf b) || isCall b
 

@@ -16,11 +16,12 @@ ghost use Rattle.routine.specs.Layout.{arrays, vertices, actionAt};
 ghost use Rattle.routine.specs.Reader.{Heads, Limits};
 ghost use Rattle.routine.specs.Rows.{isWrong, knownReason, reasonOf, familyAfter};
 
-// A reference: a read, a define (all of it rewritten, nothing read) or a modify (old value needed).
+// A reference: a read, a define (all of it rewritten, nothing read), a modify (old value needed) or a kill (a define whose new stamp is 0).
 pub enum Access {
     Read,
     Define,
     Modify,
+    Kill,
 }
 
 // What a vertex does with an array.
@@ -47,6 +48,7 @@ impl Action {
             0x10 => Action::Reference(Access::Read),
             0x20 => Action::Reference(Access::Define),
             0x30 => Action::Reference(Access::Modify),
+            0x80 => Action::Reference(Access::Kill),
             0x40..=0x4f => Action::Remap(b - 0x40),
             _ => Action::Unknown,
         }

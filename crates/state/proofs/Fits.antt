@@ -13,7 +13,7 @@ use lib.Pow.{pow-lt}
 use Rattle.routine.specs.Arrays.{isInOrInout}
 use Rattle.labels.specs.declared.Use.{Use}
 use Rattle.routine.specs.declared.action.Access.{Access}
-use Rattle.routine.specs.declared.action.Access.the-variants.{Read, Define, Modify}
+use Rattle.routine.specs.declared.action.Access.the-variants.{Read, Define, Modify, Kill}
 use Rattle.routine.specs.declared.action.Action.{Action}
 use Rattle.routine.specs.declared.action.Action.the-variants.{Nothing, Reference, Remap, Unknown}
 use Rattle.routine.specs.declared.array.ArrayRecord.{ArrayRecord}
@@ -101,6 +101,7 @@ after-small : (x : Access) (step stamp : ℕ) → step ≤ 65535 → stamp ≤ 6
 after-small Read step stamp h g = g
 after-small Define step stamp h g = h
 after-small Modify step stamp h g = h
+after-small Kill step stamp h g = lit≤ tt
 
 module _ (r : ArrayRecord) (u : Use) (keep : ℕ) {s : State} {n : ℕ} (short : n < 65535) (f : Fits s n) where
   visited-fits : (x : Action) → ((k : ℕ) → x ≡ Remap k → k < width) → Fits (visited r x u keep (n + 1) s) (suc n)

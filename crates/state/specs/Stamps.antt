@@ -1,8 +1,8 @@
--- Document 01, "Run": a define or modify gives its step number as the new stamp. Run and machine read it alike.
+-- Document 01, "Run": a define or modify gives its step number as the new stamp, a kill 0. Run and machine read it alike.
 -- Assumes nothing.
 use Prim.Native.Nat.{ℕ}
 use Rattle.routine.specs.declared.action.Access.{Access}
-use Rattle.routine.specs.declared.action.Access.the-variants.{Read, Define, Modify}
+use Rattle.routine.specs.declared.action.Access.the-variants.{Read, Define, Modify, Kill}
 use Rattle.routine.specs.declared.action.Action.{Action}
 use Rattle.routine.specs.declared.action.Action.the-variants.{Nothing, Reference, Remap, Unknown}
 
@@ -11,6 +11,7 @@ abbrev pub stampAfter : Access → ℕ → ℕ → ℕ
 stampAfter Read step stamp = stamp
 stampAfter Define step stamp = step
 stampAfter Modify step stamp = step
+stampAfter Kill step stamp = 0
 
 -- after an event that is no label
 abbrev pub stampBy : Action → ℕ → ℕ → ℕ

@@ -248,7 +248,7 @@ pub fn stepped(c: Carried, letter: u8, t: u8, keep: Set, held: u16) -> Carried
     next
 }
 
-// The stamp of the current copy after an event that is no label: a define or modify gives the step number.
+// The stamp of the current copy after an event that is no label: a define or modify gives the step number, a kill 0.
 pub fn stamp_after(x: Action, step: u16, stamp: u16) -> u16
     ensures { λ r. ⌜ r ≡ stampBy x step stamp ⌝ }
 {
@@ -258,6 +258,7 @@ pub fn stamp_after(x: Action, step: u16, stamp: u16) -> u16
             Access::Read => stamp,
             Access::Define => step,
             Access::Modify => step,
+            Access::Kill => 0,
         },
         Action::Remap(_) => stamp,
         Action::Unknown => stamp,

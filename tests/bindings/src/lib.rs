@@ -9,6 +9,24 @@
 //! assert_eq!((answer.number, answer.first), (10, 4));
 //! ```
 //!
+//! A routine's bytes say at each vertex what it does with each array. One of them, 80, kills: no value
+//! of the array is needed until it is defined again. It is a define that gives no value, and kind 4 in
+//! a report. A local array of two versions, along the path 0 1 2 3 4:
+//!
+//! ```
+//! let mut routine = b"HPFR\x01\0\x12\0\x01\0\x16\0\x06\0\x1c\0\x05\0".to_vec();
+//! routine.extend([0, 2, 0, 0]); // local, two versions, initial 0
+//! routine.extend([0x00, 0x20, 0x41, 0x80, 0x10, 0x00]); // 1 define, 2 remap to 1, 3 kill, 4 read
+//! routine.extend([0, 0, 1, 0, 1, 0, 2, 0, 2, 0, 3, 0, 3, 0, 4, 0, 4, 0, 5, 0]); // edges 0-1 to 4-5
+//! let path = [0, 0, 1, 0, 2, 0, 3, 0, 4, 0];
+//! let mut report = [0; 36];
+//! let answer = hpf_remap::run(&routine, &path, &mut report);
+//! assert_eq!((answer.number, answer.first), (0, 36));
+//! assert_eq!(report[..6], [0, 0, 2, 0, 1, 0]); // nothing was copied, version 1 is live and current
+//! assert_eq!(report[16..26], [4, 0, 0, 1, 4, 0, 0, 0, 0, 0]); // step 4 kills version 1
+//! assert_eq!(report[26..36], [5, 0, 0, 1, 1, 0, 0, 0, 0, 0]); // step 5 reads it and sees 0
+//! ```
+//!
 //! [`convert`] makes a routine of a directive file, which says `distribute`, `align`,
 //! `redistribute` and `realign` in place of version numbers; docs/DIRECTIVES.md tells its format.
 //! One template and one array, whose mapping is changed between a define and a read:
@@ -88,7 +106,7 @@ pub const LONGEST_PATH: usize = 4096;
 /// | 19 | a row has two of references, remappings and calls | the first byte that differs from an earlier one |
 /// | 16 | an edge | its first byte |
 /// | 22 | the expanded routine has more than 256 vertices | how many |
-/// | 20 | an in argument is defined, modified, or passed as out or inout | vertex; array |
+/// | 20 | an in argument is defined, modified, killed, or passed as out or inout | vertex; array |
 /// | 21 | a reference or a call is ambiguous | vertex; array |
 /// | 1 | the buffer of plan, routine or rounds is too short | the length that is needed |
 /// | 30 | a path of no vertex, or of more than 4,096 | how many |

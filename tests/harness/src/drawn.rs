@@ -3,22 +3,25 @@
 mod directives;
 
 use crate::library::Input;
-use oracle::builder::Draft;
+use oracle::builder::{Draft, KILL, MODIFY};
 use oracle::calls::{self, Part, Place, Room, is_call};
 use oracle::labels::fixpoint;
 use oracle::machine;
 use oracle::outcome::Outcome;
-use oracle::routine::{Kind, Routine};
+use oracle::routine::{HEAD, Kind, MAX_ARRAYS, Routine};
 use oracle::run::vertices;
 use std::fmt;
 
 /// The shares that are counted, and the least that each must be in percent.
-const SHARES: [(&str, u64); 47] = [
+const SHARES: [(&str, u64); 57] = [
     ("plans drawn: accepted", 40),
     ("plans drawn: with calls", 50),
     ("plans drawn: two arrays of each kind", 10),
     ("plans drawn: refused by 22", 1),
     ("plans refused by 20: at a call", 20),
+    ("plans refused by 20: at a kill", 10),
+    ("plans refused by 19: beside a kill", 10),
+    ("plans refused by 18: a kill", 5),
     ("plans refused by 21: at a call", 20),
     ("  an ambiguous reference behind it", 5),
     ("plans refused by 21: at a reference", 20),
@@ -29,6 +32,8 @@ const SHARES: [(&str, u64); 47] = [
     ("  one in a loop", 10),
     ("  two in a row", 10),
     ("  one that does not pass every array", 20),
+    ("accepted plans: with a kill", 25),
+    ("  planned otherwise with modifies in its place", 12),
     ("labels of accepted plans: N", 20),
     ("labels of accepted plans: D", 4),
     ("labels of accepted plans: R", 10),
@@ -41,6 +46,9 @@ const SHARES: [(&str, u64); 47] = [
     ("accepted runs: fewer copies than remaps", 30),
     ("accepted runs: with a record", 60),
     ("accepted runs: without record", 1),
+    ("accepted runs: with a kill", 15),
+    ("  a read or modify that sees what it left", 5),
+    ("  and after a copy of that", 2),
     ("accepted runs: to the exit, in argument", 30),
     ("  its last label not home", 20),
     ("  with a copy of it", 15),
@@ -59,8 +67,10 @@ const SHARES: [(&str, u64); 47] = [
     ("  exchanges matter", 10),
     ("  a redistribute that remaps nothing matters", 3),
     ("  a directive that no path gets to", 3),
+    ("  with a kill", 15),
     ("converted runs: accepted", 60),
     ("  a reference in another version than 0", 15),
+    ("  a kill in the report", 10),
 ];
 
 /// A part of a whole.
@@ -115,13 +125,52 @@ impl Drawn {
         self.one("plans drawn: with calls", has_calls(file));
         self.one("plans drawn: two arrays of each kind", is_wide);
         self.one("plans drawn: refused by 22", answer.number == 22);
+        self.count_action_fault(file, answer);
         if let Some(routine) = routine {
             self.count_refusal(&routine, answer);
         }
         if let Some(routine) = accepted {
             self.count_calls(&routine);
+            self.count_kills(file, plan);
             self.count_labels(&routine, plan);
         }
+    }
+
+    /// Whether 18 names a kill, and 19 a row that has one.
+    fn count_action_fault(&mut self, file: &[u8], answer: Outcome) {
+        let Some(draft) = Draft::from_bytes(file).filter(|_| [18, 19].contains(&answer.number))
+        else {
+            return;
+        };
+        let arrays = draft.arrays.len();
+        let index = answer.first as usize - HEAD - 4 * arrays;
+        let row = &draft.rows[index / arrays];
+        match answer.number {
+            18 => self.one("plans refused by 18: a kill", row[index % arrays] == KILL),
+            _ => self.one("plans refused by 19: beside a kill", row.contains(&KILL)),
+        }
+    }
+
+    /// Kills of an accepted routine, and whether its plan shows that they need no old value.
+    fn count_kills(&mut self, file: &[u8], plan: &[u8]) {
+        let mut draft = Draft::from_bytes(file).unwrap_or_default();
+        let mut kills = 0;
+        for byte in draft
+            .rows
+            .iter_mut()
+            .flatten()
+            .filter(|byte| **byte == KILL)
+        {
+            *byte = MODIFY;
+            kills += 1;
+        }
+        let mut other = vec![0; plan.len()];
+        let differs = kills > 0 && {
+            oracle::plan::plan(&draft.bytes(), &mut other);
+            other != plan
+        };
+        self.one("accepted plans: with a kill", kills > 0);
+        self.one("  planned otherwise with modifies in its place", differs);
     }
 
     fn count_run_drawn(&mut self, file: &[u8], path: &[u8], report: &[u8]) {
@@ -143,7 +192,11 @@ impl Drawn {
         let is_call_at = |vertex: usize| is_call(file.row(vertex));
         let at_call = || is_call_at(answer.first as usize);
         match answer.number {
-            20 => self.one("plans refused by 20: at a call", at_call()),
+            20 => {
+                let byte = file.row(answer.first as usize)[answer.second as usize];
+                self.one("plans refused by 20: at a call", at_call());
+                self.one("plans refused by 20: at a kill", byte == KILL);
+            }
             21 => {
                 let others = fixpoint::ambiguous(file);
                 let other = |call| others.iter().any(|&(vertex, _)| is_call_at(vertex) == call);
@@ -210,6 +263,7 @@ impl Drawn {
         self.one("accepted runs: fewer copies than remaps", copies < all);
         self.one("accepted runs: with a record", !records.is_empty());
         self.one("accepted runs: without record", records.is_empty());
+        self.count_kill_records(records);
         let some_in = |test: &dyn Fn(usize) -> bool| {
             let mut ins = (0..arrays.len()).filter(|&array| arrays[array].kind == Kind::In);
             at_exit && ins.any(test)
@@ -221,6 +275,27 @@ impl Drawn {
         );
         self.one("  its last label not home", some_in(&away));
         self.one("  with a copy of it", some_in(&|array| each[array] > 0));
+    }
+
+    /// Kills on a path, and whether what they left is seen: 0, in the version that was killed, or in
+    /// another one to which it was copied.
+    fn count_kill_records(&mut self, records: &[u8]) {
+        let mut killed = [None; MAX_ARRAYS];
+        let (mut kills, mut seen, mut copied) = (false, false, false);
+        for record in records.chunks_exact(10) {
+            let (array, version, kind) = (usize::from(record[2]), record[3], record[4]);
+            if kind % 2 == 1 {
+                seen |= killed[array].is_some();
+                copied |= killed[array].is_some_and(|before| before != version);
+            }
+            if kind > 1 {
+                killed[array] = (kind == 4).then_some(version);
+            }
+            kills |= kind == 4;
+        }
+        self.one("accepted runs: with a kill", kills);
+        self.one("  a read or modify that sees what it left", seen);
+        self.one("  and after a copy of that", copied);
     }
 
     /// The calls that a path takes, and whether it ends inside one.

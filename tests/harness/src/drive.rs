@@ -142,6 +142,14 @@ pub fn named() -> Vec<(Draft, Vec<Vec<u16>>)> {
             vec![vec![0, 1, 2, 3, 4, 5, 6], vec![0, 1, 2, 3, 4, 5, 6, 7]],
         ),
         (
+            builder::z(),
+            vec![
+                vec![0, 1, 2, 3, 4],
+                vec![0, 1, 2, 3],
+                vec![0, 1, 2, 3, 4, 5],
+            ],
+        ),
+        (
             builder::read_only(),
             vec![vec![0, 1, 2], vec![0, 1, 2, 3], vec![0]],
         ),
@@ -398,7 +406,11 @@ impl Driver<'_> {
         longer.push(1);
         let mut odd = path_bytes(&longest);
         odd.push(1);
-        for draft in [limits::largest_report(), limits::largest_plan()] {
+        for draft in [
+            limits::largest_report(),
+            limits::largest_with_kills(),
+            limits::largest_plan(),
+        ] {
             let paths = [path_bytes(&longest), path_bytes(&longer), odd.clone()];
             let inputs = paths.map(|path| Input::run(draft.bytes(), path));
             self.try_all(kind, inputs.into_iter())?;

@@ -4,10 +4,10 @@ use crate::check::{Called, Difference};
 use crate::drive::Mismatch;
 use crate::library::Input;
 use oracle::builder::Draft;
-use oracle::calls::Call;
+use oracle::calls::{Call, Intent};
 use oracle::directives::file;
 use oracle::outcome::Outcome;
-use oracle::routine::{Action, Reference};
+use oracle::routine::Action;
 use oracle::run::{MAX_PATH, vertices};
 use std::fmt::{self, Write};
 
@@ -46,9 +46,9 @@ fn action(byte: u8) -> String {
         Some(Action::Reference(reference)) => format!("{reference:?}").to_lowercase(),
         Some(Action::Remap(version)) => format!("remap {version}"),
         Some(Action::Call(Call { version, intent })) => match intent {
-            Reference::Read => format!("call in {version}"),
-            Reference::Define => format!("call out {version}"),
-            Reference::Modify => format!("call inout {version}"),
+            Intent::In => format!("call in {version}"),
+            Intent::Out => format!("call out {version}"),
+            Intent::Inout => format!("call inout {version}"),
         },
         None => format!("unknown {byte:02x}"),
     }

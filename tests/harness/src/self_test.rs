@@ -3,6 +3,7 @@
 mod calls;
 mod conversions;
 mod interfaces;
+mod kills;
 mod plans;
 mod rounds;
 mod runs;
@@ -114,11 +115,11 @@ fn the_oracle_agrees_with_itself() {
     let tally = compare(&ORACLE, FEW).unwrap();
     assert_eq!(tally.missing(), [""; 0], "{tally}");
     // 255 values for each byte, and every length up to eight more but its own: P, Q, S, T, T
-    // without its read, U, the read-only argument, the call, the calls in a loop and the ambiguous
-    // call have 62, 52, 48, 42, 42, 58, 38, 48, 61 and 50 bytes, and paths of 18, 8, 10, 8, 6, 14,
-    // 6, 16, 30 and 10; the four further routines that are drawn have 340.
-    let (files, paths, drawn) = (501, 126, 340);
-    let four_vertices = (4 * 36 + 2 * 45) * (1 << 9);
+    // without its read, U, Z, the read-only argument, the call, the calls in a loop and the
+    // ambiguous call have 62, 52, 48, 42, 42, 58, 48, 38, 48, 61 and 50 bytes, and paths of 18, 8,
+    // 10, 8, 6, 14, 10, 6, 16, 30 and 10; the four further routines that are drawn have 340.
+    let (files, paths, drawn) = (549, 136, 340);
+    let four_vertices = (4 * 49 + 2 * 51) * (1 << 9);
     // The example, the directive file of every statement and the drawn one have 115, 154 and 150
     // bytes.
     let damaged = 115 + 154 + 150;
@@ -153,13 +154,13 @@ fn the_oracle_agrees_with_itself() {
         ("plan, all of two rows", 3 * 11u64.pow(4)),
         ("plan, converted", 450),
         ("plan, every byte damaged", 255 * (files + drawn)),
-        ("plan, every length", files + drawn + 14 * 8),
+        ("plan, every length", files + drawn + 15 * 8),
         ("plan, far too long", 3),
         ("plan, graph as drawn", 200),
         ("plan, graph made acceptable", 200),
         ("plan, in arguments", 200),
-        ("plan, limits", 53 + 11),
-        ("plan, named", 15),
+        ("plan, limits", 54 + 11),
+        ("plan, named", 16),
         ("plan, program as drawn", 400),
         ("plan, program made acceptable", 200),
         ("plan, refused by number", 400),
@@ -168,13 +169,13 @@ fn the_oracle_agrees_with_itself() {
         ("run, all of four vertices", four_vertices),
         ("run, damaged path", 200),
         ("run, every byte damaged", 255 * files),
-        ("run, every length", files + 10 * 8),
+        ("run, every length", files + 11 * 8),
         ("run, every path byte damaged", 255 * paths),
-        ("run, every path length", paths + 10 * 8),
+        ("run, every path length", paths + 11 * 8),
         ("run, far too long", 6),
         ("run, in arguments to the exit", 200),
-        ("run, limits", 7 + 53),
-        ("run, named", 35),
+        ("run, limits", 10 + 54),
+        ("run, named", 38),
         ("run, path along edges", 300),
         ("run, path into a call", 100),
         ("run, refused routine", 100),
@@ -211,6 +212,8 @@ fn a_poor_generator() {
             "  one in a loop",
             "  two in a row",
             "  one that does not pass every array",
+            "accepted plans: with a kill",
+            "  planned otherwise with modifies in its place",
             "labels of accepted plans: D",
             "labels of accepted plans: R",
             "labels of accepted plans: W",
@@ -219,6 +222,9 @@ fn a_poor_generator() {
             "accepted runs: with a copy",
             "accepted runs: fewer copies than remaps",
             "accepted runs: with a record",
+            "accepted runs: with a kill",
+            "  a read or modify that sees what it left",
+            "  and after a copy of that",
             "accepted runs: to the exit, in argument",
             "  its last label not home",
             "  with a copy of it",
@@ -238,6 +244,7 @@ fn small_routines_are_expected_literally() {
         builder::s(),
         builder::t(),
         builder::u(),
+        builder::z(),
         builder::calls_in_a_loop(),
     ] {
         assert_eq!(Form::of(&Input::plan(draft.bytes())), Form::Literal);

@@ -93,8 +93,8 @@ fn routines_of_four_vertices_differ() {
     let files: HashSet<Vec<u8>> = routines::all_of_four_vertices()
         .map(|draft| draft.bytes())
         .collect();
-    // 36 pairs of actions without calls, of each kind, and 45 with them, of two.
-    assert_eq!(files.len(), (4 * 36 + 2 * 45) * (1 << 9));
+    // 49 pairs of actions without calls, of each kind, and 51 with them, of two.
+    assert_eq!(files.len(), (4 * 49 + 2 * 51) * (1 << 9));
 }
 
 /// The counts that the comparison is to meet.

@@ -7,6 +7,10 @@ use crate::routine::{HEAD, Routine};
 pub const READ: u8 = 0x10;
 pub const DEFINE: u8 = 0x20;
 pub const MODIFY: u8 = 0x30;
+pub const KILL: u8 = 0x80;
+
+/// Every reference.
+pub const REFERENCES: [u8; 4] = [READ, DEFINE, MODIFY, KILL];
 
 pub const LOCAL: u8 = 0;
 pub const IN: u8 = 1;
@@ -226,6 +230,11 @@ pub fn u() -> Draft {
         0,
         &[DEFINE, remap(1), DEFINE, READ, remap(0), READ],
     )
+}
+
+/// Routine Z of request 6: a kill, then a read, under one label.
+pub fn z() -> Draft {
+    Draft::chain(LOCAL, 2, 0, &[DEFINE, remap(1), KILL, READ])
 }
 
 /// Routine K: a call in a loop that passes one array as inout and another as in.

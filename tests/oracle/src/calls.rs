@@ -3,17 +3,35 @@
 
 use crate::routine::{Action, MAX_VERTICES, Reference, Routine};
 
+/// What a call does with an array that it passes. None kills it.
+#[derive(Clone, Copy, Debug, PartialEq, Eq)]
+pub enum Intent {
+    In,
+    Out,
+    Inout,
+}
+
+impl Intent {
+    /// In reads, out defines, inout modifies.
+    pub const fn reference(self) -> Reference {
+        match self {
+            Intent::In => Reference::Read,
+            Intent::Out => Reference::Define,
+            Intent::Inout => Reference::Modify,
+        }
+    }
+}
+
 /// An array passed to a call.
 #[derive(Clone, Copy, Debug, PartialEq, Eq)]
 pub struct Call {
     /// The version in which it is passed.
     pub version: u8,
-    /// Its intent: in reads, out defines, inout modifies.
-    pub intent: Reference,
+    pub intent: Intent,
 }
 
 impl Call {
-    pub const fn new(version: u8, intent: Reference) -> Call {
+    pub const fn new(version: u8, intent: Intent) -> Call {
         Call { version, intent }
     }
 }
@@ -119,9 +137,9 @@ pub fn expanded<'a>(
         if is_call(row) {
             room.row(row, |_, call| 0x40 + call.version);
             room.row(row, |_, call| match call.intent {
-                Reference::Read => 0x10,
-                Reference::Define => 0x20,
-                Reference::Modify => 0x30,
+                Intent::In => 0x10,
+                Intent::Out => 0x20,
+                Intent::Inout => 0x30,
             });
             room.row(row, |array, _| 0x40 + back(vertex, array));
             next += 3;

@@ -171,7 +171,8 @@ fn read(routine: &Routine, report: &[u8]) -> Result<Shown, String> {
             reference: match bytes[4] {
                 1 => Reference::Read,
                 2 => Reference::Define,
-                _ => Reference::Modify,
+                3 => Reference::Modify,
+                _ => Reference::Kill,
             },
             seen: u16::from_le_bytes([bytes[6], bytes[7]]),
             new: u16::from_le_bytes([bytes[8], bytes[9]]),

@@ -5,7 +5,7 @@ pub mod literal;
 pub mod search;
 
 use crate::outcome::Refusal;
-use crate::routine::{Event, Kind, Reference, Routine};
+use crate::routine::{Event, Kind, Routine};
 
 /// **Use** of a label.
 #[derive(Clone, Copy, Debug, PartialEq, Eq)]
@@ -87,12 +87,12 @@ fn first_event(
     None
 }
 
-/// The first define or modify of an in argument, or call that passes one as out or inout.
+/// The first define, modify or kill of an in argument, or call that passes one as out or inout.
 pub fn refusal_20(file: &Routine) -> Option<Refusal> {
     first_event(20, file, |_, array, event| {
         let changes = match event {
-            Event::Reference(reference) => reference != Reference::Read,
-            Event::Call(call) => call.intent != Reference::Read,
+            Event::Reference(reference) => reference.changes(),
+            Event::Call(call) => call.intent.reference().changes(),
             Event::Nothing | Event::Label(_) => false,
         };
         changes && file.array(array).kind == Kind::In

@@ -51,11 +51,11 @@ impl Machine {
         self.held = version;
     }
 
-    /// A read, define or modify uses the held version.
+    /// A reference uses the held version. All but a read give the new stamp, which a kill makes 0.
     fn reference(&mut self, step: u16, array: usize, reference: Reference) -> Record {
         let record = Record::new(step, array, self.held, reference, self.stamp);
-        if reference != Reference::Read {
-            self.stamp = step;
+        if reference.changes() {
+            self.stamp = record.new;
         }
         record
     }

@@ -65,9 +65,10 @@ fn write(routine: &Routine, all: &impl Labels, out: &mut [u8]) -> Result<usize, 
     Ok(needed)
 }
 
-/// Remap actions, entry labels and exit labels.
+/// Remap actions, entry labels and exit labels. Where no row is a call, remappings alone have bit 6.
 fn label_count(routine: &Routine) -> usize {
-    let remaps = routine.action_bytes().iter().filter(|&&byte| byte >= 0x40);
+    let bytes = routine.action_bytes().iter();
+    let remaps = bytes.filter(|&&byte| byte & 0x40 != 0);
     let home = routine
         .arrays()
         .filter(|array| array.kind.is_out_or_inout());

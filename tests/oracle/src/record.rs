@@ -9,9 +9,9 @@ pub struct Record {
     pub array: u8,
     pub version: u8,
     pub reference: Reference,
-    /// Stamp seen, 0 for define.
+    /// Stamp seen, 0 for define and kill.
     pub seen: u16,
-    /// New stamp, 0 for read.
+    /// New stamp, 0 for read and kill.
     pub new: u16,
 }
 
@@ -22,6 +22,7 @@ impl Record {
             Reference::Read => (stamp, 0),
             Reference::Define => (0, step),
             Reference::Modify => (stamp, step),
+            Reference::Kill => (0, 0),
         };
         Record {
             step,
@@ -42,6 +43,7 @@ impl Record {
             Reference::Read => 1,
             Reference::Define => 2,
             Reference::Modify => 3,
+            Reference::Kill => 4,
         };
         [
             step,

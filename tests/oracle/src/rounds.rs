@@ -262,7 +262,7 @@ fn letters(routine: &Routine) -> Pass {
         match routine.event(vertex, array) {
             Event::Nothing | Event::Call(_) => (0b0000, 0b1111),
             Event::Reference(Reference::Read) => (0b0111, 0b1111),
-            Event::Reference(Reference::Define) => (0b1001, 0b1101),
+            Event::Reference(Reference::Define | Reference::Kill) => (0b1001, 0b1101),
             Event::Reference(Reference::Modify) => (0b1011, 0b1111),
             Event::Label(_) => (0b0010, 0b0000),
         }

@@ -1,6 +1,6 @@
 //! The routine file ("Routine file") and refusals 10 to 19 and 22.
 
-use crate::calls::Call;
+use crate::calls::{Call, Intent};
 use crate::outcome::Refusal;
 
 pub const MAX_ARRAYS: usize = 8;
@@ -59,6 +59,20 @@ pub enum Reference {
     Read,
     Define,
     Modify,
+    /// A define whose new stamp is 0 (request 6).
+    Kill,
+}
+
+impl Reference {
+    /// A kill is a define in every rule but that of the new stamp.
+    pub fn is_define(self) -> bool {
+        matches!(self, Reference::Define | Reference::Kill)
+    }
+
+    /// All but a read change the array.
+    pub fn changes(self) -> bool {
+        self != Reference::Read
+    }
 }
 
 #[derive(Clone, Copy, Debug, PartialEq, Eq)]
@@ -78,11 +92,22 @@ impl Action {
             0x20 => Some(Action::Reference(Reference::Define)),
             0x30 => Some(Action::Reference(Reference::Modify)),
             0x40..=0x4f => Some(Action::Remap(byte - 0x40)),
-            0x60..=0x7f => Some(Action::Call(Call::new(byte - 0x60, Reference::Read))),
-            0xa0..=0xbf => Some(Action::Call(Call::new(byte - 0xa0, Reference::Define))),
-            0xc0..=0xdf => Some(Action::Call(Call::new(byte - 0xc0, Reference::Modify))),
+            0x60..=0x7f => Some(Action::Call(Call::new(byte - 0x60, Intent::In))),
+            0x80 => Some(Action::Reference(Reference::Kill)),
+            0xa0..=0xbf => Some(Action::Call(Call::new(byte - 0xa0, Intent::Out))),
+            0xc0..=0xdf => Some(Action::Call(Call::new(byte - 0xc0, Intent::Inout))),
             _ => None,
         }
+    }
+
+    /// Whether a byte remaps its array.
+    pub const fn is_remap(byte: u8) -> bool {
+        matches!(Action::from_byte(byte), Some(Action::Remap(_)))
+    }
+
+    /// Whether a byte refers to its array.
+    pub const fn is_reference(byte: u8) -> bool {
+        matches!(Action::from_byte(byte), Some(Action::Reference(_)))
     }
 }
 

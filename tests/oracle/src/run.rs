@@ -74,13 +74,14 @@ impl Copies {
         self.current = Some(label.version);
     }
 
-    /// A reference uses the current version. It follows a kept label, so there is one.
+    /// A reference uses the current version. It follows a kept label, so there is one. All but a
+    /// read give it the new stamp.
     fn reference(&mut self, step: u16, array: usize, reference: Reference) -> Record {
         let version = self.current.expect("a reference follows a kept label");
         let stamp = &mut self.stamps[usize::from(version)];
         let record = Record::new(step, array, version, reference, *stamp);
-        if reference != Reference::Read {
-            *stamp = step;
+        if reference.changes() {
+            *stamp = record.new;
         }
         record
     }
@@ -239,8 +240,10 @@ fn write(
     Ok(needed)
 }
 
+/// Where no row is a call, a byte that is not 0 and has not bit 6, as remappings have, is a
+/// reference.
 fn reference_count(routine: &Routine, path: &[u8]) -> usize {
-    let is_reference = |byte: &&u8| (0x10..0x40).contains(*byte);
+    let is_reference = |byte: &&u8| **byte != 0 && **byte & 0x40 == 0;
     vertices(path)
         .map(|vertex| routine.row(vertex).iter().filter(is_reference).count())
         .sum()

@@ -1,6 +1,6 @@
 //! Refusals, places, buffers and limits.
 
-use oracle::builder::{self, DEFINE, Draft, IN, LOCAL, READ, path_bytes, remap};
+use oracle::builder::{self, DEFINE, Draft, IN, KILL, LOCAL, OUT, READ, path_bytes, remap};
 use oracle::generate::rng::Rng;
 use oracle::generate::routines::{self, Size};
 use oracle::generate::{damage, limits};
@@ -126,7 +126,7 @@ fn several_faults_of_action_bytes() {
 fn family(byte: u8) -> Option<(u8, u8)> {
     match byte {
         0x00 => Some((0, 0)),
-        0x10 | 0x20 | 0x30 => Some((1, 0)),
+        0x10 | 0x20 | 0x30 | 0x80 => Some((1, 0)),
         0x40..=0x4f => Some((2, byte - 0x40)),
         0x60..=0x7f => Some((3, byte - 0x60)),
         0xa0..=0xbf => Some((3, byte - 0xa0)),
@@ -135,8 +135,8 @@ fn family(byte: u8) -> Option<(u8, u8)> {
     }
 }
 
-/// The faults of each action byte with its place, each asked by itself in the words of requests 2
-/// and 3.
+/// The faults of each action byte with its place, each asked by itself in the words of requests 2,
+/// 3 and 6.
 fn faults(draft: &Draft) -> Vec<(usize, Vec<u64>)> {
     let differ = |one: u8, other: u8| match (family(one), family(other)) {
         (Some((one, _)), Some((other, _))) => one != 0 && other != 0 && one != other,
@@ -224,7 +224,7 @@ fn any_action_bytes_by_words() {
             let remap = remap(rng.below(16) as u8);
             let call = rng.pick(&routines::INTENTS)(rng.below(32) as u8);
             let byte = rng.byte();
-            draft.rows[vertex][array] = rng.pick(&[byte, remap, call, READ, DEFINE]);
+            draft.rows[vertex][array] = rng.pick(&[byte, remap, call, READ, DEFINE, KILL]);
         }
         is_answered_by_words(&draft);
         answered.insert(plan_answer(&draft.bytes()).0);
@@ -233,6 +233,35 @@ fn any_action_bytes_by_words() {
         answered.is_superset(&[0, 15, 17, 18, 19].into()),
         "{answered:?}"
     );
+}
+
+/// A kill is a reference: beside a remapping it is 19, at the entry or exit 18, of an in argument
+/// 20, where two versions may come 21. Bytes about it are unknown.
+#[test]
+fn kills() {
+    assert_eq!(p_with(|file| file[23] = KILL).0, 0);
+    assert_eq!(p_with(|file| file[22] = KILL), (18, 22, 0));
+    assert_eq!(p_with(|file| file[29] = KILL), (18, 29, 0));
+    for byte in [0x81, 0x88, 0x8f, 0x90, 0x9f] {
+        assert_eq!(p_with(|file| file[23] = byte), (15, 23, 0));
+    }
+    let row = |row: [u8; 3]| {
+        let draft = Draft {
+            arrays: vec![[LOCAL, 2, 0, 0], [OUT, 2, 0, 0], [IN, 2, 0, 0]],
+            rows: vec![vec![0; 3], row.to_vec(), vec![0; 3]],
+            edges: vec![(0, 1), (1, 2)],
+        };
+        plan_answer(&draft.bytes())
+    };
+    assert_eq!(row([KILL, KILL, READ]).0, 0);
+    assert_eq!(row([KILL, 0, remap(1)]), (19, 35, 0));
+    assert_eq!(row([remap(1), KILL, 0]), (19, 34, 0));
+    assert_eq!(row([KILL, 0, builder::call_in(1)]), (19, 35, 0));
+    assert_eq!(row([builder::call_out(1), KILL, 0]), (19, 34, 0));
+    assert_eq!(row([KILL, 0, KILL]), (20, 1, 2));
+    let mut ambiguous = builder::t();
+    ambiguous.rows[2] = vec![KILL];
+    assert_eq!(plan_answer(&ambiguous.bytes()), (21, 2, 0));
 }
 
 #[test]

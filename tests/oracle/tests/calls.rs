@@ -1,8 +1,8 @@
 //! Calls with interfaces: expanded routines, answers and runs written out by hand.
 
 use oracle::builder::{
-    self, DEFINE, Draft, IN, INOUT, LOCAL, MODIFY, READ, call_in, call_inout, call_out, path_bytes,
-    remap,
+    self, DEFINE, Draft, IN, INOUT, KILL, LOCAL, MODIFY, READ, call_in, call_inout, call_out,
+    path_bytes, remap,
 };
 use oracle::calls::{Part, Place};
 use oracle::generate::limits;
@@ -192,7 +192,7 @@ fn ambiguous_calls() {
 fn every_action_byte() {
     for byte in 0..=255u8 {
         let number = match byte {
-            0x00 | 0x10 | 0x20 | 0x30 | 0x40..=0x4f => 0,
+            0x00 | 0x10 | 0x20 | 0x30 | 0x40..=0x4f | 0x80 => 0,
             0x60..=0x6f | 0xa0..=0xaf | 0xc0..=0xcf => 0,
             0x70..=0x7f | 0xb0..=0xbf | 0xd0..=0xdf => 17,
             _ => 15,
@@ -220,7 +220,8 @@ fn faults_of_call_bytes() {
     assert_eq!(answer(2, [0, remap(1), call_out(1)]), (19, 38, 0));
     assert_eq!(answer(2, [call_out(1), 0, remap(0)]), (19, 38, 0));
     assert_eq!(answer(1, [READ, 0, call_in(2)]), (17, 35, 0));
-    assert_eq!(answer(1, [call_in(0), 0x80, 0]), (15, 34, 0));
+    assert_eq!(answer(1, [call_in(0), 0x81, 0]), (15, 34, 0));
+    assert_eq!(answer(1, [call_in(0), KILL, 0]), (19, 34, 0));
     assert_eq!(answer(0, [0, call_in(1), 0]), (18, 31, 0));
     assert_eq!(answer(3, [call_inout(0), READ, 0]), (18, 39, 0));
     assert_eq!(answer(3, [call_inout(31), READ, 0]), (17, 39, 0));

@@ -1,7 +1,9 @@
-//! The cases of document 01 by number, routine U, request 1's smallest case, and routine K of
-//! request 3.
+//! The cases of document 01 by number, routine U, request 1's smallest case, routine K of request 3,
+//! and routine Z of request 6.
 
-use oracle::builder::{self, Draft, IN, LOCAL, READ, path_bytes, remap};
+use oracle::builder::{
+    self, DEFINE, Draft, IN, INOUT, KILL, LOCAL, MODIFY, READ, path_bytes, remap,
+};
 use oracle::listing;
 use oracle::machine;
 use oracle::outcome::Outcome;
@@ -209,6 +211,41 @@ fn routine_u() {
         listing::report(&ran(&builder::u(), &[0, 1, 2, 3, 4, 5, 6]), 1),
         "1 1 0\n2 0 0 2 0 2\n4 0 1 2 0 4\n5 0 1 1 4 0\n7 0 0 1 4 0\n"
     );
+}
+
+/// Routine Z: a kill needs no old value, and leaves none.
+#[test]
+fn routine_z() {
+    assert_eq!(
+        listing::plan(&planned(&builder::z())),
+        "vertex array use leave reach keep\n\
+         0 0 D 0 0000 0001\n\
+         2 0 D 1 0001 0002\n"
+    );
+    let path = [0, 1, 2, 3, 4];
+    assert_eq!(
+        listing::report(&ran(&builder::z(), &path), 1),
+        "0 2 1\n2 0 0 2 0 2\n4 0 1 4 0 0\n5 0 1 1 0 0\n"
+    );
+    assert_eq!(machine_count(&builder::z(), &path), 1);
+}
+
+/// What a kill leaves is 0, in the caller's copy too, until something is given again; a copy copies
+/// it. With a define in its place the plan is the same.
+#[test]
+fn what_a_kill_leaves() {
+    let actions = [READ, KILL, MODIFY, KILL, remap(1), READ, remap(0), READ];
+    let draft = Draft::chain(INOUT, 2, 0, &actions);
+    let path: Vec<u16> = (0..9).collect();
+    assert_eq!(
+        listing::report(&ran(&draft, &path), 1),
+        "1 1 0\n2 0 0 1 65535 0\n3 0 0 4 0 0\n4 0 0 3 0 4\n5 0 0 4 0 0\n7 0 1 1 0 0\n9 0 0 1 0 0\n"
+    );
+    let mut defines = draft.clone();
+    for row in &mut defines.rows {
+        row[0] = if row[0] == KILL { DEFINE } else { row[0] };
+    }
+    assert_eq!(planned(&draft), planned(&defines));
 }
 
 /// An in argument that is not mapped home: its label at the exit is gone, and with it the caller's

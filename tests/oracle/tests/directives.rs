@@ -1,6 +1,6 @@
 //! What directive files mean: both forms agree, and the request's sentence holds along paths.
 
-use oracle::builder::{DEFINE, Draft, MODIFY, READ, remap};
+use oracle::builder::{Draft, READ, remap};
 use oracle::directives::convert::{Conversion, convert, convert_by_states};
 use oracle::directives::meaning::State;
 use oracle::directives::{Program, Statement, file, sets, states};
@@ -8,6 +8,7 @@ use oracle::generate::directives::{self, NAMED, REFUSALS, REMAPS_NOTHING, Size, 
 use oracle::generate::paths;
 use oracle::generate::rng::Rng;
 use oracle::outcome::Outcome;
+use oracle::routine::Action;
 use std::collections::BTreeMap;
 
 const SEED: u64 = 4;
@@ -139,7 +140,7 @@ fn walk(program: &Program, conversion: &Conversion, path: &[u16]) -> Result<usiz
                     state.mapping(array)
                 ));
             }
-            references += usize::from([READ, DEFINE, MODIFY].contains(&byte));
+            references += usize::from(Action::is_reference(byte));
         }
         if let Statement::References(kept) = &program.vertices[vertex]
             && kept != row
@@ -147,7 +148,7 @@ fn walk(program: &Program, conversion: &Conversion, path: &[u16]) -> Result<usiz
             return Err(format!("step {step}: references are not kept"));
         }
         for (version, &byte) in named.iter_mut().zip(row) {
-            if byte >= remap(0) {
+            if Action::is_remap(byte) {
                 *version = usize::from(byte - remap(0));
             }
         }
@@ -228,7 +229,7 @@ fn converted_files() {
             assert_eq!(versions[0], program.initial(array));
             let mut next = 1;
             for row in &routine.rows {
-                if row[array] >= remap(0) {
+                if Action::is_remap(row[array]) {
                     let version = usize::from(row[array] - remap(0));
                     assert!(version <= next, "{program}");
                     next = next.max(version + 1);
@@ -269,7 +270,7 @@ fn shown(program: &Program, conversion: &Conversion) -> Vec<Shown> {
         }
     };
     let labels = |test: &dyn Fn(u8) -> bool| conversion.rows.iter().flatten().any(|&b| test(b));
-    add(Shown::Remaps, labels(&|byte| byte >= remap(0)));
+    add(Shown::Remaps, labels(&Action::is_remap));
     add(Shown::BackToInitial, labels(&|byte| byte == remap(0)));
     let differs = |other: &Program| sets::conversion(other).as_ref() != Ok(conversion);
 

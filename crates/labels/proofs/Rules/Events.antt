@@ -8,7 +8,7 @@ use native.Mathlib.Omega.{arith}
 use borrow.Author.Tests.{ltb-true}
 use lib.Dec.{eqb, ltb, lit<}
 use Rattle.words.proofs.Tests.{at-cond}
-use Rattle.routine.specs.declared.action.Access.the-variants.{Read, Define, Modify}
+use Rattle.routine.specs.declared.action.Access.the-variants.{Read, Define, Modify, Kill}
 use Rattle.routine.specs.declared.action.Action.{Action}
 use Rattle.routine.specs.declared.action.Action.the-variants.{Nothing, Reference, Remap, Unknown}
 use Rattle.routine.specs.Actions.{actionOf, action, actionByte}
@@ -29,8 +29,9 @@ byte-fits b =
     at-cond InWidth (eqb b 0x10) (λ _. lit< tt) (λ _.
     at-cond InWidth (eqb b 0x20) (λ _. lit< tt) (λ _.
     at-cond InWidth (eqb b 0x30) (λ _. lit< tt) (λ _.
+    at-cond InWidth (eqb b 0x80) (λ _. lit< tt) (λ _.
     at-cond InWidth (ltb b 0x40) (λ _. lit< tt) (λ _.
-    at-cond InWidth (ltb b (0x40 + width)) (λ h. omega (arith, ltb-true b (0x40 + width) h)) (λ _. lit< tt))))))
+    at-cond InWidth (ltb b (0x40 + width)) (λ h. omega (arith, ltb-true b (0x40 + width) h)) (λ _. lit< tt)))))))
 
 pub action-fits : (file : List ℕ) (a v : ℕ) → versionOf (action file a v) < width
 unfolding action
@@ -54,11 +55,12 @@ inner-event file a v first last =
     ap₂ (λ (p q : Bool). cond (p || (q && isOutOrInout (kind file a))) (Remap (initial file a)) (action file a v)) first last
 
 -- what holds of each kind of event holds of every event
-pub by-event : (P : Action → Type 0) → P Nothing → P (Reference Read) → P (Reference Define) → P (Reference Modify)
+pub by-event : (P : Action → Type 0) → P Nothing → P (Reference Read) → P (Reference Define) → P (Reference Modify) → P (Reference Kill)
     → ((k : ℕ) → P (Remap k)) → P Unknown → (x : Action) → P x
-by-event P n r d m k u Nothing = n
-by-event P n r d m k u (Reference Read) = r
-by-event P n r d m k u (Reference Define) = d
-by-event P n r d m k u (Reference Modify) = m
-by-event P n r d m k u (Remap j) = k j
-by-event P n r d m k u Unknown = u
+by-event P n r d m l k u Nothing = n
+by-event P n r d m l k u (Reference Read) = r
+by-event P n r d m l k u (Reference Define) = d
+by-event P n r d m l k u (Reference Modify) = m
+by-event P n r d m l k u (Reference Kill) = l
+by-event P n r d m l k u (Remap j) = k j
+by-event P n r d m l k u Unknown = u

@@ -32,7 +32,7 @@ module _ (file : List ℕ) (a v : ℕ) where
       record {
         place = m .place;
         way = m .way;
-        met = by-event (λ x. T (isRead x) → T (isReference x)) (λ h. h) (λ h. h) (λ h. tt) (λ h. tt) (λ k h. h) (λ h. h) (event file a (m .place)) (m .met);
+        met = by-event (λ x. T (isRead x) → T (isReference x)) (λ h. h) (λ h. h) (λ h. tt) (λ h. tt) (λ h. tt) (λ k h. h) (λ h. h) (event file a (m .place)) (m .met);
       }
 
   -- a read is met without a define before it, or a define is met
@@ -66,11 +66,11 @@ module _ (file : List ℕ) (a v : ℕ) where
 -- a reference gives bit 0
 pub use-reference : (x : Action) → has (useGives x) 0 ≡ isReference x
 unfolding has
-use-reference = by-event (λ x. has (useGives x) 0 ≡ isReference x) refl refl refl refl (λ k. refl) refl
+use-reference = by-event (λ x. has (useGives x) 0 ≡ isReference x) refl refl refl refl refl (λ k. refl) refl
 
 -- a reference is a read or a write
 read-or-write : (x : Action) → T (isReference x) → T (isRead x) ⊎ T (isWrite x)
-read-or-write = by-event (λ x. T (isReference x) → T (isRead x) ⊎ T (isWrite x)) absurd inl inr inr (λ k. absurd) absurd
+read-or-write = by-event (λ x. T (isReference x) → T (isRead x) ⊎ T (isWrite x)) absurd inl inr inr inr (λ k. absurd) absurd
 
 module _ (file : List ℕ) (a : ℕ) (proper : Proper file a) (v : ℕ) where
   -- the use set of v
@@ -87,20 +87,20 @@ module _ (file : List ℕ) (a : ℕ) (proper : Proper file a) (v : ℕ) where
   reference-exact : T (has useSet 0) ↔ Meets file a isReference v
   unfolding has
   reference-exact =
-      bit-exact 0 isReference (λ x. not (isRemap x)) (λ x. (use-reference x, by-event (λ y. has (usePasses y) 0 ≡ not (isRemap y)) refl refl refl refl (λ k. refl) refl x))
+      bit-exact 0 isReference (λ x. not (isRemap x)) (λ x. (use-reference x, by-event (λ y. has (usePasses y) 0 ≡ not (isRemap y)) refl refl refl refl refl (λ k. refl) refl x))
 
   undefined-exact : T (has useSet 1) ↔ MeetsUndefined file a needsValue v
   unfolding has
   undefined-exact =
-      bit-exact 1 needsValue (λ x. not (isRemap x) && not (isDefine x)) (by-event _ (refl, refl) (refl, refl) (refl, refl) (refl, refl) (λ k. (refl, refl)) (refl, refl))
+      bit-exact 1 needsValue (λ x. not (isRemap x) && not (isDefine x)) (by-event _ (refl, refl) (refl, refl) (refl, refl) (refl, refl) (refl, refl) (λ k. (refl, refl)) (refl, refl))
 
   read-exact : T (has useSet 2) ↔ Meets file a isRead v
   unfolding has
-  read-exact = bit-exact 2 isRead (λ x. not (isRemap x)) (by-event _ (refl, refl) (refl, refl) (refl, refl) (refl, refl) (λ k. (refl, refl)) (refl, refl))
+  read-exact = bit-exact 2 isRead (λ x. not (isRemap x)) (by-event _ (refl, refl) (refl, refl) (refl, refl) (refl, refl) (refl, refl) (λ k. (refl, refl)) (refl, refl))
 
   write-exact : T (has useSet 3) ↔ Meets file a isWrite v
   unfolding has
-  write-exact = bit-exact 3 isWrite (λ x. not (isRemap x)) (by-event _ (refl, refl) (refl, refl) (refl, refl) (refl, refl) (λ k. (refl, refl)) (refl, refl))
+  write-exact = bit-exact 3 isWrite (λ x. not (isRemap x)) (by-event _ (refl, refl) (refl, refl) (refl, refl) (refl, refl) (refl, refl) (λ k. (refl, refl)) (refl, refl))
 
   -- ---- the letter
 

@@ -16,6 +16,9 @@ enum-told-2 c = search needs
 enum-told-3 : tie.Need-enum-told-3
 enum-told-3 c = search needs
 
+enum-told-4 : tie.Need-enum-told-4
+enum-told-4 c = search needs
+
 returns : tie.Need-returns
 returns c =
     let a = c .before .before .args in
@@ -31,5 +34,10 @@ returns-3 c =
     let a = c .before .before .args in
     sym (ap (λ (x : Access). recordOf x (a .step) (a .array) (a .version) (a .stamp)) (c .enum-told3 .given .1))
 
+returns-4 : tie.Need-returns-4
+returns-4 c =
+    let a = c .before .before .args in
+    sym (ap (λ (x : Access). recordOf x (a .step) (a .array) (a .version) (a .stamp)) (c .enum-told4 .given .1))
+
 pub made-spec : {M : Type 1} → statement M
-made-spec = tie.close (tie.spec enum-told enum-told-2 enum-told-3 returns returns-2 returns-3)
+made-spec = tie.close (tie.spec enum-told enum-told-2 enum-told-3 enum-told-4 returns returns-2 returns-3 returns-4)

@@ -1,9 +1,10 @@
 //! What the drawn directive files show.
 
 use super::Drawn;
-use oracle::builder::{Draft, remap};
+use oracle::builder::{Draft, KILL, remap};
 use oracle::directives::{Program, Statement, file, sets};
 use oracle::outcome::Outcome;
+use oracle::routine::Action;
 
 /// In larger files not every statement is tried for what it matters.
 const FEW_VERTICES: usize = 16;
@@ -29,7 +30,7 @@ impl Drawn {
     }
 
     fn count_remappings(&mut self, program: &Program, draft: &Draft) {
-        let is_remap = |byte: &&u8| **byte >= remap(0);
+        let is_remap = |byte: &&u8| Action::is_remap(**byte);
         let labels = || draft.rows.iter().flatten().filter(is_remap);
         let two = |row: &Vec<u8>| row.iter().filter(is_remap).count() > 1;
         self.one(
@@ -47,6 +48,8 @@ impl Drawn {
         });
         let some = unreached.next().is_some();
         self.one("  a directive that no path gets to", some);
+        let mut bytes = draft.rows.iter().flatten();
+        self.one("  with a kill", bytes.any(|&byte| byte == KILL));
     }
 
     fn count_what_matters(&mut self, program: &Program, draft: &Draft) {
@@ -77,11 +80,11 @@ impl Drawn {
         if let Ok(program) = file::parse(file)
             && answer.number == 0
         {
-            let mut records = report[6 * program.arrays.len()..].chunks_exact(10);
-            self.one(
-                "  a reference in another version than 0",
-                records.any(|record| record[3] > 0),
-            );
+            let records = || report[6 * program.arrays.len()..].chunks_exact(10);
+            let other = records().any(|record| record[3] > 0);
+            self.one("  a reference in another version than 0", other);
+            let kill = records().any(|record| record[4] == 4);
+            self.one("  a kill in the report", kill);
         }
     }
 }

@@ -9,6 +9,7 @@ use oracle::directives::convert::convert;
 use oracle::directives::meaning::State;
 use oracle::directives::{Alignment, Dimension, Mapping, Program, Statement, file, sets, states};
 use oracle::outcome::Outcome;
+use oracle::routine::Action;
 
 /// So many states are followed by a faulty converter.
 const MOST: usize = 1000;
@@ -188,7 +189,7 @@ fn versions_by_path() {
                 let mut order = vec![remap(0)];
                 for &vertex in &met {
                     let byte = draft.rows[vertex][array];
-                    if byte >= remap(0) && !order.contains(&byte) {
+                    if Action::is_remap(byte) && !order.contains(&byte) {
                         order.push(byte);
                     }
                 }
@@ -362,7 +363,10 @@ fn no_remapping_to_the_same() {
             for array in 0..draft.arrays.len() {
                 if draft.arrays[array][1] == 1 {
                     for row in &mut draft.rows {
-                        row[array] = row[array].min(0x3f) & 0x30;
+                        row[array] = match Action::is_remap(row[array]) {
+                            true => 0,
+                            false => row[array],
+                        };
                     }
                 }
             }
@@ -608,7 +612,7 @@ fn malformed_and_accepted() {
     }
     fn reference_beside(directives: &[u8], out: &mut [u8]) -> Outcome {
         cleared(directives, out, |file, at| {
-            at > 60 && [0x10, 0x20, 0x30].contains(&file[at])
+            at > 60 && Action::is_reference(file[at])
         })
     }
     fn edge_twice(directives: &[u8], out: &mut [u8]) -> Outcome {

@@ -335,7 +335,6 @@ fn unknown_bytes_taken_for_calls() {
     }
     for faulty in [
         faulty::<0x50, 0x5f>,
-        faulty::<0x80, 0x80>,
         faulty::<0x81, 0x9f>,
         faulty::<0xe0, 0xff>,
     ] {
@@ -353,7 +352,7 @@ fn a_call_mixed_with_others() {
             let mut draft = Draft::from_bytes(file).unwrap();
             let index = answer.first as usize - 18 - 4 * draft.arrays.len();
             let row = &mut draft.rows[index / draft.arrays.len()];
-            let with_reference = row.iter().any(|&byte| (0x10..0x40).contains(&byte));
+            let with_reference = row.iter().any(|&byte| Action::is_reference(byte));
             if is_call(row) && with_reference == REFERENCE {
                 row.fill(READ);
                 return plan::plan(&draft.bytes(), out);

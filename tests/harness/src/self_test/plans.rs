@@ -33,7 +33,7 @@ fn old_value_read(routine: &Routine, array: usize, vertex: usize, seen: &mut Vec
             match routine.event(next, array) {
                 Event::Reference(Reference::Read | Reference::Modify) => true,
                 Event::Nothing => old_value_read(routine, array, next, seen),
-                Event::Reference(Reference::Define) | Event::Label(_) | Event::Call(_) => false,
+                Event::Reference(_) | Event::Label(_) | Event::Call(_) => false,
             }
         })
 }
@@ -236,7 +236,7 @@ fn row_of(draft: &Draft, place: u64) -> (usize, usize) {
 /// References, remappings, calls.
 fn family(byte: u8) -> u8 {
     match byte {
-        0..0x40 => 1,
+        0..0x40 | 0x80 => 1,
         0x40..0x60 => 2,
         _ => 3,
     }
@@ -451,8 +451,8 @@ fn the_last_array_of_20() {
             let routine = Routine::parse(file).unwrap();
             let is_changed = |array: &usize| {
                 let changes = match routine.event(answer.first as usize, *array) {
-                    Event::Reference(reference) => reference != Reference::Read,
-                    Event::Call(call) => call.intent != Reference::Read,
+                    Event::Reference(reference) => reference.changes(),
+                    Event::Call(call) => call.intent.reference().changes(),
                     _ => false,
                 };
                 routine.array(*array).kind == Kind::In && changes

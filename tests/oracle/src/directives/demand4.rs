@@ -3,6 +3,7 @@
 
 use super::meaning::State;
 use super::{Mapping, Program, Statement};
+use crate::builder::REFERENCES;
 use crate::run;
 
 /// The bytes of a report for an array, and for a reference.
@@ -17,7 +18,11 @@ fn told(report: &[u8], arrays: usize) -> impl Iterator<Item = (Found, u8)> {
     let records = report[HEAD * arrays..].chunks_exact(RECORD);
     records.map(|record| {
         let step = usize::from(u16::from_le_bytes([record[0], record[1]]));
-        ((step, record[2].into(), record[4] << 4), record[3])
+        let byte = match record[4] {
+            kind @ 1..=4 => REFERENCES[usize::from(kind) - 1],
+            _ => 0,
+        };
+        ((step, record[2].into(), byte), record[3])
     })
 }
 

@@ -6,7 +6,7 @@
 //! spread, the fields of one are there all the same and 0.
 
 use super::{Alignment, Array, Dimension, Mapping, Program, Statement};
-use crate::builder::{DEFINE, MODIFY, READ};
+use crate::builder::REFERENCES;
 use crate::outcome::Refusal;
 use crate::routine::{MAX_ARRAYS, MAX_EDGES, MAX_VERTICES};
 use std::ops::RangeInclusive;
@@ -126,7 +126,7 @@ impl Reader<'_> {
         let mapping = self.mapping(redistributes)?;
         let mut row = Vec::new();
         for _ in 0..arrays {
-            let refers = |byte: usize| [READ, DEFINE, MODIFY].contains(&(byte as u8));
+            let refers = |byte: usize| REFERENCES.contains(&(byte as u8));
             let may_refer = directive == 0 && !terminal;
             row.push(self.byte(|byte| byte == 0 || may_refer && refers(byte))? as u8);
         }

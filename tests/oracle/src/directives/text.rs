@@ -16,12 +16,17 @@
 //! follow the arrow, rising.
 
 use super::{Alignment, Array, Dimension, Mapping, Program, Statement};
-use crate::builder::{DEFINE, IN, INOUT, LOCAL, MODIFY, OUT, READ};
+use crate::builder::{DEFINE, IN, INOUT, KILL, LOCAL, MODIFY, OUT, READ};
 use std::fmt;
 
 const KINDS: [(&str, u8); 4] = [("local", LOCAL), ("in", IN), ("out", OUT), ("inout", INOUT)];
 
-const REFERENCES: [(&str, u8); 3] = [("read", READ), ("define", DEFINE), ("modify", MODIFY)];
+const REFERENCES: [(&str, u8); 4] = [
+    ("read", READ),
+    ("define", DEFINE),
+    ("modify", MODIFY),
+    ("kill", KILL),
+];
 
 fn named<T: Copy>(names: &[(&str, T)], word: &str) -> Option<T> {
     let found = names.iter().find(|(name, _)| *name == word);

@@ -3,7 +3,8 @@
 use super::rng::Rng;
 use super::routines::{self, INTENTS, Size};
 use crate::builder::{
-    DEFINE, Draft, IN, INOUT, LOCAL, MODIFY, READ, call_in, call_inout, call_out, remap,
+    DEFINE, Draft, IN, INOUT, KILL, LOCAL, MODIFY, READ, REFERENCES, call_in, call_inout, call_out,
+    remap,
 };
 use crate::calls::is_call;
 use crate::labels::fixpoint;
@@ -13,8 +14,8 @@ use crate::routine::{HEAD, MAX_VERSIONS, MAX_VERTICES, Routine};
 pub const FILE_REFUSALS: [u64; 13] = [10, 11, 12, 13, 14, 15, 16, 17, 18, 19, 20, 22, 21];
 
 /// Action bytes that stand for nothing, about those that do.
-const UNKNOWN: [u8; 12] = [
-    0x01, 0x0f, 0x11, 0x3f, 0x50, 0x5f, 0x80, 0x81, 0x9f, 0xe0, 0xef, 0xff,
+const UNKNOWN: [u8; 13] = [
+    0x01, 0x0f, 0x11, 0x3f, 0x50, 0x5f, 0x81, 0x88, 0x90, 0x9f, 0xe0, 0xef, 0xff,
 ];
 
 /// The versions that a call's byte has room for.
@@ -140,7 +141,8 @@ fn damage_action(rng: &mut Rng, draft: &mut Draft, number: u64) {
         18 => {
             let version = rng.below(usize::from(versions)) as u8;
             let call = rng.pick(&INTENTS)(version);
-            let action = rng.pick(&[READ, DEFINE, MODIFY, remap(version), call, call]);
+            let reference = rng.pick(&REFERENCES);
+            let action = rng.pick(&[reference, reference, remap(version), call]);
             draft.rows[rng.pick(&[0, exit])][array] = action;
         }
         _ => {
@@ -158,6 +160,10 @@ fn damage_action(rng: &mut Rng, draft: &mut Draft, number: u64) {
                 [call_out(0), READ],
                 [remap(0), call_inout(0)],
                 [call_in(0), remap(0)],
+                [KILL, remap(0)],
+                [remap(0), KILL],
+                [KILL, call_out(0)],
+                [call_in(0), KILL],
             ]);
             row[array] = pair[0];
             *row.last_mut().expect("there is an array") = pair[1];
@@ -179,7 +185,7 @@ pub fn all_of_two_rows() -> impl Iterator<Item = Vec<u8>> {
         call_in(1),
         call_out(0),
         call_inout(31),
-        0x80,
+        KILL,
         0xff,
     ];
     (0..3 * 11usize.pow(4)).map(|index| {
@@ -212,8 +218,8 @@ fn damage_edge(rng: &mut Rng, draft: &mut Draft) {
     }
 }
 
-/// A define or modify of an in argument, or a call that passes one as out or inout, often of several
-/// in one row, beside references or calls that are allowed.
+/// A define, modify or kill of an in argument, or a call that passes one as out or inout, often of
+/// several in one row, beside references or calls that are allowed.
 fn change_in_argument(rng: &mut Rng, draft: &mut Draft) {
     let always = rng.below(draft.arrays.len());
     for (array, record) in draft.arrays.iter_mut().enumerate() {
@@ -226,14 +232,16 @@ fn change_in_argument(rng: &mut Rng, draft: &mut Draft) {
         let calls = rng.chance(50);
         for (array, action) in draft.rows[vertex].iter_mut().enumerate() {
             let version = rng.below(usize::from(draft.arrays[array][1]));
-            let [read, define, modify] = match calls {
-                true => INTENTS.map(|intent| intent(version as u8)),
-                false => [READ, DEFINE, MODIFY],
+            let all = match calls {
+                true => &INTENTS.map(|intent| intent(version as u8))[..],
+                false => &REFERENCES,
             };
             *action = if array == always {
-                rng.pick(&[define, modify])
+                rng.pick(&all[1..])
+            } else if rng.chance(25) {
+                0
             } else {
-                rng.pick(&[0, read, define, modify])
+                rng.pick(all)
             };
         }
     }

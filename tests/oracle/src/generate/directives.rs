@@ -5,7 +5,7 @@ pub mod limits;
 
 use super::rng::Rng;
 use super::routines;
-use crate::builder::{DEFINE, IN, INOUT, LOCAL, MODIFY, READ};
+use crate::builder::{DEFINE, IN, INOUT, KILL, LOCAL, MODIFY, READ};
 use crate::directives::convert::convert;
 use crate::directives::figures::{FIGURE_5, FIGURE_21, Figure};
 use crate::directives::file::MAX_TEMPLATES;
@@ -98,7 +98,7 @@ fn references(rng: &mut Rng, arrays: &[Array]) -> Statement {
         } else if record.kind == IN && !rng.chance(1) {
             READ
         } else {
-            rng.pick(&[READ, READ, DEFINE, DEFINE, MODIFY])
+            routines::any_reference(rng)
         }
     });
     Statement::References(row.collect())
@@ -274,7 +274,7 @@ array B inout with U exchanged
 1 define A read B -> 2 3
 2 realign B with T exchanged -> 4
 3 redistribute U (block,cyclic(256)) -> 5
-4 modify A -> 5
+4 modify A kill B -> 5
 5
 ",
 };
@@ -382,7 +382,7 @@ fn add_references(rng: &mut Rng, program: &mut Program) {
             && rng.chance(50)
         {
             let array = rng.below(row.len());
-            row[array] = rng.pick(&[READ, READ, READ, DEFINE, MODIFY]);
+            row[array] = rng.pick(&[READ, READ, READ, DEFINE, MODIFY, KILL]);
         }
     }
 }

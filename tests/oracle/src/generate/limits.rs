@@ -2,7 +2,9 @@
 
 use super::rng::Rng;
 use super::routines::{self, Size};
-use crate::builder::{DEFINE, Draft, IN, INOUT, LOCAL, MODIFY, READ, call_in, remap};
+use crate::builder::{
+    DEFINE, Draft, IN, INOUT, KILL, LOCAL, MODIFY, READ, REFERENCES, call_in, remap,
+};
 use crate::routine::{
     MAX_ARRAYS, MAX_CALLS, MAX_EDGES, MAX_EXPANDED_EDGES, MAX_VERSIONS, MAX_VERTICES,
 };
@@ -40,6 +42,11 @@ pub fn largest_plan() -> Draft {
 /// Every inner vertex references all arrays: with the longest path the largest report.
 pub fn largest_report() -> Draft {
     full(|vertex, array| [READ, DEFINE, MODIFY][(vertex + array) % 3])
+}
+
+/// The same with kills, which other references follow and come before.
+pub fn largest_with_kills() -> Draft {
+    full(|vertex, array| REFERENCES[(vertex + array) % REFERENCES.len()])
 }
 
 /// The longest path through `largest_report`.
@@ -180,7 +187,7 @@ fn rows_of_calls(rng: &mut Rng, vertices: usize, calls: usize) -> Draft {
         } else {
             let references = arrays.iter().map(|&[kind, ..]| match kind {
                 IN => READ,
-                _ => rng.pick(&[0, READ, DEFINE, MODIFY]),
+                _ => rng.pick(&[0, READ, DEFINE, MODIFY, KILL]),
             });
             *row = references.collect();
         }
@@ -281,6 +288,7 @@ pub fn at_limits(rng: &mut Rng) -> Vec<Draft> {
         Draft::one_array(INOUT, 16, 15, &[], &[(0, 1)]),
         largest_plan(),
         largest_report(),
+        largest_with_kills(),
         chain_from_entry(),
         chain_both_ways(),
         ring_of_labels(),

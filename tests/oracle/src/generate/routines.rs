@@ -2,7 +2,7 @@
 
 use super::rng::Rng;
 use crate::builder::{
-    DEFINE, Draft, IN, INOUT, LOCAL, MODIFY, READ, call_in, call_inout, call_out, remap,
+    DEFINE, Draft, IN, INOUT, KILL, LOCAL, MODIFY, READ, call_in, call_inout, call_out, remap,
 };
 use crate::calls::is_call;
 use crate::labels::fixpoint;
@@ -64,6 +64,11 @@ pub fn arrays(rng: &mut Rng, size: Size) -> Vec<[u8; 4]> {
         .collect()
 }
 
+/// A reference: reads and defines twice as often as modifies and kills.
+pub fn any_reference(rng: &mut Rng) -> u8 {
+    rng.pick(&[READ, READ, DEFINE, DEFINE, MODIFY, KILL])
+}
+
 /// The bytes that pass an array with each intent.
 pub const INTENTS: [fn(u8) -> u8; 3] = [call_in, call_out, call_inout];
 
@@ -104,7 +109,7 @@ pub fn row(rng: &mut Rng, arrays: &[[u8; 4]], calls: usize) -> Vec<u8> {
             } else if kind == IN && !rng.chance(1) {
                 READ
             } else {
-                rng.pick(&[READ, READ, DEFINE, DEFINE, MODIFY])
+                any_reference(rng)
             };
         }
     }
@@ -379,11 +384,12 @@ pub fn read_only(rng: &mut Rng, size: Size) -> Draft {
 /// Every routine of one array with two versions, initial 0, and four vertices. With calls, which
 /// pass the array in version 1, it is local or inout.
 pub fn all_of_four_vertices() -> impl Iterator<Item = Draft> {
-    const ACTIONS: [u8; 9] = [
+    const ACTIONS: [u8; 10] = [
         0,
         READ,
         DEFINE,
         MODIFY,
+        KILL,
         remap(0),
         remap(1),
         call_in(1),
@@ -394,10 +400,10 @@ pub fn all_of_four_vertices() -> impl Iterator<Item = Draft> {
         .flat_map(|from| (1..4).map(move |to| (from, to)))
         .collect();
     let edge_sets = 1 << all_edges.len();
-    (0..4 * 9 * 9 * edge_sets).filter_map(move |index: usize| {
+    (0..4 * 10 * 10 * edge_sets).filter_map(move |index: usize| {
         let (chosen, rest) = (index % edge_sets, index / edge_sets);
-        let actions = [ACTIONS[rest % 9], ACTIONS[rest / 9 % 9]];
-        let kind = (rest / 81) as u8;
+        let actions = [ACTIONS[rest % 10], ACTIONS[rest / 10 % 10]];
+        let kind = (rest / 100) as u8;
         if is_call(&actions) && kind != LOCAL && kind != INOUT {
             return None;
         }

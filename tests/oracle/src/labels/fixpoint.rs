@@ -188,7 +188,7 @@ struct Row {
     labels: Arrays,
     /// References, and what is passed to a call.
     references: Arrays,
-    /// Defines and modifies, and what is passed as out or inout.
+    /// All references but reads, and what is passed as out or inout.
     changes: Arrays,
     /// Kept labels.
     kept: Arrays,
@@ -216,11 +216,12 @@ impl Row {
     };
 
     /// The row of up to eight action bytes, none of which is a call: reads and modifies have bit
-    /// 4, defines and modifies bit 5, remappings bit 6.
+    /// 4, defines and modifies bit 5, remappings bit 6, kills, which are defines too, bit 7.
     #[inline(always)]
     fn of_actions(bytes: &[u8]) -> Row {
         let word = word(bytes);
-        let (sees, changes, labels) = (gather(word, 4), gather(word, 5), gather(word, 6));
+        let (sees, labels) = (gather(word, 4), gather(word, 6));
+        let changes = gather(word | word >> 2, 5);
         let mut version = 0;
         for array in members(labels) {
             version |= only(array, 1 << (bytes[array] & 15));
@@ -236,12 +237,12 @@ impl Row {
         }
     }
 
-    /// The row of up to eight action bytes of a file. Calls with intent in have bits 5 and 6, the
-    /// others bit 7; one of 5 and 6 they have too.
+    /// The row of up to eight action bytes of a file. Calls have two of the bits 5, 6 and 7, those
+    /// with intent out and inout bit 7; nothing else has two.
     fn of_file(bytes: &[u8]) -> Row {
         let word = word(bytes);
         let (low, high, change) = (gather(word, 5), gather(word, 6), gather(word, 7));
-        if low & high == 0 && change == 0 {
+        if low & high | change & (low | high) == 0 {
             return Row::of_actions(bytes);
         }
         Row {

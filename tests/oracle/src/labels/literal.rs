@@ -9,6 +9,9 @@ use crate::calls::{self, Room};
 use crate::outcome::Refusal;
 use crate::routine::{Array, Event, Kind, Reference, Routine};
 
+/// A kill is a define in every rule.
+const DEFINES: [Reference; 2] = [Reference::Define, Reference::Kill];
+
 /// One array in its graph.
 struct View {
     array: Array,
@@ -77,7 +80,7 @@ impl View {
                 self.is(vertex, &[Reference::Read, Reference::Modify]) || self.is_label(vertex);
             let defined = segment[..index]
                 .iter()
-                .any(|&earlier| self.is(earlier, &[Reference::Define]));
+                .any(|&earlier| self.is(earlier, &DEFINES));
             met && !defined
         })
     }
@@ -93,13 +96,13 @@ impl View {
                 .iter()
                 .any(|segment| segment.iter().any(|&vertex| self.is(vertex, references)))
         };
-        if !some_meets(&[Reference::Read, Reference::Define, Reference::Modify]) {
+        let read = some_meets(&[Reference::Read]);
+        let change = some_meets(&DEFINES) || some_meets(&[Reference::Modify]);
+        if !read && !change {
             Use::N
         } else if !segments.iter().any(|segment| self.needs_old_value(segment)) {
             Use::D
-        } else if some_meets(&[Reference::Read])
-            && !some_meets(&[Reference::Define, Reference::Modify])
-        {
+        } else if read && !change {
             Use::R
         } else {
             Use::W

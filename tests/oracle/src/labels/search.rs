@@ -63,9 +63,9 @@ impl View<'_> {
                     Event::Reference(reference) => {
                         met.reference = true;
                         met.read |= reference == Reference::Read;
-                        met.change |= reference != Reference::Read;
-                        met.old_value |= reference != Reference::Define && defined == 0;
-                        if reference == Reference::Define {
+                        met.change |= reference.changes();
+                        met.old_value |= !reference.is_define() && defined == 0;
+                        if reference.is_define() {
                             defined_after = 1;
                         }
                     }

@@ -1,13 +1,15 @@
 //! Directive files with one field that is wrong, each with the place that 40 has to give.
 
-use crate::builder::READ;
+use crate::builder::{KILL, READ};
 use crate::directives::file::{ARRAY, EDGE, HEAD, MAX_TEMPLATES, TEMPLATE, VERTEX};
 use crate::directives::{Dimension, Mapping, Program, Statement};
 use crate::generate::rng::Rng;
 use crate::routine::{MAX_ARRAYS, MAX_EDGES, MAX_VERTICES};
 
-/// Bytes that are no reference: one unknown, remaps, calls, a kill.
-const NO_REFERENCES: [u8; 9] = [0x01, 0x0f, 0x11, 0x3f, 0x40, 0x60, 0x80, 0xc0, 0xff];
+/// Bytes that are no reference: unknown ones about references, remaps, calls.
+const NO_REFERENCES: [u8; 12] = [
+    0x01, 0x0f, 0x11, 0x3f, 0x40, 0x50, 0x60, 0x7f, 0x81, 0x90, 0xc0, 0xff,
+];
 
 /// A fault: bytes that are written over a file that is right, and the field that is then wrong.
 #[derive(Clone, Debug)]
@@ -153,7 +155,7 @@ impl Faults {
 
     fn no_references(&mut self, at: usize, arrays: usize) {
         for place in at..at + arrays {
-            self.byte(place, &[READ, 0x01, 0x40]);
+            self.byte(place, &[READ, KILL, 0x01, 0x40]);
         }
     }
 

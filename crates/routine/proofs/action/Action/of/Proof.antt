@@ -24,7 +24,7 @@ returns-4 c = sym (ap actionOf (c .match .keys4))
 
 returns-5 : tie.Need-returns-5
 unfolding actionOf
-returns-5 c = search tests
+returns-5 c = sym (ap actionOf (c .match .keys5))
 
 returns-6 : tie.Need-returns-6
 unfolding actionOf
@@ -34,5 +34,9 @@ returns-7 : tie.Need-returns-7
 unfolding actionOf
 returns-7 c = search tests
 
+returns-8 : tie.Need-returns-8
+unfolding actionOf
+returns-8 c = search tests
+
 pub of-spec : {M : Type 1} → statement M
-of-spec = tie.close (tie.spec returns returns-2 returns-3 returns-4 returns-5 returns-6 returns-7)
+of-spec = tie.close (tie.spec returns returns-2 returns-3 returns-4 returns-5 returns-6 returns-7 returns-8)
