@@ -2,12 +2,12 @@
  * a routine of directives, hpf_rounds tells what planning took.
  *
  * Memory    A call reads the bytes and writes the buffer that its caller lends. It keeps no state and takes no heap,
- *           and less than 48 KiB of stack. Any number of threads may call at once, each with a buffer of its own.
+ *           and at most 65 KiB of stack. Any number of threads may call at once, each with a buffer of its own.
  *           Every call ends.
  * Pointers  Each points to as many bytes as the length beside it says; where that is 0 it may be null. The buffer
  *           must overlap nothing that the call reads; a routine and a path may overlap.
- * Numbers   In all formats 16-bit numbers are unsigned, low byte first. Bytes, arrays, versions, vertices and
- *           indices count from 0, the steps of a path from 1. A set of versions has 16 bits, bit k for version k.
+ * Numbers   In all formats numbers of several bytes are unsigned, low byte first. Bytes, arrays, versions, vertices and
+ *           indices count from 0, the steps of a path from 1. A set of versions has 32 bits, bit k for version k.
  * Linking   C and C++ programs link libremap.a, which is for x86-64 Linux and needs at most memcpy and memset.
  *
  * What a call answers, P hpf_plan, R hpf_run, C hpf_convert, N hpf_rounds; a number with two reasons has a line for
@@ -28,7 +28,7 @@
  *     12    P R N     a count is outside its limits                           its first byte: 8, 12, 16   0
  *     13    P R N     an offset is wrong                                      its first byte: 6, 10, 14   0
  *                     the file does not end with its last edge                18                          0
- *     14    P R N     array: kind above 3, versions not 1 to 16, initial      the byte                    0
+ *     14    P R N     array: kind above 3, versions not 1 to 32, initial      the byte                    0
  *                     version not below them, or last byte not zero
  *     15    P R N     action: unknown                                         the byte                    0
  *     16    P R N     edge: an end not below the vertex count, into the       its first byte              0
@@ -45,7 +45,7 @@
  *                     passed as out or inout
  *     21    P R C N   a reference or a call is ambiguous: two paths from      vertex                      array
  *                     the entry bring different versions to it
- *     41    C         an array has more than 16 mappings: that with which     array                       0
+ *     41    C         an array has more than 32 mappings: that with which     array                       0
  *                     it starts, and all that a directive can give it on
  *                     some path from the entry
  *     42    C         a directive can leave an array that it remaps in two    vertex                      array
@@ -87,8 +87,8 @@ typedef struct {
  * shorter: with an empty buffer (null, 0) hpf_run answers 2 and the length needed, as the other calls answer 1. */
 #define HPF_LARGEST_DIRECTIVES 9334 /* 22 + 8 * 8 + 4 * 8 + 256 * (12 + 8) + 4 * 1024 */
 #define HPF_LARGEST_ROUTINE 6194    /* 18 + 4 * 8 + 256 * 8 + 4 * 1024 */
-#define HPF_LARGEST_PLAN 17416      /* 8 + 4 * 256 + 8 * 256 * 8 */
-#define HPF_LARGEST_REPORT 327648   /* 6 * 8 + 10 * 4095 * 8: at the entry stands no reference */
+#define HPF_LARGEST_PLAN 25608      /* 8 + 4 * 256 + 12 * 256 * 8 */
+#define HPF_LARGEST_REPORT 327664   /* 8 * 8 + 10 * 4095 * 8: at the entry stands no reference */
 #define HPF_LARGEST_ROUNDS 12       /* 2 * 6 */
 #define HPF_LONGEST_PATH 4096
 
@@ -102,13 +102,13 @@ typedef struct {
  *   10, 12         2, 2   vertices: offset, 18 + 4A; count V, 2 to 256
  *   14, 16         2, 2   edges: offset, 18 + 4A + VA; count E, 0 to 1,024
  *   18             4A     for each array: kind (0 local, 1 in, 2 out, 3 inout; the last three are arguments),
- *                         number of versions (1 to 16), initial version (below that number), zero
+ *                         number of versions (1 to 32), initial version (below that number), zero
  *   18 + 4A        VA     for each vertex an action for each array: hexadecimal 00 nothing; 10 read, 20 define (all
  *                         of it rewritten, nothing read), 30 modify (old value needed) and 80 kill (its value is
- *                         dead), which are references; 40+k (k below 16) remap to version k; 60+k, A0+k, C0+k (k
- *                         below 32) a call of another routine, which gets the array in version k with intent in, out
- *                         or inout. A vertex has references, remappings or calls, never two of these sorts. Vertex 0
- *                         is the entry, the last is the exit; their actions are all 00
+ *                         dead), which are references; with k below 32, 40+k remap to version k; 60+k, A0+k, C0+k a
+ *                         call of another routine, which gets the array in version k with intent in, out or inout. A
+ *                         vertex has references, remappings or calls, never two of these sorts. Vertex 0 is the
+ *                         entry, the last is the exit; their actions are all 00
  *   18 + 4A + VA   4E     for each edge: from (2), to (2), below V. Edges strictly rise by from, then to; none enters
  *                         the entry, none leaves the exit. With the last the file ends
  *
@@ -133,14 +133,14 @@ typedef struct {
  *
  *   plan           bytes  of the expanded routine, V vertices and L labels
  *   -------------  -----  ----------------------------------------------------------------------------------------
- *   0              4      `HPFP`
+ *   0              4      `HPF2`
  *   4, 6           2, 2   V, L
  *   8              4V     for each vertex: index of its first label (2), how many it has (2); a vertex without labels
  *                         gives the index that its first would have had
- *   8 + 4V         8L     for each label, by vertex, then array:
+ *   8 + 4V         12L    for each label, by vertex, then array:
  *     + 0, 1              array; use: one of the letters N, D, R, W
  *     + 2, 3              leaving version, 255 for none; zero
- *     + 4, 6       2, 2   reaching set; kept set
+ *     + 4, 8       4, 4   reaching set; kept set
  *
  * A label is a remapping of the expanded routine: each action 40+k there, and one to the initial version of every array
  * at the entry and of every out and inout argument at the exit. Its segments are the paths from it that go no further
@@ -177,26 +177,26 @@ hpf_outcome hpf_plan(const uint8_t *routine, size_t routine_len, uint8_t *plan, 
  * Routine Q, for example: one inout argument, 2 versions, initial 0; vertices 1 remap 1, 2 define, 3 remap 0, 4 read,
  * 5 exit; edges 0-1, 1-2, 1-3, 2-3, 3-4, 4-5. Its labels:
  *
- *   vertex  use  leave  reach  keep
- *   0       N    -      0001   0002
- *   1       W    1      0001   0002   not D: along 1-3 nothing is defined
- *   3       R    0      0002   0001
- *   5       W    0      0001   0001
+ *   vertex  use  leave  reach     keep
+ *   0       N    -      00000001  00000002
+ *   1       W    1      00000001  00000002   not D: along 1-3 nothing is defined
+ *   3       R    0      00000002  00000001
+ *   5       W    0      00000001  00000001
  *
  * Two paths, 0 1 3 4 and 0 1 2 3 4. Stamps, of version 0 and version 1, tell values as they do in a report (below);
  * that of a version which dies becomes 0, but the caller's copy keeps its own.
  *
- *   step  vertex  what is done                 current  live  stamps         copies
- *                 at the start                 0        0001  65535  0       0
- *   1     0       N; 0 is current, and stays   0        0001  65535  0       0
- *   2     1       0 copied to 1; 0 is dead     1        0002  65535  65535   1
- *   3     3       1 copied to 0; 1 is dead     0        0001  65535  0       2
- *   4     4       read of 0 sees 65535         0        0001  65535  0       2
+ *   step  vertex  what is done                 current  live      stamps         copies
+ *                 at the start                 0        00000001  65535  0       0
+ *   1     0       N; 0 is current, and stays   0        00000001  65535  0       0
+ *   2     1       0 copied to 1; 0 is dead     1        00000002  65535  65535   1
+ *   3     3       1 copied to 0; 1 is dead     0        00000001  65535  0       2
+ *   4     4       read of 0 sees 65535         0        00000001  65535  0       2
  *
  *   1, 2  0, 1    as above
- *   3     2       define of 1 gives 3          1        0002  65535  3       1
- *   4     3       1 copied to 0; 1 is dead     0        0001  3      0       2
- *   5     4       read of 0 sees 3             0        0001  3      0       2
+ *   3     2       define of 1 gives 3          1        00000002  65535  3       1
+ *   4     3       1 copied to 0; 1 is dead     0        00000001  3      0       2
+ *   5     4       read of 0 sees 3             0        00000001  3      0       2
  *
  * Had 0 stayed live at vertex 1, nothing would have been copied at 3, and the last read would have seen 65535.
  */
@@ -211,12 +211,12 @@ hpf_outcome hpf_plan(const uint8_t *routine, size_t routine_len, uint8_t *plan, 
  * path_len counts bytes, as every length here does: two for each vertex. A caller who hands over the number of vertices
  * has half the path run, and is answered 0.
  *
- *   report         bytes  of A arrays and N references, N = (length - 6A) / 10
+ *   report         bytes  of A arrays and N references, N = (length - 8A) / 10
  *   -------------  -----  ----------------------------------------------------------------------------------------
- *   0              6A     for each array, after the last step:
- *     + 0, 2       2, 2   copies made; set of live versions
- *     + 4, 5              current version, 255 for none; zero
- *   6A             10N    for each reference on the path, by step, then array:
+ *   0              8A     for each array, after the last step:
+ *     + 0, 2       2, 4   copies made; set of live versions
+ *     + 6, 7              current version, 255 for none; zero
+ *   8A             10N    for each reference on the path, by step, then array:
  *     + 0          2      step; the entry is step 1
  *     + 2, 3              array; version that is used
  *     + 4, 5              kind: 1 read, 2 define, 3 modify, 4 kill; zero

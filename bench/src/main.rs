@@ -1,7 +1,8 @@
 //! Times of the verified library and of the oracle on the same inputs, in one process: medians
 //! of repeated batches, taken in turn: plans, runs and conversions of directive files. For a plan
-//! also the rounds over the edges that the library's passes take. Then times of the library on routines with calls and on the same
-//! routines written out without calls.
+//! also the rounds over the edges that the library's passes take. Arrays have up to 16 versions where
+//! a line does not say 32. Then times of the library on routines with calls and on the same routines
+//! written out without calls.
 
 use std::collections::{BTreeSet, HashSet};
 use std::hint::black_box;
@@ -9,14 +10,16 @@ use std::time::{Duration, Instant};
 
 use compare::VERIFIED;
 use harness::library::{Input, Library, ORACLE};
-use oracle::builder::{self, DEFINE, Draft, LOCAL, MODIFY, READ, call_in, call_inout, call_out};
+use oracle::builder::{
+    self, DEFINE, Draft, LOCAL, MODIFY, READ, call_in, call_inout, call_out, remap,
+};
 use oracle::directives::Program;
 use oracle::directives::figures::FIGURE_10;
 use oracle::generate::rng::Rng;
 use oracle::generate::routines::{self, Size};
 use oracle::generate::{directives, limits, paths};
 use oracle::rounds::LONGEST_ROUNDS;
-use oracle::routine::MAX_VERTICES;
+use oracle::routine::{Action, MAX_VERSIONS, MAX_VERTICES};
 use oracle::run::{LONGEST_REPORT, MAX_PATH};
 
 const SEED: u64 = 1;
@@ -31,10 +34,30 @@ fn acceptable(draw: impl Fn(&mut Rng) -> Draft) -> Vec<u8> {
     draft.bytes()
 }
 
-/// A structured program of eight arrays: the first one drawn that has so many vertices.
-fn structured(rng: &mut Rng, vertices: usize) -> Draft {
+/// The versions of arrays where a line does not say more.
+const VERSIONS: usize = 16;
+
+/// The same routine with arrays of 16 versions: 16 to 31 become 0 to 15.
+fn of_16_versions(mut draft: Draft) -> Draft {
+    for record in &mut draft.arrays {
+        *record = [record[0], record[1].min(16), record[2] % 16, 0];
+    }
+    let bytes = draft.rows.iter_mut().flatten();
+    for byte in bytes.filter(|byte| Action::is_remap(**byte)) {
+        *byte = remap((*byte - remap(0)) % 16);
+    }
+    draft
+}
+
+/// A structured program of eight arrays of up to so many versions, at least half of that: the first
+/// one drawn that has so many vertices.
+fn structured(rng: &mut Rng, vertices: usize, versions: usize) -> Draft {
+    let size = Size {
+        versions,
+        ..Size::LARGEST
+    };
     loop {
-        let draft = routines::program(rng, Size::LARGEST);
+        let draft = routines::program(rng, size);
         if draft.rows.len() == vertices {
             return draft;
         }
@@ -135,7 +158,7 @@ fn convert(name: &'static str, program: &Program) -> Line {
 /// Drawn directives and references on a structured graph, with what is refused taken out.
 fn structured_directives() -> Program {
     let mut rng = Rng::new(SEED);
-    let graph = structured(&mut rng, MAX_VERTICES);
+    let graph = structured(&mut rng, MAX_VERTICES, VERSIONS);
     let size = directives::Size::LARGEST;
     let mut program = directives::on_graph(&mut rng, size, MAX_VERTICES, graph.edges);
     directives::make_acceptable(&mut rng, &mut program);
@@ -150,7 +173,10 @@ fn conversions() -> Vec<Line> {
             "convert, structured, 256 vertices",
             &structured_directives(),
         ),
-        convert("convert, largest", &directives::limits::largest()),
+        convert(
+            "convert, largest",
+            &directives::limits::largest_of(VERSIONS),
+        ),
         convert(
             "convert, directives everywhere",
             &directives::limits::directives_everywhere(),
@@ -191,32 +217,59 @@ fn lines() -> Vec<Line> {
         },
         plan(
             "plan, structured, 51 vertices",
-            acceptable(|rng| structured(rng, 51)),
+            acceptable(|rng| structured(rng, 51, VERSIONS)),
         ),
         plan(
             "plan, structured, 256 vertices",
-            acceptable(|rng| structured(rng, MAX_VERTICES)),
+            acceptable(|rng| structured(rng, MAX_VERTICES, VERSIONS)),
         ),
-        plan("plan, 256 vertices, 1,024 edges", acceptable(limits::dense)),
-        plan("plan, backward chain", acceptable(limits::backward_chain)),
-        plan("plan, zigzag chain", acceptable(limits::zigzag_chain)),
+        plan(
+            "plan, 256 vertices, 1,024 edges",
+            acceptable(|rng| limits::dense(rng, VERSIONS)),
+        ),
+        plan(
+            "plan, backward chain",
+            acceptable(|rng| limits::backward_chain(rng, VERSIONS)),
+        ),
+        plan(
+            "plan, zigzag chain",
+            acceptable(|rng| limits::zigzag_chain(rng, VERSIONS)),
+        ),
         plan(
             "plan, chain entered throughout",
-            limits::chain_from_entry().bytes(),
+            of_16_versions(limits::chain_from_entry()).bytes(),
         ),
         plan(
             "plan, chain both ways, 1,013 edges",
-            limits::chain_both_ways().bytes(),
+            of_16_versions(limits::chain_both_ways()).bytes(),
         ),
-        plan("plan, largest", limits::largest_plan().bytes()),
+        plan(
+            "plan, largest",
+            of_16_versions(limits::largest_plan()).bytes(),
+        ),
+        plan(
+            "plan, structured, 32 versions",
+            acceptable(|rng| {
+                let mut draft = structured(rng, MAX_VERTICES, MAX_VERSIONS);
+                for record in &mut draft.arrays {
+                    record[1] = MAX_VERSIONS as u8;
+                }
+                draft
+            }),
+        ),
         run("run, case 2", builder::p(), &[0, 1, 2, 3, 4, 5, 6, 2, 3]),
         run(
             "run, 4,096 vertices, 8 arrays",
-            limits::largest_report(),
+            of_16_versions(limits::largest_report()),
             &limits::longest_path(),
         ),
         run(
             "run, 4,096 vertices, labels alone",
+            of_16_versions(limits::ring_of_labels()),
+            &limits::round_the_ring(),
+        ),
+        run(
+            "run, labels alone, 32 versions",
             limits::ring_of_labels(),
             &limits::round_the_ring(),
         ),

@@ -33,6 +33,8 @@ static const uint8_t with_call[50] = {
 
 static unsigned word(const uint8_t *bytes) { return bytes[0] + 256u * bytes[1]; }
 
+static unsigned set(const uint8_t *bytes) { return word(bytes) + 65536u * word(bytes + 2); }
+
 static void refused(const char *call, hpf_outcome outcome) {
     fprintf(stderr, "%s: %llu %llu %llu\n", call, (unsigned long long)outcome.number, (unsigned long long)outcome.first,
             (unsigned long long)outcome.second);
@@ -45,29 +47,29 @@ static void print_plan(const uint8_t *plan) {
     for (unsigned v = 0; v < vertices; v++) {
         unsigned first = word(plan + 8 + 4 * v), count = word(plan + 10 + 4 * v);
         for (unsigned i = first; i < first + count; i++) {
-            const uint8_t *label = labels + 8 * i;
+            const uint8_t *label = labels + 12 * i;
             if (label[1] == 'N')
                 printf("vertex %u: array %u is not copied\n", v, label[0]);
             else
-                printf("vertex %u: array %u leaves as version %u, use %c, keep %04x\n", v, label[0], label[2], label[1],
-                       word(label + 6));
+                printf("vertex %u: array %u leaves as version %u, use %c, keep %08x\n", v, label[0], label[2], label[1],
+                       set(label + 8));
         }
     }
 }
 
 static void print_array(unsigned array, const uint8_t *entry) {
     unsigned copies = word(entry);
-    printf("array %u: %u %s, live %04x, current ", array, copies, copies == 1 ? "copy" : "copies", word(entry + 2));
-    if (entry[4] == 255)
+    printf("array %u: %u %s, live %08x, current ", array, copies, copies == 1 ? "copy" : "copies", set(entry + 2));
+    if (entry[6] == 255)
         printf("none\n");
     else
-        printf("%u\n", entry[4]);
+        printf("%u\n", entry[6]);
 }
 
 static void print_report(const uint8_t *report, size_t length) {
     unsigned arrays = word(routine + 8);
-    for (unsigned a = 0; a < arrays; a++) print_array(a, report + 6 * a);
-    for (const uint8_t *record = report + 6 * arrays; record < report + length; record += 10)
+    for (unsigned a = 0; a < arrays; a++) print_array(a, report + 8 * a);
+    for (const uint8_t *record = report + 8 * arrays; record < report + length; record += 10)
         printf("step %u: version %u, kind %u, sees %u, gives %u\n", word(record), record[3], record[4],
                word(record + 6), word(record + 8));
 }

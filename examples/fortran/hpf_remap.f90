@@ -10,8 +10,8 @@ module hpf_remap
   ! Sizes in bytes that always suffice, and the most vertices of a path.
   integer, parameter, public :: hpf_largest_directives = 9334
   integer, parameter, public :: hpf_largest_routine = 6194
-  integer, parameter, public :: hpf_largest_plan = 17416
-  integer, parameter, public :: hpf_largest_report = 327648
+  integer, parameter, public :: hpf_largest_plan = 25608
+  integer, parameter, public :: hpf_largest_report = 327664
   integer, parameter, public :: hpf_largest_rounds = 12
   integer, parameter, public :: hpf_longest_path = 4096
 

@@ -96,17 +96,24 @@ contains
     word = byte(bytes, at) + 256 * byte(bytes, at + 1)
   end function word
 
+  ! A set of versions, 32 bits.
+  pure integer function set(bytes, at)
+    integer(c_int8_t), intent(in) :: bytes(:)
+    integer, intent(in) :: at
+    set = ior(word(bytes, at), ishft(word(bytes, at + 2), 16))
+  end function set
+
   subroutine print_plan()
     integer :: v, k, at, vertices
     vertices = word(plan, 5)
     do v = 0, vertices - 1
       do k = word(plan, 9 + 4 * v), word(plan, 9 + 4 * v) + word(plan, 11 + 4 * v) - 1
-        at = 9 + 4 * vertices + 8 * k
+        at = 9 + 4 * vertices + 12 * k
         if (achar(byte(plan, at + 1)) == 'N') then
           print '(a, i0, a, i0, a)', 'vertex ', v, ': array ', byte(plan, at), ' is not copied'
         else
-          print '(a, i0, a, i0, a, i0, 3a, z4.4)', 'vertex ', v, ': array ', byte(plan, at), ' leaves as version ', &
-            byte(plan, at + 2), ', use ', achar(byte(plan, at + 1)), ', keep ', word(plan, at + 6)
+          print '(a, i0, a, i0, a, i0, 3a, z8.8)', 'vertex ', v, ': array ', byte(plan, at), ' leaves as version ', &
+            byte(plan, at + 2), ', use ', achar(byte(plan, at + 1)), ', keep ', set(plan, at + 8)
         end if
       end do
     end do
@@ -118,18 +125,18 @@ contains
     character(4) :: current
     noun = merge('copy  ', 'copies', word(report, at) == 1)
     current = 'none'
-    if (byte(report, at + 4) /= 255) write (current, '(i0)') byte(report, at + 4)
-    print '(a, i0, a, i0, 3a, z4.4, 2a)', 'array ', array, ': ', word(report, at), ' ', trim(noun), ', live ', &
-      word(report, at + 2), ', current ', trim(current)
+    if (byte(report, at + 6) /= 255) write (current, '(i0)') byte(report, at + 6)
+    print '(a, i0, a, i0, 3a, z8.8, 2a)', 'array ', array, ': ', word(report, at), ' ', trim(noun), ', live ', &
+      set(report, at + 2), ', current ', trim(current)
   end subroutine print_array
 
   subroutine print_report()
     integer :: array, arrays, at
     arrays = word(routine, 9)
     do array = 0, arrays - 1
-      call print_array(array, 1 + 6 * array)
+      call print_array(array, 1 + 8 * array)
     end do
-    do at = 1 + 6 * arrays, size(report), 10
+    do at = 1 + 8 * arrays, size(report), 10
       print '(5(a, i0))', 'step ', word(report, at), ': version ', byte(report, at + 3), &
         ', kind ', byte(report, at + 4), ', sees ', word(report, at + 6), ', gives ', word(report, at + 8)
     end do

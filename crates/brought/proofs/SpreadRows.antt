@@ -49,23 +49,23 @@ module _ (file : List ℕ) (t v : ℕ) {given : Bool} (is : given ≡ redistribu
 
 -- ---- what the pass leaves
 
--- the cells of the columns from `first` on
-abbrev pub columnsOf : List ℕ → ℕ → ℕ → ℕ → ℕ → ℕ
-columnsOf file t first c v = getD (spreadColumn file t (first + c)) v 0
+-- the cells of the columns
+abbrev pub columnsOf : List ℕ → ℕ → ℕ → ℕ → ℕ
+columnsOf file t c v = getD (spreadColumn file t c) v 0
 
-pub spreads-solved : (file : List ℕ) {gives passes sets : List ℕ} (t first : ℕ) → Cells 8 (vertices file) (λ c v. spreadGives file t (first + c) v) gives
+pub spreads-solved : (file : List ℕ) {gives passes sets : List ℕ} (t : ℕ) → Cells 8 (vertices file) (spreadGives file t) gives
     → Cells 8 (vertices file) (λ c v. spreadPasses file t v) passes → Pass (edgeBytes file) (vertices file) false gives passes sets
-    → Cells 8 (vertices file) (columnsOf file t first) sets
+    → Cells 8 (vertices file) (columnsOf file t) sets
 unfolding spreadColumn lastColumn spreadGives spreadPasses
-spreads-solved file t first g p h = cells-solved (le-refl 8) (λ c v. spreadGives file t (first + c) v) (λ c v. spreadPasses file t v) g p h
+spreads-solved file t g p h = cells-solved (le-refl 8) (spreadGives file t) (λ c v. spreadPasses file t v) g p h
 
 -- ---- the rows that are copied for template t: those below v have been
 
-pub record Copying (file : List ℕ) (first t : ℕ) (s : List ℕ) (v : ℕ) : Type 0 where
+pub record Copying (file : List ℕ) (t : ℕ) (s : List ℕ) (v : ℕ) : Type 0 where
   pub size : length s ≡ 8 * vertices file
   pub cells :
       (u b c : ℕ) (x : Alignment) → u < vertices file → c < 8 → directive file u ≡ Realign b x → x .template < t + 1 → (x .template ≡ t → u < v)
-      → getD s (8 * u + c) 0 ≡ columnsOf file (x .template) first c u
+      → getD s (8 * u + c) 0 ≡ columnsOf file (x .template) c u
 
 -- a realign with template t is with no other, and what is none with t is with another
 module _ {d : Directive} {b : ℕ} {x : Alignment} (t : ℕ) (is : d ≡ Realign b x) where
@@ -75,8 +75,8 @@ module _ {d : Directive} {b : ℕ} {x : Alignment} (t : ℕ) (is : d ≡ Realign
   other-template : false ≡ realignsWith t d → x .template ≡ t → ⊥
   other-template e q = true≢false (sym (eq-eqb _ _ q) ∙ sym (e ∙ ap (realignsWith t) is))
 
-module _ {file s : List ℕ} {first t : ℕ} where
-  pub copying-begin : SpreadsTo file first t s → Copying file first t s 0
+module _ {file s : List ℕ} {t : ℕ} where
+  pub copying-begin : SpreadsTo file t s → Copying file t s 0
   copying-begin h = record {
     size = h .size;
     cells = λ u b c x in-u in-c d low early.
@@ -86,13 +86,13 @@ module _ {file s : List ℕ} {first t : ℕ} where
         ];
   }
 
-  module _ {v : ℕ} (h : Copying file first t s v) where
-    pub copying-end : vertices file ≤ v → SpreadsTo file first (t + 1) s
+  module _ {v : ℕ} (h : Copying file t s v) where
+    pub copying-end : vertices file ≤ v → SpreadsTo file (t + 1) s
     copying-end all = record { size = h .size; cells = λ u b c x in-u in-c d low. h .cells u b c x in-u in-c d low (λ e. omega arith) }
 
     -- no row to copy
-    pub copying-on : {r : List ℕ} → false ≡ realignsWith t (directive file v) → r ≡ s → Copying file first t r (v + 1)
-    copying-on other same = subst (λ (l : List ℕ). Copying file first t l (v + 1)) (sym same) record {
+    pub copying-on : {r : List ℕ} → false ≡ realignsWith t (directive file v) → r ≡ s → Copying file t r (v + 1)
+    copying-on other same = subst (λ (l : List ℕ). Copying file t l (v + 1)) (sym same) record {
       size = h .size;
       cells = λ u b c x in-u in-c d low early. h .cells u b c x in-u in-c d low (λ e. earlier u b x d e (early e));
     }
@@ -105,8 +105,8 @@ module _ {file s : List ℕ} {first t : ℕ} where
             ]
 
     -- a row copied
-    pub copying-next : {sets r : List ℕ} → true ≡ realignsWith t (directive file v) → v < vertices file → Cells 8 (vertices file) (columnsOf file t first) sets
-        → r ≡ withRow s v (λ c. getD sets (8 * v + c) 0) 8 → Copying file first t r (v + 1)
+    pub copying-next : {sets r : List ℕ} → true ≡ realignsWith t (directive file v) → v < vertices file → Cells 8 (vertices file) (columnsOf file t) sets
+        → r ≡ withRow s v (λ c. getD sets (8 * v + c) 0) 8 → Copying file t r (v + 1)
     copying-next {sets} {r} is in-v solved e = record {
       size = ap length e ∙ replaced-length s (8 * v) _ 8 ∙ h .size;
       cells = λ u b c x in-u in-c d low early. ap (λ (l : List ℕ). getD l (8 * u + c) 0) e ∙ cell u b c x in-u in-c d low early;
@@ -117,23 +117,23 @@ module _ {file s : List ℕ} {first t : ℕ} where
 
         cell :
             (u b c : ℕ) (x : Alignment) → u < vertices file → c < 8 → directive file u ≡ Realign b x → x .template < t + 1 → (x .template ≡ t → u < v + 1)
-            → getD (withRow s v row 8) (8 * u + c) 0 ≡ columnsOf file (x .template) first c u
+            → getD (withRow s v row 8) (8 * u + c) 0 ≡ columnsOf file (x .template) c u
         cell u b c x in-u in-c d low early =
             elim (ℕ-discrete u v) [
-              | yes q ↦ subst (λ (w : ℕ). getD (withRow s v row 8) (8 * w + c) 0 ≡ columnsOf file (x .template) first c w) (sym q)
+              | yes q ↦ subst (λ (w : ℕ). getD (withRow s v row 8) (8 * w + c) 0 ≡ columnsOf file (x .template) c w) (sym q)
                   (replaced-at s (8 * v) row 0 8 c refl in-c (omega (arith, h .size)) ∙ solved .cells c v in-c in-v
-                  ∙ ap (λ (k : ℕ). columnsOf file k first c v) (sym (its-template t (sym (ap (directive file) q) ∙ d) is)))
+                  ∙ ap (λ (k : ℕ). columnsOf file k c v) (sym (its-template t (sym (ap (directive file) q) ∙ d) is)))
               | no q ↦ replaced-other s (8 * v) row 0 8 (8 * u + c) (λ a in-a p. q (omega arith)) ∙ h .cells u b c x in-u in-c d low (λ e. omega (arith, early e))
             ]
 
 -- ---- from template to template
 
-module _ {file s : List ℕ} {first : ℕ} where
-  pub spreads-begin : length s ≡ 8 * vertices file → SpreadsTo file first 0 s
+module _ {file s : List ℕ} where
+  pub spreads-begin : length s ≡ 8 * vertices file → SpreadsTo file 0 s
   spreads-begin size = record { size = size; cells = λ v b c x in-v in-c d low. absurd (omega arith) }
 
   -- no directive asks for template t
-  pub spreads-on : (t : ℕ) → SpreadsTo file first t s → anyBelow (λ v. realignsWith t (directive file v)) (vertices file) ≡ false → SpreadsTo file first (t + 1) s
+  pub spreads-on : (t : ℕ) → SpreadsTo file t s → anyBelow (λ v. realignsWith t (directive file v)) (vertices file) ≡ false → SpreadsTo file (t + 1) s
   spreads-on t h none = record {
     size = h .size;
     cells = λ v b c x in-v in-c d low.
@@ -143,7 +143,7 @@ module _ {file s : List ℕ} {first : ℕ} where
         ];
   }
 
-  pub spreads-end : {h : Header} {t : ℕ} → DirectivesRead file h → templates file ≤ t → SpreadsTo file first t s → Spreads file first s
+  pub spreads-end : {h : Header} {t : ℕ} → DirectivesRead file h → templates file ≤ t → SpreadsTo file t s → Spreads file s
   spreads-end read all h = record {
     size = h .size;
     cells = λ v b c x in-v in-c d. h .cells v b c x in-v in-c d (omega (arith, formed file (read .passed) .realigned v b x in-v d .0));

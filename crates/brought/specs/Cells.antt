@@ -57,8 +57,8 @@ unfolding directive
 spreadPasses file t v = cond (isSpreader file t v) 0 everyVersion
 
 -- the columns of spreads where the templates below t are done
-pub record SpreadsTo (file : List ℕ) (first t : ℕ) (s : List ℕ) : Type 0 where
+pub record SpreadsTo (file : List ℕ) (t : ℕ) (s : List ℕ) : Type 0 where
   pub size : length s ≡ 8 * vertices file
   pub cells :
       (v b c : ℕ) (x : Alignment) → v < vertices file → c < 8 → directive file v ≡ Realign b x → x .template < t
-      → getD s (8 * v + c) 0 ≡ getD (spreadColumn file (x .template) (first + c)) v 0
+      → getD s (8 * v + c) 0 ≡ getD (spreadColumn file (x .template) c) v 0

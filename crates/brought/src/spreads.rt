@@ -1,5 +1,5 @@
-// The spreads that paths bring each template with, by the vertices that gave them: vertex u in column u / width at bit u % width. A table has
-// eight columns from `first` on, at each realign those of its template.
+// The spreads that paths bring each template with, by the vertices that gave them: vertex u in column u / width at bit u % width. The
+// table has at each realign those of its template.
 use directives::header::Header;
 use directives::vertex;
 use directives::vertex::Directive;
@@ -52,19 +52,17 @@ fn fill_row(
     file: &[u8],
     h: Header,
     t: usize,
-    first: usize,
     v: usize,
     reached: &[Set],
     gives: &mut [Set],
     passes: &mut [Set],
 )
     requires { ⌜ DirectivesRead (now file) h ⌝ }
-    requires { ⌜ first ≤ 8 ⌝ }
     requires { ⌜ v < vertices (now file) ⌝ }
     requires { ⌜ Reached (now file) (now reached) ⌝ }
     requires { ⌜ length (now gives) ≡ 8 * vertices (now file) ⌝ }
     requires { ⌜ length (now passes) ≡ 8 * vertices (now file) ⌝ }
-    ensures { λ _. ⌜ now (gives .exit) ≡ withRow (now (gives .entry)) v (λ c. spreadGives (now (file .entry)) t (first + c) v) 8 ⌝ }
+    ensures { λ _. ⌜ now (gives .exit) ≡ withRow (now (gives .entry)) v (λ c. spreadGives (now (file .entry)) t c v) 8 ⌝ }
     ensures { λ _. ⌜ now (passes .exit) ≡ withRow (now (passes .entry)) v (λ c. spreadPasses (now (file .entry)) t v) 8 ⌝ }
 {
     let gave = (v == 0) | directive::redistributes(t, vertex::at(file, h, v));
@@ -74,34 +72,25 @@ fn fill_row(
     let mut c: usize = 0;
     while c < flow::COLUMNS {
         let at = flow::COLUMNS * v + c;
-        gives[at] = event::set_if(given & (column == first + c), set);
+        gives[at] = event::set_if(given & (column == c), set);
         passes[at] = event::every_if(!gave);
         c += 1;
     }
 }
 
 // The tables of the pass for template t.
-fn fill(
-    file: &[u8],
-    h: Header,
-    t: usize,
-    first: usize,
-    reached: &[Set],
-    gives: &mut [Set],
-    passes: &mut [Set],
-)
+fn fill(file: &[u8], h: Header, t: usize, reached: &[Set], gives: &mut [Set], passes: &mut [Set])
     requires { ⌜ DirectivesRead (now file) h ⌝ }
-    requires { ⌜ first ≤ 8 ⌝ }
     requires { ⌜ Reached (now file) (now reached) ⌝ }
     requires { ⌜ length (now gives) ≡ 8 * vertices (now file) ⌝ }
     requires { ⌜ length (now passes) ≡ 8 * vertices (now file) ⌝ }
-    ensures { λ _. ⌜ Cells 8 (vertices (now (file .entry))) (λ c v. spreadGives (now (file .entry)) t (first + c) v) (now (gives .exit)) ⌝ }
+    ensures { λ _. ⌜ Cells 8 (vertices (now (file .entry))) (λ c v. spreadGives (now (file .entry)) t c v) (now (gives .exit)) ⌝ }
     ensures { λ _. ⌜ Cells 8 (vertices (now (file .entry))) (λ c v. spreadPasses (now (file .entry)) t v) (now (passes .exit)) ⌝ }
 {
     let n = h.vertices;
     let mut v = 0;
     while v < n {
-        fill_row(file, h, t, first, v, reached, gives, passes);
+        fill_row(file, h, t, v, reached, gives, passes);
         v += 1;
     }
 }
@@ -122,11 +111,11 @@ fn copy_row(v: usize, sets: &[Set], spreads: &mut [Set])
 }
 
 // Copies the rows of the vertices that realign an array with template t.
-fn copy_asked(file: &[u8], h: Header, t: usize, first: usize, sets: &[Set], spreads: &mut [Set])
+fn copy_asked(file: &[u8], h: Header, t: usize, sets: &[Set], spreads: &mut [Set])
     requires { ⌜ DirectivesRead (now file) h ⌝ }
-    requires { ⌜ Cells 8 (vertices (now file)) (λ c v. getD (spreadColumn (now file) t (first + c)) v 0) (now sets) ⌝ }
-    requires { ⌜ SpreadsTo (now file) first t (now spreads) ⌝ }
-    ensures { λ _. ⌜ SpreadsTo (now (file .entry)) first (t + 1) (now (spreads .exit)) ⌝ }
+    requires { ⌜ Cells 8 (vertices (now file)) (λ c v. getD (spreadColumn (now file) t c) v 0) (now sets) ⌝ }
+    requires { ⌜ SpreadsTo (now file) t (now spreads) ⌝ }
+    ensures { λ _. ⌜ SpreadsTo (now (file .entry)) (t + 1) (now (spreads .exit)) ⌝ }
 {
     let n = h.vertices;
     let mut v = 0;
@@ -144,7 +133,6 @@ fn solve_template(
     h: Header,
     order: &[u16],
     t: usize,
-    first: usize,
     reached: &[Set],
     spreads: &mut [Set],
     sets: &mut [Set],
@@ -153,31 +141,29 @@ fn solve_template(
 ) -> usize
     requires { ⌜ DirectivesRead (now file) h ⌝ }
     requires { ⌜ EdgeOrder (now file) (now order) ⌝ }
-    requires { ⌜ first ≤ 8 ⌝ }
     requires { ⌜ Reached (now file) (now reached) ⌝ }
-    requires { ⌜ SpreadsTo (now file) first t (now spreads) ⌝ }
+    requires { ⌜ SpreadsTo (now file) t (now spreads) ⌝ }
     requires { ⌜ length (now sets) ≡ 8 * vertices (now file) ⌝ }
     requires { ⌜ length (now gives) ≡ 8 * vertices (now file) ⌝ }
     requires { ⌜ length (now passes) ≡ 8 * vertices (now file) ⌝ }
-    ensures { λ _. ⌜ SpreadsTo (now (file .entry)) first (t + 1) (now (spreads .exit)) ⌝ }
-    ensures { λ r. ⌜ SpreadsAsked (now (file .entry)) t first r ⌝ }
+    ensures { λ _. ⌜ SpreadsTo (now (file .entry)) (t + 1) (now (spreads .exit)) ⌝ }
+    ensures { λ r. ⌜ SpreadsAsked (now (file .entry)) t r ⌝ }
 {
     let asked = is_asked(file, h, t);
     if !asked {
         return 0;
     }
-    fill(file, h, t, first, reached, gives, passes);
+    fill(file, h, t, reached, gives, passes);
     let rounds = pass::solve(file, h, order, gives, passes, sets);
-    copy_asked(file, h, t, first, sets, spreads);
+    copy_asked(file, h, t, sets, spreads);
     rounds
 }
 
-// Fills in the eight columns from `first` on. `sets`, `gives` and `passes` are work slices.
+// Fills in the eight columns. `sets`, `gives` and `passes` are work slices.
 pub fn solve(
     file: &[u8],
     h: Header,
     order: &[u16],
-    first: usize,
     reached: &[Set],
     spreads: &mut [Set],
     sets: &mut [Set],
@@ -186,29 +172,17 @@ pub fn solve(
 )
     requires { ⌜ DirectivesRead (now file) h ⌝ }
     requires { ⌜ EdgeOrder (now file) (now order) ⌝ }
-    requires { ⌜ first ≤ 8 ⌝ }
     requires { ⌜ Reached (now file) (now reached) ⌝ }
     requires { ⌜ length (now spreads) ≡ 8 * vertices (now file) ⌝ }
     requires { ⌜ length (now sets) ≡ 8 * vertices (now file) ⌝ }
     requires { ⌜ length (now gives) ≡ 8 * vertices (now file) ⌝ }
     requires { ⌜ length (now passes) ≡ 8 * vertices (now file) ⌝ }
-    ensures { λ _. ⌜ Spreads (now (file .entry)) first (now (spreads .exit)) ⌝ }
+    ensures { λ _. ⌜ Spreads (now (file .entry)) (now (spreads .exit)) ⌝ }
 {
     let n = h.templates;
     let mut t = 0;
     while t < n {
-        solve_template(
-            file,
-            h,
-            order,
-            t,
-            first,
-            reached,
-            spreads,
-            sets,
-            gives,
-            passes,
-        );
+        solve_template(file, h, order, t, reached, spreads, sets, gives, passes);
         t += 1;
     }
 }

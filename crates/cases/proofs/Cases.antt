@@ -54,6 +54,8 @@ all-hold =
     also (refl, refl, refl)
     also (refl, refl, refl, refl, refl)
     also (λ size. refl, λ path size. refl)
+    also (refl, refl, refl)
+    also (refl, refl, refl, refl, refl)
     also tt
 
 -- ---- demand 3

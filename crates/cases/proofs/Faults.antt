@@ -52,23 +52,23 @@ success (Denied r) = 0
 pub refuses-all : RefusesAll
 refuses-all r after h = absurd (omega (arith, ap success (h .answer ∙ all-hold .0 .0)))
 
--- byte 49 is the letter of vertex 2
+-- byte 53 is the letter of vertex 2
 pub plan-of-p-for-all : PlanOfPForAll
 unfolding routineOf planOf planBytes word ones
 plan-of-p-for-all reply h =
-    absurd (omega (arith, byte (planBytes (routineOf P-with-nothing)) (zeros 72) {n = 72} refl refl (h .answer) (h .buffer) 49))
+    absurd (omega (arith, byte (planBytes (routineOf P-with-nothing)) (zeros 88) {n = 88} refl refl (h .answer) (h .buffer) 53))
 
 pub writes-no-plan : WritesNoPlan
-writes-no-plan reply h = absurd (omega (arith, byte (planBytes (routineOf P)) (zeros 72) (all-hold .0 .0) (all-hold .0 .2) (h .answer) (h .buffer) 0))
+writes-no-plan reply h = absurd (omega (arith, byte (planBytes (routineOf P)) (zeros 88) (all-hold .0 .0) (all-hold .0 .2) (h .answer) (h .buffer) 0))
 
 -- ---- runners
 
--- byte 14 is the new stamp of the first record
+-- byte 16 is the new stamp of the first record
 pub invents-records : InventsRecords
-invents-records reply h = absurd (omega (arith, byte (reportBytes (routineOf P) path2) (zeros 46) (all-hold .1 .0 .0) (all-hold .1 .0 .4) (h .answer) (h .buffer) 14))
+invents-records reply h = absurd (omega (arith, byte (reportBytes (routineOf P) path2) (zeros 48) (all-hold .1 .0 .0) (all-hold .1 .0 .4) (h .answer) (h .buffer) 16))
 
 pub invents-copies : InventsCopies
-invents-copies reply h = absurd (omega (arith, byte (reportBytes (routineOf P) path2) (zeros 46) (all-hold .1 .0 .0) (all-hold .1 .0 .4) (h .answer) (h .buffer) 0))
+invents-copies reply h = absurd (omega (arith, byte (reportBytes (routineOf P) path2) (zeros 48) (all-hold .1 .0 .0) (all-hold .1 .0 .4) (h .answer) (h .buffer) 0))
 
 pub writes-no-report : WritesNoReport
-writes-no-report reply h = absurd (omega (arith, byte (reportBytes (routineOf P) path2) (zeros 46) (all-hold .1 .0 .0) (all-hold .1 .0 .4) (h .answer) (h .buffer) 0))
+writes-no-report reply h = absurd (omega (arith, byte (reportBytes (routineOf P) path2) (zeros 48) (all-hold .1 .0 .0) (all-hold .1 .0 .4) (h .answer) (h .buffer) 0))

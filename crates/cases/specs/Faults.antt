@@ -19,7 +19,7 @@ zeros n = replicate n 0
 
 -- one that refuses all routines: no refusal meets the contract on P
 abbrev pub RefusesAll : Type 0
-RefusesAll = (r : Refusal) (after : List ℕ) → Planned P (zeros 72) (Denied r) after → ⊥
+RefusesAll = (r : Refusal) (after : List ℕ) → Planned P (zeros 88) (Denied r) after → ⊥
 
 -- P with nothing at 3: as many labels as P, at the same vertices
 abbrev pub P-with-nothing : List ℕ
@@ -33,19 +33,19 @@ P-with-nothing =
 
 -- one that issues P's plan for all
 abbrev pub PlanOfPForAll : Type 0
-PlanOfPForAll = (reply : Reply) → Planned P-with-nothing (zeros 72) reply (planBytes P) → ⊥
+PlanOfPForAll = (reply : Reply) → Planned P-with-nothing (zeros 88) reply (planBytes P) → ⊥
 
 -- one that writes nothing
 abbrev pub WritesNoPlan : Type 0
-WritesNoPlan = (reply : Reply) → Planned P (zeros 72) reply (zeros 72) → ⊥
+WritesNoPlan = (reply : Reply) → Planned P (zeros 88) reply (zeros 88) → ⊥
 
 -- ---- runners, on case 2
 
 -- one that works step 1 and then invents records: the define at step 2 gives stamp 1
 abbrev pub InventsRecords : Type 0
 InventsRecords =
-    (reply : Reply) → Ran P path2 (zeros 46) reply (
-    1 ∷ 0 ∷ 3 ∷ 0 ∷ 1 ∷ 0
+    (reply : Reply) → Ran P path2 (zeros 48) reply (
+    1 ∷ 0 ∷ 3 ∷ 0 ∷ 0 ∷ 0 ∷ 1 ∷ 0
     ∷ 2 ∷ 0 ∷ 0 ∷ 0 ∷ 2 ∷ 0 ∷ 0 ∷ 0 ∷ 1 ∷ 0
     ∷ 4 ∷ 0 ∷ 0 ∷ 1 ∷ 1 ∷ 0 ∷ 1 ∷ 0 ∷ 0 ∷ 0
     ∷ 7 ∷ 0 ∷ 0 ∷ 0 ∷ 1 ∷ 0 ∷ 1 ∷ 0 ∷ 0 ∷ 0
@@ -56,8 +56,8 @@ InventsRecords =
 -- one whose report has invented copy counts: no copy
 abbrev pub InventsCopies : Type 0
 InventsCopies =
-    (reply : Reply) → Ran P path2 (zeros 46) reply (
-    0 ∷ 0 ∷ 3 ∷ 0 ∷ 1 ∷ 0
+    (reply : Reply) → Ran P path2 (zeros 48) reply (
+    0 ∷ 0 ∷ 3 ∷ 0 ∷ 0 ∷ 0 ∷ 1 ∷ 0
     ∷ 2 ∷ 0 ∷ 0 ∷ 0 ∷ 2 ∷ 0 ∷ 0 ∷ 0 ∷ 2 ∷ 0
     ∷ 4 ∷ 0 ∷ 0 ∷ 1 ∷ 1 ∷ 0 ∷ 2 ∷ 0 ∷ 0 ∷ 0
     ∷ 7 ∷ 0 ∷ 0 ∷ 0 ∷ 1 ∷ 0 ∷ 2 ∷ 0 ∷ 0 ∷ 0
@@ -67,4 +67,4 @@ InventsCopies =
 
 -- one that writes no report
 abbrev pub WritesNoReport : Type 0
-WritesNoReport = (reply : Reply) → Ran P path2 (zeros 46) reply (zeros 46) → ⊥
+WritesNoReport = (reply : Reply) → Ran P path2 (zeros 48) reply (zeros 48) → ⊥

@@ -36,8 +36,7 @@ fn number(
     counts: &mut [u8],
     reached: &mut [Set],
     aligned: &mut [Set],
-    low: &mut [Set],
-    high: &mut [Set],
+    spreads: &mut [Set],
     gives: &mut [Set],
     passes: &mut [Set],
 ) -> Verdict
@@ -47,8 +46,7 @@ fn number(
     requires { ⌜ length (now counts) ≡ 8 ⌝ }
     requires { ⌜ length (now reached) ≡ 8 * vertices (now file) ⌝ }
     requires { ⌜ length (now aligned) ≡ 8 * vertices (now file) ⌝ }
-    requires { ⌜ length (now low) ≡ 8 * vertices (now file) ⌝ }
-    requires { ⌜ length (now high) ≡ 8 * vertices (now file) ⌝ }
+    requires { ⌜ length (now spreads) ≡ 8 * vertices (now file) ⌝ }
     requires { ⌜ length (now gives) ≡ 8 * vertices (now file) ⌝ }
     requires { ⌜ length (now passes) ≡ 8 * vertices (now file) ⌝ }
     ensures { λ _. ⌜ EdgeOrder (now (file .entry)) (now (order .exit)) ⌝ }
@@ -59,19 +57,8 @@ fn number(
     reached::solve(file, h, order, reached, gives, passes);
     alignments::solve(file, h, order, reached, aligned, gives, passes);
     // `given` is a work slice until the mappings are numbered
-    spreads::solve(file, h, order, 0, reached, low, given, gives, passes);
-    spreads::solve(
-        file,
-        h,
-        order,
-        flow::COLUMNS,
-        reached,
-        high,
-        given,
-        gives,
-        passes,
-    );
-    numbers::check(file, h, aligned, low, high, given, counts)
+    spreads::solve(file, h, order, reached, spreads, given, gives, passes);
+    numbers::check(file, h, aligned, spreads, given, counts)
 }
 
 // Refusals 20 and 21 of the routine that the file becomes. The slices behind it are work slices.
@@ -156,8 +143,7 @@ fn convert_with(
     counts: &mut [u8],
     reached: &mut [Set],
     aligned: &mut [Set],
-    low: &mut [Set],
-    high: &mut [Set],
+    spreads: &mut [Set],
     gives: &mut [Set],
     passes: &mut [Set],
 ) -> Reply
@@ -168,8 +154,7 @@ fn convert_with(
     requires { ⌜ length (now counts) ≡ 8 ⌝ }
     requires { ⌜ length (now reached) ≡ 8 * vertices (now file) ⌝ }
     requires { ⌜ length (now aligned) ≡ 8 * vertices (now file) ⌝ }
-    requires { ⌜ length (now low) ≡ 8 * vertices (now file) ⌝ }
-    requires { ⌜ length (now high) ≡ 8 * vertices (now file) ⌝ }
+    requires { ⌜ length (now spreads) ≡ 8 * vertices (now file) ⌝ }
     requires { ⌜ length (now gives) ≡ 8 * vertices (now file) ⌝ }
     requires { ⌜ length (now passes) ≡ 8 * vertices (now file) ⌝ }
     ensures { λ r. ⌜ Prepared (now (file .entry)) r (now (work .exit)) ⌝ }
@@ -182,15 +167,14 @@ fn convert_with(
         counts,
         reached,
         aligned,
-        low,
-        high,
+        spreads,
         gives,
         passes,
     );
     if let Verdict::Failed(refused) = few {
         return Reply::Denied(refused);
     }
-    let single = check::check(file, h, order, given, low, high, gives, passes);
+    let single = check::check(file, h, order, given, aligned, spreads, gives, passes);
     if let Verdict::Failed(refused) = single {
         return Reply::Denied(refused);
     }
@@ -217,8 +201,7 @@ fn convert_within(
     given: &mut [Set],
     reached: &mut [Set],
     aligned: &mut [Set],
-    low: &mut [Set],
-    high: &mut [Set],
+    spreads: &mut [Set],
     gives: &mut [Set],
     passes: &mut [Set],
 ) -> Reply
@@ -228,8 +211,7 @@ fn convert_within(
     requires { ⌜ 8 * vertices (now file) ≤ length (now given) ⌝ }
     requires { ⌜ 8 * vertices (now file) ≤ length (now reached) ⌝ }
     requires { ⌜ 8 * vertices (now file) ≤ length (now aligned) ⌝ }
-    requires { ⌜ 8 * vertices (now file) ≤ length (now low) ⌝ }
-    requires { ⌜ 8 * vertices (now file) ≤ length (now high) ⌝ }
+    requires { ⌜ 8 * vertices (now file) ≤ length (now spreads) ⌝ }
     requires { ⌜ 8 * vertices (now file) ≤ length (now gives) ⌝ }
     requires { ⌜ 8 * vertices (now file) ≤ length (now passes) ⌝ }
     ensures { λ r. ⌜ Prepared (now (file .entry)) r (now (work .exit)) ⌝ }
@@ -246,8 +228,7 @@ fn convert_within(
         &mut counts,
         &mut reached[..all],
         &mut aligned[..all],
-        &mut low[..all],
-        &mut high[..all],
+        &mut spreads[..all],
         &mut gives[..all],
         &mut passes[..all],
     )
@@ -263,8 +244,7 @@ fn convert_large(file: &[u8], h: Header, work: &mut [u8]) -> Reply
     let mut given = [0 as Set; 2048];
     let mut reached = [0 as Set; 2048];
     let mut aligned = [0 as Set; 2048];
-    let mut low = [0 as Set; 2048];
-    let mut high = [0 as Set; 2048];
+    let mut spreads = [0 as Set; 2048];
     let mut gives = [0 as Set; 2048];
     let mut passes = [0 as Set; 2048];
     convert_within(
@@ -275,8 +255,7 @@ fn convert_large(file: &[u8], h: Header, work: &mut [u8]) -> Reply
         &mut given,
         &mut reached,
         &mut aligned,
-        &mut low,
-        &mut high,
+        &mut spreads,
         &mut gives,
         &mut passes,
     )
@@ -293,8 +272,7 @@ fn convert_small(file: &[u8], h: Header, work: &mut [u8]) -> Reply
     let mut given = [0 as Set; 256];
     let mut reached = [0 as Set; 256];
     let mut aligned = [0 as Set; 256];
-    let mut low = [0 as Set; 256];
-    let mut high = [0 as Set; 256];
+    let mut spreads = [0 as Set; 256];
     let mut gives = [0 as Set; 256];
     let mut passes = [0 as Set; 256];
     convert_within(
@@ -305,8 +283,7 @@ fn convert_small(file: &[u8], h: Header, work: &mut [u8]) -> Reply
         &mut given,
         &mut reached,
         &mut aligned,
-        &mut low,
-        &mut high,
+        &mut spreads,
         &mut gives,
         &mut passes,
     )

@@ -6,7 +6,7 @@ use crate::print;
 ghost use Prim.Native.Nat.{_≤_};
 
 // The length of the longest plan.
-const ROOM: usize = 17416;
+const ROOM: usize = 25608;
 
 fn buffer() -> [u8; ROOM] {
     [0; ROOM]
@@ -19,7 +19,7 @@ fn write_answer(file: &[u8], out: &mut [u8]) {
 // The answer for the first `length` bytes, with a buffer of `room` bytes.
 fn case(name: &[u8], file: Buffer, length: usize, room: usize)
     requires { ⌜ length ≤ 8192 ⌝ }
-    requires { ⌜ room ≤ 17416 ⌝ }
+    requires { ⌜ room ≤ 25608 ⌝ }
 {
     let mut out = buffer();
     print::bytes(name);
@@ -28,7 +28,7 @@ fn case(name: &[u8], file: Buffer, length: usize, room: usize)
 }
 
 fn p_into(name: &[u8], room: usize)
-    requires { ⌜ room ≤ 17416 ⌝ }
+    requires { ⌜ room ≤ 25608 ⌝ }
 {
     let mut file = build::zeros();
     build::put_p(&mut file);
@@ -46,7 +46,7 @@ fn p_with(name: &[u8], kind: u8, action: u8) {
 
 // Routine T with this action at vertex 2.
 fn t_with(name: &[u8], action: u8, room: usize)
-    requires { ⌜ room ≤ 17416 ⌝ }
+    requires { ⌜ room ≤ 25608 ⌝ }
 {
     let mut file = build::zeros();
     build::put_t(&mut file);
@@ -89,8 +89,8 @@ fn full(name: &[u8]) {
 
 // 0, and 1: the buffer.
 fn buffers() {
-    p_into(b"plan_fits", 72);
-    p_into(b"plan_a_byte_short", 71);
+    p_into(b"plan_fits", 88);
+    p_into(b"plan_a_byte_short", 87);
     p_into(b"plan_no_buffer", 0);
     full(b"plan_longest");
 }

@@ -130,8 +130,8 @@ fn kinds() {
 
 fn versions() {
     p_with(b"versions_0", 19, 0);
-    p_with(b"versions_16", 19, 16);
-    p_with(b"versions_17", 19, 17);
+    p_with(b"versions_32", 19, 32);
+    p_with(b"versions_33", 19, 33);
 }
 
 fn initial_versions() {
@@ -144,15 +144,16 @@ fn initial_versions() {
 // 15, 17: a byte by itself; both before 16.
 fn action_bytes() {
     p_with(b"action_11", 25, 0x11);
-    p_with(b"action_50", 23, 0x50);
     p_with(b"remap_2_of_3", 24, 0x42);
     p_with(b"remap_3_of_3", 24, 0x43);
+    p_with(b"remap_16_of_3", 23, 0x50);
+    p_with(b"remap_31_of_3", 25, 0x5f);
+    p_with_two(b"remap_31_of_32", 19, 32, 24, 0x5f);
     p_with_two(b"17_before_16", 24, 0x43, 58, 7);
 }
 
 // 15: bytes beside those of calls and of a kill (document 02, requests 3 and 6).
 fn bytes_beside_calls() {
-    p_with(b"action_5f", 25, 0x5f);
     p_with(b"action_81", 25, 0x81);
     p_with(b"action_9f", 25, 0x9f);
     p_with(b"action_e0", 25, 0xe0);

@@ -92,7 +92,7 @@ fn write_stamp(file: &[u8], path: &[u8], out: &mut [u8], at: usize)
 fn u_on(file: Buffer, path: Buffer) {
     let mut out = buffer();
     print::bytes(b"u ");
-    write_stamp(&file[..58], &path[..14], &mut out[..46], 42);
+    write_stamp(&file[..58], &path[..14], &mut out[..48], 44);
 }
 
 fn u() {
@@ -142,8 +142,8 @@ fn calls() {
 
 // 2: the buffer.
 fn buffers() {
-    p_round(b"report_fits", 9, 18, 46);
-    p_round(b"report_a_byte_short", 9, 18, 45);
+    p_round(b"report_fits", 9, 18, 48);
+    p_round(b"report_a_byte_short", 9, 18, 47);
     p_round(b"report_no_buffer", 9, 18, 0);
 }
 

@@ -5,19 +5,19 @@ use Prim.Native.Nat.{ℕ, _+_}
 use lib.ListN.{getD}
 use Rattle.refusal.specs.Replies.{replyOutcome}
 use Rattle.refusal.specs.declared.Reply.{Reply}
-use Rattle.words.specs.Words.{word}
+use Rattle.words.specs.Words.{word, longWord}
 use Rattle.text.specs.Text.{NUMBER, CHARACTER, VERSION, MASK, line}
 
--- a label whose eight bytes stand at `at`: vertex, array, letter, leaving version, reaching set, kept set
+-- a label whose twelve bytes stand at `at`: vertex, array, letter, leaving version, reaching set, kept set
 abbrev pub labelLine : List ℕ → ℕ → ℕ → List ℕ
 labelLine plan vertex at =
     line
     (NUMBER ∷ NUMBER ∷ CHARACTER ∷ VERSION ∷ MASK ∷ MASK ∷ [])
-    (vertex ∷ getD plan at 0 ∷ getD plan (at + 1) 0 ∷ getD plan (at + 2) 0 ∷ word plan (at + 4) ∷ word plan (at + 6) ∷ [])
+    (vertex ∷ getD plan at 0 ∷ getD plan (at + 1) 0 ∷ getD plan (at + 2) 0 ∷ longWord plan (at + 4) ∷ longWord plan (at + 8) ∷ [])
 
--- an array's entry, six bytes at `at`: copies, live set, current version
+-- an array's entry, eight bytes at `at`: copies, live set, current version
 abbrev pub entryLine : List ℕ → ℕ → List ℕ
-entryLine report at = line (NUMBER ∷ NUMBER ∷ NUMBER ∷ []) (word report at ∷ word report (at + 2) ∷ getD report (at + 4) 0 ∷ [])
+entryLine report at = line (NUMBER ∷ NUMBER ∷ NUMBER ∷ []) (word report at ∷ longWord report (at + 2) ∷ getD report (at + 6) 0 ∷ [])
 
 -- a record, ten bytes at `at`: step, array, version, kind, stamp seen, new stamp
 abbrev pub recordLine : List ℕ → ℕ → List ℕ

@@ -11,7 +11,7 @@ ghost use lib.ListN.{length, getD};
 ghost use Rattle.io.specs.Counts.{Counts};
 ghost use Rattle.listing.specs.Lines.{labelLine, entryLine, recordLine, outcomeLine};
 ghost use Rattle.words.specs.Tables.{wrote};
-ghost use Rattle.words.specs.Words.{word};
+ghost use Rattle.words.specs.Words.{word, longWord};
 
 // Room for the longest line.
 pub const ROOM: usize = 128;
@@ -38,7 +38,17 @@ pub fn word(s: &[u8], at: usize) -> u64
     0
 }
 
-// The label of a vertex whose eight bytes stand at `at`.
+// The 32-bit number whose first byte stands at `at`.
+fn long_word(s: &[u8], at: usize) -> u64
+    ensures { λ r. ⌜ r ≡ longWord (now (s .entry)) at ⌝ }
+{
+    if at < s.len() {
+        return word(s, at) + 65536 * word(s, at + 2);
+    }
+    0
+}
+
+// The label of a vertex whose twelve bytes stand at `at`.
 pub fn label(out: &mut [u8], plan: &[u8], vertex: u64, at: usize) -> usize
     requires { ⌜ 128 ≤ length (now out) ⌝ }
     requires { ⌜ at ≤ 2000000 ⌝ }
@@ -52,13 +62,13 @@ pub fn label(out: &mut [u8], plan: &[u8], vertex: u64, at: usize) -> usize
         byte(plan, at),
         byte(plan, at + 1),
         byte(plan, at + 2),
-        word(plan, at + 4),
-        word(plan, at + 6),
+        long_word(plan, at + 4),
+        long_word(plan, at + 8),
     ];
     line(out, &forms, &fields)
 }
 
-// An array's entry, six bytes at `at`.
+// An array's entry, eight bytes at `at`.
 pub fn entry(out: &mut [u8], report: &[u8], at: usize) -> usize
     requires { ⌜ 128 ≤ length (now out) ⌝ }
     requires { ⌜ at ≤ 2000000 ⌝ }
@@ -67,7 +77,11 @@ pub fn entry(out: &mut [u8], report: &[u8], at: usize) -> usize
     ensures { λ _. ⌜ now (out .exit) ≡ wrote (now (out .entry)) (entryLine (now (report .entry)) at) ⌝ }
 {
     let forms = [NUMBER; 3];
-    let fields = [word(report, at), word(report, at + 2), byte(report, at + 4)];
+    let fields = [
+        word(report, at),
+        long_word(report, at + 2),
+        byte(report, at + 6),
+    ];
     line(out, &forms, &fields)
 }
 

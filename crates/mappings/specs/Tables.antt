@@ -38,12 +38,12 @@ unfolding lastColumn directive
 spreadColumn file t c =
     lastColumn (edgeBytes file) (vertices file) (λ u. eqb u entry || redistributes t (directive file u)) (λ u. u) c
 
--- eight columns from `first` on, at each realign those of its template
-pub record Spreads (file : List ℕ) (first : ℕ) (s : List ℕ) : Type 0 where
+-- all eight columns, at each realign those of its template
+pub record Spreads (file s : List ℕ) : Type 0 where
   pub size : length s ≡ 8 * vertices file
   pub cells :
       (v b c : ℕ) (x : Alignment) → v < vertices file → c < 8 → directive file v ≡ Realign b x
-      → getD s (8 * v + c) 0 ≡ getD (spreadColumn file (x .template) (first + c)) v 0
+      → getD s (8 * v + c) 0 ≡ getD (spreadColumn file (x .template) c) v 0
 
 -- the versions that directives give
 abbrev pub Given : List ℕ → List ℕ → Type 0

@@ -31,26 +31,18 @@ fn is_brought(
     a: usize,
     v: usize,
     x: Alignment,
-    low: &[Set],
-    high: &[Set],
+    spreads: &[Set],
     u: usize,
 ) -> bool
     requires { ⌜ DirectivesRead (now file) h ⌝ }
     requires { ⌜ v < vertices (now file) ⌝ }
     requires { ⌜ u < vertices (now file) ⌝ }
     requires { ⌜ directive (now file) v ≡ Realign a x ⌝ }
-    requires { ⌜ Spreads (now file) 0 (now low) ⌝ }
-    requires { ⌜ Spreads (now file) 8 (now high) ⌝ }
+    requires { ⌜ Spreads (now file) (now spreads) ⌝ }
     ensures { λ r. ⌜ r ≡ has (getD (spreadSets (now (file .entry)) (x .template)) v 0) u ⌝ }
 {
-    let column = u / sets::WIDTH;
-    let k = (u % sets::WIDTH) as u8;
-    if column < flow::COLUMNS {
-        let at = flow::COLUMNS * v + column;
-        return sets::member(low[at], k);
-    }
-    let at = flow::COLUMNS * v + (column - flow::COLUMNS);
-    sets::member(high[at], k)
+    let at = flow::COLUMNS * v + u / sets::WIDTH;
+    sets::member(spreads[at], (u % sets::WIDTH) as u8)
 }
 
 // Adds what the realign of array a at vertex v gives: each spread that a path brings, exchanged if the alignment is.
@@ -60,16 +52,14 @@ fn realigned(
     a: usize,
     v: usize,
     x: Alignment,
-    low: &[Set],
-    high: &[Set],
+    spreads: &[Set],
     list: &mut [usize],
     p: Numbered,
 ) -> Numbered
     requires { ⌜ DirectivesRead (now file) h ⌝ }
     requires { ⌜ v < vertices (now file) ⌝ }
     requires { ⌜ directive (now file) v ≡ Realign a x ⌝ }
-    requires { ⌜ Spreads (now file) 0 (now low) ⌝ }
-    requires { ⌜ Spreads (now file) 8 (now high) ⌝ }
+    requires { ⌜ Spreads (now file) (now spreads) ⌝ }
     requires { ⌜ length (now list) ≡ 2 * width ⌝ }
     requires { ⌜ p .count ≤ width + 1 ⌝ }
     ensures { λ r. ⌜ Grows (givenBy (now (file .entry)) a v (Realign a x)) (now (list .entry)) p (now (list .exit)) r ⌝ }
@@ -78,7 +68,7 @@ fn realigned(
     let mut q = p;
     let mut u = 0;
     while u < n {
-        if is_brought(file, h, a, v, x, low, high, u) {
+        if is_brought(file, h, a, v, x, spreads, u) {
             q = list::add(
                 list,
                 q,
@@ -115,8 +105,7 @@ pub fn add(
     a: usize,
     v: usize,
     aligned: &[Set],
-    low: &[Set],
-    high: &[Set],
+    spreads: &[Set],
     list: &mut [usize],
     count: usize,
 ) -> Numbered
@@ -124,8 +113,7 @@ pub fn add(
     requires { ⌜ a < arrays (now file) ⌝ }
     requires { ⌜ v < vertices (now file) ⌝ }
     requires { ⌜ Alignments (now file) (now aligned) ⌝ }
-    requires { ⌜ Spreads (now file) 0 (now low) ⌝ }
-    requires { ⌜ Spreads (now file) 8 (now high) ⌝ }
+    requires { ⌜ Spreads (now file) (now spreads) ⌝ }
     requires { ⌜ length (now list) ≡ 2 * width ⌝ }
     requires { ⌜ count ≤ width + 1 ⌝ }
     ensures { λ r. ⌜ Grows (givenTo (now (file .entry)) a v) (now (list .entry)) (record { count = count; given = 0 }) (now (list .exit)) r ⌝ }
@@ -138,7 +126,7 @@ pub fn add(
     }
     if let Directive::Realign(b, x) = d {
         if a == b {
-            return realigned(file, h, a, v, x, low, high, list, p);
+            return realigned(file, h, a, v, x, spreads, list, p);
         }
     }
     p

@@ -17,7 +17,7 @@ pub struct Numbered {
 }
 
 // Entries of a list.
-pub const SIZE: usize = 32;
+pub const SIZE: usize = 2 * sets::WIDTH;
 
 // The mapping of version k.
 fn at(list: &[usize], k: usize) -> Mapping

@@ -22,16 +22,14 @@ fn number_with(
     h: Header,
     a: usize,
     aligned: &[Set],
-    low: &[Set],
-    high: &[Set],
+    spreads: &[Set],
     given: &mut [Set],
     list: &mut [usize],
 ) -> usize
     requires { ⌜ DirectivesRead (now file) h ⌝ }
     requires { ⌜ a < arrays (now file) ⌝ }
     requires { ⌜ Alignments (now file) (now aligned) ⌝ }
-    requires { ⌜ Spreads (now file) 0 (now low) ⌝ }
-    requires { ⌜ Spreads (now file) 8 (now high) ⌝ }
+    requires { ⌜ Spreads (now file) (now spreads) ⌝ }
     requires { ⌜ length (now given) ≡ 8 * vertices (now file) ⌝ }
     requires { ⌜ length (now list) ≡ 2 * width ⌝ }
     ensures { λ r. ⌜ ColumnNumbered (now (file .entry)) a (now (given .entry)) r (now (given .exit)) ⌝ }
@@ -41,7 +39,7 @@ fn number_with(
     let mut count: usize = 1;
     let mut v = 0;
     while v < n {
-        let p = given::add(file, h, a, v, aligned, low, high, list, count);
+        let p = given::add(file, h, a, v, aligned, spreads, list, count);
         let at = flow::COLUMNS * v + a;
         given[at] = p.given;
         count = p.count;
@@ -56,20 +54,18 @@ fn number_array(
     h: Header,
     a: usize,
     aligned: &[Set],
-    low: &[Set],
-    high: &[Set],
+    spreads: &[Set],
     given: &mut [Set],
 ) -> usize
     requires { ⌜ DirectivesRead (now file) h ⌝ }
     requires { ⌜ a < arrays (now file) ⌝ }
     requires { ⌜ Alignments (now file) (now aligned) ⌝ }
-    requires { ⌜ Spreads (now file) 0 (now low) ⌝ }
-    requires { ⌜ Spreads (now file) 8 (now high) ⌝ }
+    requires { ⌜ Spreads (now file) (now spreads) ⌝ }
     requires { ⌜ length (now given) ≡ 8 * vertices (now file) ⌝ }
     ensures { λ r. ⌜ ColumnNumbered (now (file .entry)) a (now (given .entry)) r (now (given .exit)) ⌝ }
 {
     let mut list = [0usize; list::SIZE];
-    number_with(file, h, a, aligned, low, high, given, &mut list)
+    number_with(file, h, a, aligned, spreads, given, &mut list)
 }
 
 // Refusal 41. Where it passes, `given` is left with the versions that directives give, `counts` with the number of each array's.
@@ -77,15 +73,13 @@ pub fn check(
     file: &[u8],
     h: Header,
     aligned: &[Set],
-    low: &[Set],
-    high: &[Set],
+    spreads: &[Set],
     given: &mut [Set],
     counts: &mut [u8],
 ) -> Verdict
     requires { ⌜ DirectivesRead (now file) h ⌝ }
     requires { ⌜ Alignments (now file) (now aligned) ⌝ }
-    requires { ⌜ Spreads (now file) 0 (now low) ⌝ }
-    requires { ⌜ Spreads (now file) 8 (now high) ⌝ }
+    requires { ⌜ Spreads (now file) (now spreads) ⌝ }
     requires { ⌜ length (now given) ≡ 8 * vertices (now file) ⌝ }
     requires { ⌜ length (now counts) ≡ 8 ⌝ }
     ensures { λ r. ⌜ r ≡ check41 (now (file .entry)) ⌝ }
@@ -94,7 +88,7 @@ pub fn check(
     let m = h.arrays;
     let mut a = 0;
     while a < m {
-        let count = number_array(file, h, a, aligned, low, high, given);
+        let count = number_array(file, h, a, aligned, spreads, given);
         if count > sets::WIDTH {
             return Verdict::Failed(Refusal::TooManyMappings { array: a });
         }

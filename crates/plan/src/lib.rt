@@ -8,14 +8,15 @@ use routine::reader;
 use routine::reader::Answer;
 use sets::Set;
 ghost use mathlib.Core.Path.{_≡_};
-ghost use Prim.Native.Nat.{_*_, _≤_};
+ghost use Prim.Native.Nat.{_*_, _≤_, _<_};
 ghost use lib.ListN.{length};
 ghost use Rattle.calls.specs.Checks.{CallsRead};
 ghost use Rattle.labels.specs.Routines.{ReadAs};
 ghost use Rattle.planned.specs.Calls.{PlannedRead, Planned};
 ghost use Rattle.routine.specs.Layout.{vertices, edges};
 
-// Plans a routine that was read. `order` holds an entry for each edge, the other tables eight for each vertex.
+// Plans a routine that was read. `order` holds an entry for each edge, `firsts` one for each vertex and one more, the other tables eight for
+// each vertex.
 fn plan_with(
     file: &[u8],
     h: Header,
@@ -25,7 +26,7 @@ fn plan_with(
     uses: &mut [Set],
     letters: &mut [u8],
     reaching: &mut [Set],
-    kept: &mut [Set],
+    firsts: &mut [u16],
     gives: &mut [Set],
     passes: &mut [Set],
 ) -> Reply
@@ -35,7 +36,7 @@ fn plan_with(
     requires { ⌜ length (now uses) ≡ 8 * vertices (now file) ⌝ }
     requires { ⌜ length (now letters) ≡ 8 * vertices (now file) ⌝ }
     requires { ⌜ length (now reaching) ≡ 8 * vertices (now file) ⌝ }
-    requires { ⌜ length (now kept) ≡ 8 * vertices (now file) ⌝ }
+    requires { ⌜ vertices (now file) < length (now firsts) ⌝ }
     requires { ⌜ length (now gives) ≡ 8 * vertices (now file) ⌝ }
     requires { ⌜ length (now passes) ≡ 8 * vertices (now file) ⌝ }
     ensures { λ r. ⌜ PlannedRead (now (file .entry)) (now (out .entry)) r (now (out .exit)) ⌝ }
@@ -52,13 +53,13 @@ fn plan_with(
         passes,
     );
     let verdict = checked.verdict;
-    // from here on `gives` holds the index of each vertex's first label
-    let reply = planned::reply(file, h, out.len(), verdict, versions, gives);
+    let reply = planned::reply(file, h, out.len(), verdict, versions, firsts);
     if let Reply::Denied(_) = reply {
         return reply;
     }
-    tables::kept(file, h, order, versions, letters, kept, uses, passes);
-    writer::write(file, h, versions, letters, reaching, kept, gives, out);
+    // from here on `uses` holds the kept sets
+    tables::kept(file, h, order, versions, letters, uses, gives, passes);
+    writer::write(file, h, versions, letters, reaching, uses, firsts, out);
     reply
 }
 
@@ -72,7 +73,7 @@ fn plan_within(
     uses: &mut [Set],
     letters: &mut [u8],
     reaching: &mut [Set],
-    kept: &mut [Set],
+    firsts: &mut [u16],
     gives: &mut [Set],
     passes: &mut [Set],
 ) -> Reply
@@ -82,7 +83,7 @@ fn plan_within(
     requires { ⌜ 8 * vertices (now file) ≤ length (now uses) ⌝ }
     requires { ⌜ 8 * vertices (now file) ≤ length (now letters) ⌝ }
     requires { ⌜ 8 * vertices (now file) ≤ length (now reaching) ⌝ }
-    requires { ⌜ 8 * vertices (now file) ≤ length (now kept) ⌝ }
+    requires { ⌜ vertices (now file) < length (now firsts) ⌝ }
     requires { ⌜ 8 * vertices (now file) ≤ length (now gives) ⌝ }
     requires { ⌜ 8 * vertices (now file) ≤ length (now passes) ⌝ }
     ensures { λ r. ⌜ PlannedRead (now (file .entry)) (now (out .entry)) r (now (out .exit)) ⌝ }
@@ -98,7 +99,7 @@ fn plan_within(
         &mut uses[..all],
         &mut letters[..all],
         &mut reaching[..all],
-        &mut kept[..all],
+        firsts,
         &mut gives[..all],
         &mut passes[..all],
     )
@@ -114,7 +115,7 @@ fn plan_large(file: &[u8], h: Header, out: &mut [u8]) -> Reply
     let mut uses = [0 as Set; 2048];
     let mut letters = [0u8; 2048];
     let mut reaching = [0 as Set; 2048];
-    let mut kept = [0 as Set; 2048];
+    let mut firsts = [0u16; Header::MAX_VERTICES + 1];
     let mut gives = [0 as Set; 2048];
     let mut passes = [0 as Set; 2048];
     plan_within(
@@ -126,7 +127,7 @@ fn plan_large(file: &[u8], h: Header, out: &mut [u8]) -> Reply
         &mut uses,
         &mut letters,
         &mut reaching,
-        &mut kept,
+        &mut firsts,
         &mut gives,
         &mut passes,
     )
@@ -143,7 +144,7 @@ fn plan_small(file: &[u8], h: Header, out: &mut [u8]) -> Reply
     let mut uses = [0 as Set; 256];
     let mut letters = [0u8; 256];
     let mut reaching = [0 as Set; 256];
-    let mut kept = [0 as Set; 256];
+    let mut firsts = [0u16; 33];
     let mut gives = [0 as Set; 256];
     let mut passes = [0 as Set; 256];
     plan_within(
@@ -155,7 +156,7 @@ fn plan_small(file: &[u8], h: Header, out: &mut [u8]) -> Reply
         &mut uses,
         &mut letters,
         &mut reaching,
-        &mut kept,
+        &mut firsts,
         &mut gives,
         &mut passes,
     )

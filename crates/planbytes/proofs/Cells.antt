@@ -11,7 +11,7 @@ use Rattle.labels.specs.Events.{event, isLabel, version, versionOf, versionSet}
 use Rattle.labels.specs.Letters.{letterByte, useOfByte}
 use Rattle.labels.specs.Routines.{ReadAs}
 use Rattle.labels.specs.Uses.{useOf, isN, leavingByte}
-use Rattle.planbytes.specs.Plan.{eightBytes, labelBytes, labelEntry}
+use Rattle.planbytes.specs.Plan.{twelveBytes, labelBytes, labelEntry}
 use Rattle.planbytes.specs.Tables.{Tabled, Leaving}
 use Rattle.routine.specs.declared.header.Header.{Header}
 use Rattle.routine.specs.Layout.{arrays, vertices}
@@ -97,7 +97,7 @@ module _ {h : Header} {file : List ℕ} (is : ReadAs file h) {a v : ℕ} (in-a :
 
     -- the label made of the entries is the one that the plan has
     pub made : {leaving : ℕ} (old : List ℕ) {new : List ℕ} → isLabel file a v ≡ true → Leaving (getD versions (8 * v + a) 0) (getD letters (8 * v + a) 0) leaving
-        → new ≡ eightBytes a (getD letters (8 * v + a) 0) leaving (getD reaching (8 * v + a) 0) (getD kept (8 * v + a) 0) ++ drop 8 old
+        → new ≡ twelveBytes a (getD letters (8 * v + a) 0) leaving (getD reaching (8 * v + a) 0) (getD kept (8 * v + a) 0) ++ drop 12 old
         → new ≡ wrote old (labelBytes file a v)
     unfolding labelBytes
     made old l f g =

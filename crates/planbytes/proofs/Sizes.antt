@@ -53,11 +53,11 @@ module _ (file : List ℕ) where
   before-more v e f = total-more (labelsAt file) v e f
 
   -- the last entry: how many labels there are
-  pub firsts-done : {old new : List ℕ} {v n count : ℕ} → Filling (labelsBefore file) (8 * vertices file) old new v → v ≡ n → n ≡ vertices file → 2 ≤ vertices file → count ≡ labelsBefore file v
+  pub firsts-done : {old new : List ℕ} {size v n count : ℕ} → Filling (labelsBefore file) size old new v → v ≡ n → n ≡ vertices file → vertices file < size → count ≡ labelsBefore file v
       → Firsts file (set new n count)
-  firsts-done {old} {new} {v} {n} {count} t e f two g =
+  firsts-done {old} {new} {size} {v} {n} {count} t e f room g =
       let done = fill-next t (omega (arith, e, f)) g in
-      subst (λ (m : ℕ). Firsts file (set new m count)) e (record { size = fill-length done; first = λ u l. fill-at done u (omega (arith, e, f)) })
+      subst (λ (m : ℕ). Firsts file (set new m count)) e (record { size = omega (arith, fill-length done); first = λ u l. fill-at done u (omega (arith, e, f)) })
 
   module _ (laid : Laid file) where
     pub at-few : (v : ℕ) → labelsAt file v ≤ 8
@@ -73,7 +73,7 @@ module _ (file : List ℕ) where
     unfolding labelCount
     labels-few = omega (arith, before-few (vertices file), laid .limits .few-vertices)
 
-    pub plan-few : planLength file ≤ 17416
+    pub plan-few : planLength file ≤ 25608
     unfolding planLength
     plan-few = omega (arith, labels-few, laid .limits .few-vertices)
 
@@ -88,7 +88,7 @@ module _ (file : List ℕ) where
       let here = f .first v (omega arith) in
       let behind = f .first (v + 1) (omega arith) ∙ sym (before-more v refl refl) in
       record {
-        inside = omega (arith, f .size, laid .limits .two-vertices);
+        inside = omega (arith, f .size);
         first-is = here;
         count-is = omega (arith, here, behind);
         rises = omega (arith, here, behind);
@@ -102,21 +102,21 @@ module _ (file : List ℕ) where
   unfolding contentsEntry
   entry-at v = sym (rows-length (contentsEntry file) 4 (λ v. refl) v)
 
-  entry-length : (a v : ℕ) → length (labelEntry file a v) ≡ 8 * cond (isLabel file a v) 1 0
+  entry-length : (a v : ℕ) → length (labelEntry file a v) ≡ 12 * cond (isLabel file a v) 1 0
   unfolding labelEntry labelBytes
   entry-length a v = go (isLabel file a v)
     where
-      go : (b : Bool) → length (cond b (labelBytes file a v) []) ≡ 8 * cond b 1 0
+      go : (b : Bool) → length (cond b (labelBytes file a v) []) ≡ 12 * cond b 1 0
       go true = refl
       go false = refl
 
-  label-row-length : (v : ℕ) → length (labelRow file v) ≡ 8 * labelsAt file v
+  label-row-length : (v : ℕ) → length (labelRow file v) ≡ 12 * labelsAt file v
   unfolding labelRow labelsAt
-  label-row-length v = rows-total (λ a. labelEntry file a v) (λ a. cond (isLabel file a v) 1 0) 8 (λ a. entry-length a v) (arrays file)
+  label-row-length v = rows-total (λ a. labelEntry file a v) (λ a. cond (isLabel file a v) 1 0) 12 (λ a. entry-length a v) (arrays file)
 
-  pub labels-length : length (labels file) ≡ 8 * labelCount file
+  pub labels-length : length (labels file) ≡ 12 * labelCount file
   unfolding labels labelCount labelsBefore
-  labels-length = rows-total (labelRow file) (labelsAt file) 8 label-row-length (vertices file)
+  labels-length = rows-total (labelRow file) (labelsAt file) 12 label-row-length (vertices file)
 
   -- where the labels stand
   pub labels-at : 8 + 4 * vertices file ≡ length (planHead (vertices file) (labelCount file) ++ contents file)
@@ -124,11 +124,11 @@ module _ (file : List ℕ) where
   labels-at = omega (arith, entry-at (vertices file))
 
   -- by the header and the count
-  pub length-is : {h : Header} {count : ℕ} → ReadAs file h → count ≡ labelCount file → 8 + 4 * h .vertices + 8 * count ≡ planLength file
+  pub length-is : {h : Header} {count : ℕ} → ReadAs file h → count ≡ labelCount file → 8 + 4 * h .vertices + 12 * count ≡ planLength file
   unfolding planLength
   length-is is e = omega (arith, is .heads .vertices-are, e)
 
-  -- contents 4 bytes a vertex, 8 bytes a label
+  -- contents 4 bytes a vertex, 12 bytes a label
   pub plan-length : length (planBytes file) ≡ planLength file
   unfolding planBytes planLength
   plan-length =

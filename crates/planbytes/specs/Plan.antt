@@ -11,11 +11,11 @@ use Rattle.labels.specs.Uses.{useOf, leavingByte}
 use Rattle.routine.specs.Layout.{arrays, vertices}
 use Rattle.words.specs.Sums.{total, countOf}
 use Rattle.words.specs.Tables.{rows}
-use Rattle.words.specs.Words.{bytes16}
+use Rattle.words.specs.Words.{bytes16, bytes32}
 
--- `HPFP`
+-- `HPF2`
 abbrev pub mark : List ℕ
-mark = 72 ∷ 80 ∷ 70 ∷ 80 ∷ []
+mark = 72 ∷ 80 ∷ 70 ∷ 50 ∷ []
 
 -- ---- how many labels
 
@@ -46,17 +46,17 @@ unfoldable pub contents : List ℕ → List ℕ
 unfolding rows contentsEntry
 contents file = rows (contentsEntry file) (vertices file)
 
--- ---- labels of eight bytes by vertex, then array: array, use letter, leaving version (255 none), zero, reaching, kept
+-- ---- labels of twelve bytes by vertex, then array: array, use letter, leaving version (255 none), zero, reaching, kept
 
--- its eight bytes
-abbrev pub eightBytes : ℕ → ℕ → ℕ → ℕ → ℕ → List ℕ
-eightBytes array letter leaving reaching kept = array ∷ letter ∷ leaving ∷ 0 ∷ (bytes16 reaching ++ bytes16 kept)
+-- its twelve bytes
+abbrev pub twelveBytes : ℕ → ℕ → ℕ → ℕ → ℕ → List ℕ
+twelveBytes array letter leaving reaching kept = array ∷ letter ∷ leaving ∷ 0 ∷ (bytes32 reaching ++ bytes32 kept)
 
 -- the label of array a at vertex v
 unfoldable pub labelBytes : List ℕ → ℕ → ℕ → List ℕ
 unfolding useOf leavingByte reachingOf keptOf
 labelBytes file a v =
-    eightBytes a (letterByte (useOf file a v)) (leavingByte file a v) (reachingOf file a v) (keptOf file a v)
+    twelveBytes a (letterByte (useOf file a v)) (leavingByte file a v) (reachingOf file a v) (keptOf file a v)
 
 -- a label's bytes, none where array a has no label at v
 unfoldable pub labelEntry : List ℕ → ℕ → ℕ → List ℕ
@@ -87,4 +87,4 @@ planBytes file = (planHead (vertices file) (labelCount file) ++ contents file) +
 -- its length
 unfoldable pub planLength : List ℕ → ℕ
 unfolding labelCount
-planLength file = 8 + 4 * vertices file + 8 * labelCount file
+planLength file = 8 + 4 * vertices file + 12 * labelCount file

@@ -3,7 +3,7 @@
 use mathlib.Core.Path.{_≡_}
 use mathlib.Core.Bool.{true, false}
 use mathlib.Core.List.{List}
-use Prim.Native.Nat.{ℕ, _*_, _≤_}
+use Prim.Native.Nat.{ℕ, _≤_, _<_}
 use lib.ListN.{length, getD}
 use Rattle.labels.specs.Letters.{useOfByte}
 use Rattle.labels.specs.Reaching.{reachingOf}
@@ -21,7 +21,7 @@ pub record Tabled (file versions letters reaching kept : List ℕ) : Type 0 wher
 
 -- the index of each vertex's first label, and behind the last vertex how many there are
 pub record Firsts (file firsts : List ℕ) : Type 0 where
-  pub size : length firsts ≡ 8 * vertices file
+  pub size : vertices file < length firsts
   pub first : (v : ℕ) → v ≤ vertices file → getD firsts v 0 ≡ labelsBefore file v
 
 -- the leaving byte of a label with this version, as a set, and this letter

@@ -58,7 +58,7 @@ fn labels_at(file: &[u8], h: Header, v: usize, versions: &[Set]) -> usize
 pub fn label_count(file: &[u8], h: Header, versions: &[Set], firsts: &mut [u16]) -> usize
     requires { ⌜ ReadAs (now file) h ⌝ }
     requires { ⌜ Versions (now file) (now versions) ⌝ }
-    requires { ⌜ length (now firsts) ≡ 8 * vertices (now file) ⌝ }
+    requires { ⌜ vertices (now file) < length (now firsts) ⌝ }
     ensures { λ _. ⌜ Firsts (now (file .entry)) (now (firsts .exit)) ⌝ }
     ensures { λ r. ⌜ r ≡ labelCount (now (file .entry)) ⌝ }
     ensures { λ r. ⌜ r ≤ 2048 ⌝ }
@@ -88,7 +88,7 @@ pub fn total(file: &[u8], h: Header, firsts: &[u16]) -> usize
 // The length of the plan of a routine that has so many labels.
 pub fn plan_length(h: Header, count: usize) -> usize
     requires { ⌜ (h .vertices ≤ 256) × (count ≤ 2048) ⌝ }
-    ensures { λ r. ⌜ r ≡ 8 + 4 * h .vertices + 8 * count ⌝ }
+    ensures { λ r. ⌜ r ≡ 8 + 4 * h .vertices + 12 * count ⌝ }
 {
     HEAD + ENTRY * h.vertices + Label::SIZE * count
 }

@@ -15,13 +15,13 @@ ghost use Rattle.planbytes.specs.Tables.{Tabled, Firsts, Leaving};
 ghost use Rattle.routine.specs.Layout.{arrays, vertices};
 ghost use Rattle.words.specs.Tables.{wrote};
 
-// Writes the mark `HPFP`, vertex count and label count.
+// Writes the mark `HPF2`, vertex count and label count.
 fn write_head(out: &mut [u8], vertices: usize, labels: usize)
     requires { ⌜ 8 ≤ length (now out) ⌝ }
     requires { ⌜ (vertices < 65536) × (labels < 65536) ⌝ }
     ensures { λ _. ⌜ now (out .exit) ≡ wrote (now (out .entry)) (planHead vertices labels) ⌝ }
 {
-    let mark = b"HPFP";
+    let mark = b"HPF2";
     out[0] = mark[0];
     out[1] = mark[1];
     out[2] = mark[2];

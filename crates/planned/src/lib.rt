@@ -6,7 +6,7 @@ use refusal::Verdict;
 use routine::header::Header;
 use sets::Set;
 ghost use mathlib.Core.Path.{_≡_};
-ghost use Prim.Native.Nat.{_*_};
+ghost use Prim.Native.Nat.{_<_};
 ghost use lib.ListN.{length};
 ghost use Rattle.labels.specs.Checks.{programmerCheck};
 ghost use Rattle.labels.specs.Routines.{ReadAs};
@@ -26,7 +26,7 @@ pub fn reply(
     requires { ⌜ ReadAs (now file) h ⌝ }
     requires { ⌜ checked ≡ programmerCheck (now file) ⌝ }
     requires { ⌜ Versions (now file) (now versions) ⌝ }
-    requires { ⌜ length (now firsts) ≡ 8 * vertices (now file) ⌝ }
+    requires { ⌜ vertices (now file) < length (now firsts) ⌝ }
     ensures { λ r. ⌜ Replied (now (file .entry)) size r (now (firsts .exit)) ⌝ }
 {
     if let Verdict::Failed(r) = checked {

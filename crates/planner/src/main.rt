@@ -10,11 +10,11 @@ ghost use Prim.Native.Nat.{_≤_};
 const FILE: usize = 6195;
 
 // The longest plan: 256 vertices of 8 labels.
-const PLAN: usize = 17416;
+const PLAN: usize = 25608;
 
 // The functions that print answer whether all has been written.
 
-// The label of a vertex whose eight bytes stand at `at`, as a line.
+// The label of a vertex whose twelve bytes stand at `at`, as a line.
 fn print_label(plan: &[u8], vertex: u64, at: usize) -> bool
     requires { ⌜ at ≤ 2000000 ⌝ }
 {
@@ -25,12 +25,12 @@ fn print_label(plan: &[u8], vertex: u64, at: usize) -> bool
 
 // The labels of a vertex, `count` of them from `at` on.
 fn print_vertex(plan: &[u8], vertex: u64, at: usize, count: u64) -> bool
-    requires { ⌜ at ≤ 1000000 ⌝ }
+    requires { ⌜ at ≤ 1100000 ⌝ }
     requires { ⌜ count ≤ 65535 ⌝ }
 {
     let mut i: u64 = 0;
     while i < count {
-        if !print_label(plan, vertex, at + 8 * (i as usize)) {
+        if !print_label(plan, vertex, at + 12 * (i as usize)) {
             return false;
         }
         i += 1;
@@ -47,7 +47,7 @@ fn print_labels(plan: &[u8]) -> bool {
         let entry = 8 + 4 * (v as usize);
         let first = listing::word(plan, entry);
         let count = listing::word(plan, entry + 2);
-        if !print_vertex(plan, v, labels_at + 8 * (first as usize), count) {
+        if !print_vertex(plan, v, labels_at + 12 * (first as usize), count) {
             return false;
         }
         v += 1;

@@ -15,9 +15,9 @@ use Rattle.state.specs.States.{State}
 use Rattle.words.specs.Tables.{rows}
 use Rattle.words.proofs.Tables.{rows-length, rows-same}
 
--- six bytes an array
-pub entries-length : (state : ℕ → State) (m : ℕ) → length (rows (λ a. entryBytes (state a)) m) ≡ 6 * m
-entries-length state m = rows-length (λ a. entryBytes (state a)) 6 (λ a. refl) m
+-- eight bytes an array
+pub entries-length : (state : ℕ → State) (m : ℕ) → length (rows (λ a. entryBytes (state a)) m) ≡ 8 * m
+entries-length state m = rows-length (λ a. entryBytes (state a)) 8 (λ a. refl) m
 
 -- ---- records
 

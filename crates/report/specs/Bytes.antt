@@ -8,11 +8,11 @@ use Rattle.state.specs.Carrying.{bare}
 use Rattle.state.specs.States.{State}
 use Rattle.state.specs.declared.Carried.{Carried}
 use Rattle.words.specs.Tables.{rows}
-use Rattle.words.specs.Words.{bytes16}
+use Rattle.words.specs.Words.{bytes16, bytes32}
 
--- for each array six bytes: copies, live set, current version or 255, zero
+-- for each array eight bytes: copies, live set, current version or 255, zero
 abbrev pub entryBytes : State → List ℕ
-entryBytes s = bytes16 (s .copies) ++ (bytes16 (s .live) ++ (s .current ∷ 0 ∷ []))
+entryBytes s = bytes16 (s .copies) ++ (bytes32 (s .live) ++ (s .current ∷ 0 ∷ []))
 
 -- how the code keeps it: the state of array a in a list of carried states, and past its end zeros
 abbrev pub carriedOf : List Carried → ℕ → Carried

@@ -24,7 +24,7 @@ ghost use Rattle.state.specs.Carrying.{bare};
 ghost use Rattle.words.specs.Tables.{table, wrote};
 
 // Bytes of an array's entry.
-pub const ENTRY: usize = 6;
+pub const ENTRY: usize = 8;
 
 // Whether vertex v refers to array a, 1 or 0.
 fn reference_at(file: &[u8], h: Header, a: usize, v: usize) -> usize
@@ -73,21 +73,23 @@ pub fn fill(file: &[u8], h: Header, counts: &mut [u8])
 
 // Writes the entry of one array at the front of what is lent.
 fn write_entry(out: &mut [u8], s: Carried)
-    requires { ⌜ 6 ≤ length (now out) ⌝ }
+    requires { ⌜ 8 ≤ length (now out) ⌝ }
     ensures { λ _. ⌜ now (out .exit) ≡ wrote (now (out .entry)) (entryBytes (bare s)) ⌝ }
 {
     out[0] = (s.copies % 256) as u8;
     out[1] = (s.copies / 256) as u8;
     out[2] = (s.live % 256) as u8;
-    out[3] = (s.live / 256) as u8;
-    out[4] = s.current;
-    out[5] = 0;
+    out[3] = (s.live / 256 % 256) as u8;
+    out[4] = (s.live / 65536 % 256) as u8;
+    out[5] = (s.live / 16777216) as u8;
+    out[6] = s.current;
+    out[7] = 0;
 }
 
 // Writes the entries of the first m arrays at the front of what is lent.
 pub fn write_entries(states: [Carried; ArrayRecord::MAX], m: usize, out: &mut [u8])
     requires { ⌜ m ≤ 8 ⌝ }
-    requires { ⌜ 6 * m ≤ length (now out) ⌝ }
+    requires { ⌜ 8 * m ≤ length (now out) ⌝ }
     ensures { λ _. ⌜ now (out .exit) ≡ wrote (now (out .entry)) (entriesOf states m) ⌝ }
 {
     let mut a = 0;

@@ -46,7 +46,6 @@ fn count_with(
     uses: &mut [Set],
     letters: &mut [u8],
     reaching: &mut [Set],
-    kept: &mut [Set],
     gives: &mut [Set],
     passes: &mut [Set],
 ) -> Passes
@@ -56,7 +55,6 @@ fn count_with(
     requires { ⌜ length (now uses) ≡ 8 * vertices (now file) ⌝ }
     requires { ⌜ length (now letters) ≡ 8 * vertices (now file) ⌝ }
     requires { ⌜ length (now reaching) ≡ 8 * vertices (now file) ⌝ }
-    requires { ⌜ length (now kept) ≡ 8 * vertices (now file) ⌝ }
     requires { ⌜ length (now gives) ≡ 8 * vertices (now file) ⌝ }
     requires { ⌜ length (now passes) ≡ 8 * vertices (now file) ⌝ }
     ensures { λ r. ⌜ Counted (now (file .entry)) r ⌝ }
@@ -82,7 +80,8 @@ fn count_with(
             kept: 0,
         };
     }
-    let last = tables::kept(file, h, order, versions, letters, kept, uses, passes);
+    // from here on `uses` holds the kept sets
+    let last = tables::kept(file, h, order, versions, letters, uses, gives, passes);
     Passes {
         verdict,
         letters: checked.letters,
@@ -101,7 +100,6 @@ fn count_within(
     uses: &mut [Set],
     letters: &mut [u8],
     reaching: &mut [Set],
-    kept: &mut [Set],
     gives: &mut [Set],
     passes: &mut [Set],
 ) -> Passes
@@ -111,7 +109,6 @@ fn count_within(
     requires { ⌜ 8 * vertices (now file) ≤ length (now uses) ⌝ }
     requires { ⌜ 8 * vertices (now file) ≤ length (now letters) ⌝ }
     requires { ⌜ 8 * vertices (now file) ≤ length (now reaching) ⌝ }
-    requires { ⌜ 8 * vertices (now file) ≤ length (now kept) ⌝ }
     requires { ⌜ 8 * vertices (now file) ≤ length (now gives) ⌝ }
     requires { ⌜ 8 * vertices (now file) ≤ length (now passes) ⌝ }
     ensures { λ r. ⌜ Counted (now (file .entry)) r ⌝ }
@@ -126,7 +123,6 @@ fn count_within(
         &mut uses[..all],
         &mut letters[..all],
         &mut reaching[..all],
-        &mut kept[..all],
         &mut gives[..all],
         &mut passes[..all],
     )
@@ -142,7 +138,6 @@ fn count(file: &[u8], h: Header) -> Passes
     let mut uses = [0 as Set; 2048];
     let mut letters = [0u8; 2048];
     let mut reaching = [0 as Set; 2048];
-    let mut kept = [0 as Set; 2048];
     let mut gives = [0 as Set; 2048];
     let mut passes = [0 as Set; 2048];
     count_within(
@@ -153,7 +148,6 @@ fn count(file: &[u8], h: Header) -> Passes
         &mut uses,
         &mut letters,
         &mut reaching,
-        &mut kept,
         &mut gives,
         &mut passes,
     )

@@ -16,7 +16,7 @@ use Rattle.routine.specs.Layout.{arrays, vertices, entry, exit, actionAt
 use Rattle.sets.specs.Sets.{width}
 use Rattle.words.specs.Sums.{anyBelow}
 
--- 00 nothing, 10 read, 20 define, 30 modify, 80 kill, 40+k remap to version k, k below 16; every other byte is unknown
+-- 00 nothing, 10 read, 20 define, 30 modify, 80 kill, 40+k remap to version k, k below 32; every other byte is unknown
 unfoldable pub actionOf : ℕ → Action
 actionOf b =
     cond (eqb b 0x00) Nothing

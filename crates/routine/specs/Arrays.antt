@@ -48,7 +48,7 @@ isOutOrInout kind = eqb kind 2 || eqb kind 3
 
 -- ---- check 14
 
--- kind 0 to 3, versions 1 to 16, initial version below that number, zero: the byte of the first that does not hold
+-- kind 0 to 3, versions 1 to 32, initial version below that number, zero: the byte of the first that does not hold
 abbrev pub recordCheck : ArrayRecord → ℕ → Verdict
 recordCheck r at =
     holds (leb (r .kind) 3) (WrongArrayByte at)

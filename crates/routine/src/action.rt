@@ -49,7 +49,7 @@ impl Action {
             0x20 => Action::Reference(Access::Define),
             0x30 => Action::Reference(Access::Modify),
             0x80 => Action::Reference(Access::Kill),
-            0x40..=0x4f => Action::Remap(b - 0x40),
+            0x40..=0x5f => Action::Remap(b - 0x40),
             _ => Action::Unknown,
         }
     }

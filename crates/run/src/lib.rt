@@ -9,10 +9,9 @@ use routine::reader;
 use routine::reader::Answer;
 use sets::Set;
 ghost use mathlib.Core.Path.{_≡_};
-ghost use Prim.Native.Nat.{_*_};
+ghost use Prim.Native.Nat.{_*_, _≤_};
 ghost use lib.ListN.{length};
 ghost use Rattle.calls.specs.Checks.{CallsRead};
-ghost use Rattle.flow.specs.Order.{maxEdges};
 ghost use Rattle.labels.specs.Checks.{programmerCheck};
 ghost use Rattle.labels.specs.Routines.{ReadAs};
 ghost use Rattle.routine.specs.Layout.{vertices, edges};
@@ -87,7 +86,7 @@ fn run_with(
     reply
 }
 
-// The same with work slices that are large enough for every routine.
+// The same with work slices that are large enough.
 fn run_within(
     file: &[u8],
     h: Header,
@@ -103,14 +102,14 @@ fn run_within(
     passes: &mut [Set],
 ) -> Reply
     requires { ⌜ ReadAs (now file) h ⌝ }
-    requires { ⌜ length (now order) ≡ maxEdges ⌝ }
-    requires { ⌜ length (now versions) ≡ 2048 ⌝ }
-    requires { ⌜ length (now uses) ≡ 2048 ⌝ }
-    requires { ⌜ length (now letters) ≡ 2048 ⌝ }
-    requires { ⌜ length (now kept) ≡ 2048 ⌝ }
-    requires { ⌜ length (now counts) ≡ 256 ⌝ }
-    requires { ⌜ length (now gives) ≡ 2048 ⌝ }
-    requires { ⌜ length (now passes) ≡ 2048 ⌝ }
+    requires { ⌜ edges (now file) ≤ length (now order) ⌝ }
+    requires { ⌜ 8 * vertices (now file) ≤ length (now versions) ⌝ }
+    requires { ⌜ 8 * vertices (now file) ≤ length (now uses) ⌝ }
+    requires { ⌜ 8 * vertices (now file) ≤ length (now letters) ⌝ }
+    requires { ⌜ 8 * vertices (now file) ≤ length (now kept) ⌝ }
+    requires { ⌜ vertices (now file) ≤ length (now counts) ⌝ }
+    requires { ⌜ 8 * vertices (now file) ≤ length (now gives) ⌝ }
+    requires { ⌜ 8 * vertices (now file) ≤ length (now passes) ⌝ }
     ensures { λ r. ⌜ RanRead (now (file .entry)) (now (path .entry)) (now (out .entry)) r (now (out .exit)) ⌝ }
 {
     let e = h.edges;
@@ -132,7 +131,8 @@ fn run_within(
     )
 }
 
-fn run_read(file: &[u8], h: Header, path: &[u8], out: &mut [u8]) -> Reply
+// With tables for any routine.
+fn run_large(file: &[u8], h: Header, path: &[u8], out: &mut [u8]) -> Reply
     requires { ⌜ ReadAs (now file) h ⌝ }
     ensures { λ r. ⌜ RanRead (now (file .entry)) (now (path .entry)) (now (out .entry)) r (now (out .exit)) ⌝ }
 {
@@ -158,6 +158,49 @@ fn run_read(file: &[u8], h: Header, path: &[u8], out: &mut [u8]) -> Reply
         &mut gives,
         &mut passes,
     )
+}
+
+// With tables for at most 32 vertices and 128 edges: a small routine does not pay for the zeroing of large ones.
+fn run_small(file: &[u8], h: Header, path: &[u8], out: &mut [u8]) -> Reply
+    requires { ⌜ ReadAs (now file) h ⌝ }
+    requires { ⌜ (h .vertices ≤ 32) × (h .edges ≤ 128) ⌝ }
+    ensures { λ r. ⌜ RanRead (now (file .entry)) (now (path .entry)) (now (out .entry)) r (now (out .exit)) ⌝ }
+{
+    let mut order = [0u16; 128];
+    let mut versions = [0 as Set; 256];
+    let mut uses = [0 as Set; 256];
+    let mut letters = [0u8; 256];
+    let mut kept = [0 as Set; 256];
+    let mut counts = [0u8; 32];
+    let mut gives = [0 as Set; 256];
+    let mut passes = [0 as Set; 256];
+    run_within(
+        file,
+        h,
+        path,
+        out,
+        &mut order,
+        &mut versions,
+        &mut uses,
+        &mut letters,
+        &mut kept,
+        &mut counts,
+        &mut gives,
+        &mut passes,
+    )
+}
+
+fn run_read(file: &[u8], h: Header, path: &[u8], out: &mut [u8]) -> Reply
+    requires { ⌜ ReadAs (now file) h ⌝ }
+    ensures { λ r. ⌜ RanRead (now (file .entry)) (now (path .entry)) (now (out .entry)) r (now (out .exit)) ⌝ }
+{
+    if h.vertices > 32 {
+        return run_large(file, h, path, out);
+    }
+    if h.edges > 128 {
+        return run_large(file, h, path, out);
+    }
+    run_small(file, h, path, out)
 }
 
 // Runs a path through the routine that a file with calls expands to, which `work` is for.

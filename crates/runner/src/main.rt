@@ -14,7 +14,7 @@ const ROUTINE: usize = 6195;
 const PATH: usize = 1026;
 
 // The longest report of 512 vertices: 8 arrays, and 8 references at each vertex but the entry.
-const REPORT: usize = 40928;
+const REPORT: usize = 40944;
 
 // The number of bytes read; a file that cannot be opened counts as empty. If it cannot be opened, `unopened` goes to standard error; if a read
 // fails, `unread`.
@@ -56,7 +56,7 @@ fn print_entries(report: &[u8], arrays: u64) -> bool
 {
     let mut a: u64 = 0;
     while a < arrays {
-        if !print_entry(report, 6 * (a as usize)) {
+        if !print_entry(report, 8 * (a as usize)) {
             return false;
         }
         a += 1;
@@ -87,7 +87,7 @@ fn print_report(file: &[u8], report: &[u8], length: usize) -> bool {
     if length > REPORT {
         return true;
     }
-    print_records(report, 6 * (arrays as usize), length)
+    print_records(report, 8 * (arrays as usize), length)
 }
 
 // A refusal, on standard error and then on standard output.

@@ -9,7 +9,7 @@ use lib.Count.{ones}
 
 -- how many versions an array may have, and so the bits of a set
 abbrev pub width : ℕ
-width = 16
+width = 32
 
 -- the set of every version
 abbrev pub everyVersion : ℕ

@@ -7,13 +7,13 @@ ghost use lib.Count.{trailingZeros};
 ghost use Rattle.sets.specs.Sets.{width, has, minus, several};
 
 // A version set.
-pub type Set = u16;
+pub type Set = u32;
 
 // How many versions an array may have, and so the bits of a set.
-pub const WIDTH: usize = 16;
+pub const WIDTH: usize = 32;
 
 // The set of every version.
-pub const EVERY: Set = 0xffff;
+pub const EVERY: Set = 0xffff_ffff;
 
 // Whether version k is in the set.
 pub fn member(set: Set, k: u8) -> bool
@@ -42,7 +42,7 @@ pub fn difference(a: Set, b: Set) -> Set
 pub fn more_than_one(set: Set) -> bool
     ensures { λ r. ⌜ r ≡ several set ⌝ }
 {
-    u16::count_ones(set) > 1
+    u32::count_ones(set) > 1
 }
 
 // The lowest version of the set.
@@ -50,5 +50,5 @@ pub fn lowest(set: Set) -> u8
     requires { ⌜ 0 < set ⌝ }
     ensures { λ r. ⌜ r ≡ trailingZeros width set ⌝ }
 {
-    u16::trailing_zeros(set) as u8
+    u32::trailing_zeros(set) as u8
 }

@@ -59,16 +59,16 @@ pub decimal-text : {n k : ℕ} → Fewest 10 1 n k → n < 2 ^ 64 → digits 10 
 unfolding decimal
 decimal-text {n} {k} few h = decimal-is 20 k n few (fewest-le 10 1 20 n k (omega arith) (omega arith) few (omega arith))
 
-pub mask-four : (n k : ℕ) → Fewest 16 4 (n % 65536) k → k ≡ 4
-mask-four n k few = le-antisymm (fewest-le 16 4 4 (n % 65536) k (omega arith) (omega arith) few (omega arith)) (few .0)
+pub mask-eight : (n k : ℕ) → Fewest 16 8 (n % 4294967296) k → k ≡ 8
+mask-eight n k few = le-antisymm (fewest-le 16 8 8 (n % 4294967296) k (omega arith) (omega arith) few (omega arith)) (few .0)
 
-pub mask-text : (n k : ℕ) → Fewest 16 4 (n % 65536) k → digits 16 k (n % 65536) ≡ mask n
+pub mask-text : (n k : ℕ) → Fewest 16 8 (n % 4294967296) k → digits 16 k (n % 4294967296) ≡ mask n
 unfolding mask
-mask-text n k few = ap (λ (j : ℕ). digits 16 j (n % 65536)) (mask-four n k few)
+mask-text n k few = ap (λ (j : ℕ). digits 16 j (n % 4294967296)) (mask-eight n k few)
 
 pub decimal-length : {n k : ℕ} → Fewest 10 1 n k → n < 2 ^ 64 → k ≤ 20
 decimal-length {n} {k} few h = fewest-le 10 1 20 n k (omega arith) (omega arith) few (omega arith)
 
-pub mask-length : (n : ℕ) → length (mask n) ≡ 4
+pub mask-length : (n : ℕ) → length (mask n) ≡ 8
 unfolding mask
-mask-length n = digits-length 16 4 (n % 65536)
+mask-length n = digits-length 16 8 (n % 4294967296)

@@ -19,9 +19,9 @@ decimalIn (suc k) n = cond (ltb n 10) [] (decimalIn k (n / 10)) ++ (glyph (n % 1
 unfoldable pub decimal : ℕ → List ℕ
 decimal n = decimalIn 20 n
 
--- a mask as four hexadecimal digits
+-- a mask as eight hexadecimal digits
 unfoldable pub mask : ℕ → List ℕ
-mask n = digits 16 4 (n % 65536)
+mask n = digits 16 8 (n % 4294967296)
 
 -- a version; 255 is none, and shown as `-`
 unfoldable pub versionText : ℕ → List ℕ
@@ -41,7 +41,7 @@ CHARACTER = 1
 abbrev pub VERSION : ℕ
 VERSION = 2
 
--- four hexadecimal digits
+-- eight hexadecimal digits
 abbrev pub MASK : ℕ
 MASK = 3
 

@@ -28,14 +28,14 @@ fn put_decimal(out: &mut [u8], n: u64) -> usize
     bytes::copy(&digits[..k], out)
 }
 
-// A mask as four hexadecimal digits.
+// A mask as eight hexadecimal digits.
 fn put_mask(out: &mut [u8], n: u64) -> usize
     requires { ⌜ 20 ≤ length (now out) ⌝ }
     ensures { λ r. ⌜ r ≡ length (mask n) ⌝ }
     ensures { λ _. ⌜ now (out .exit) ≡ wrote (now (out .entry)) (mask n) ⌝ }
 {
     let mut digits = [0u8; 16];
-    let k = io::hex(n % 65536, 4, &mut digits);
+    let k = io::hex(n % 4294967296, 8, &mut digits);
     bytes::copy(&digits[..k], out)
 }
 

@@ -86,7 +86,7 @@ module _ (file path : List ℕ) where
       rw length-append
       (omega (arith, entries-length (λ a. stateAfter file path a (steps path)) (arrays file), ap length (records-bytes file path), on-path (steps path)))
 
-  -- six bytes an array, and then the records
-  pub report-parts : length (reportBytes file path) ≡ 6 * arrays file + length (recordsBytes (runRecords file path))
+  -- eight bytes an array, and then the records
+  pub report-parts : length (reportBytes file path) ≡ 8 * arrays file + length (recordsBytes (runRecords file path))
   unfolding reportBytes entries
   report-parts = rw length-append (omega (arith, entries-length (λ a. stateAfter file path a (steps path)) (arrays file)))

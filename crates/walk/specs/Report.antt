@@ -21,7 +21,7 @@ unfoldable pub reportBytes : List ℕ → List ℕ → List ℕ
 unfolding entries runRecords
 reportBytes file path = entries file path ++ recordsBytes (runRecords file path)
 
--- ---- the length: six bytes an array, ten a reference on the path
+-- ---- the length: eight bytes an array, ten a reference on the path
 
 -- references at the first n vertices of the path
 unfoldable pub referencesOn : List ℕ → List ℕ → ℕ → ℕ
@@ -31,4 +31,4 @@ referencesOn file path n = total (λ i. referencesAt file (vertexAt path i)) n
 -- the report's length
 unfoldable pub reportLength : List ℕ → List ℕ → ℕ
 unfolding referencesOn
-reportLength file path = 6 * arrays file + 10 * referencesOn file path (steps path)
+reportLength file path = 8 * arrays file + 10 * referencesOn file path (steps path)

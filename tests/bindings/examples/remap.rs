@@ -39,6 +39,11 @@ fn word(bytes: &[u8], at: usize) -> usize {
     usize::from(u16::from_le_bytes([bytes[at], bytes[at + 1]]))
 }
 
+/// A set of versions.
+fn set(bytes: &[u8], at: usize) -> u32 {
+    u32::from_le_bytes([bytes[at], bytes[at + 1], bytes[at + 2], bytes[at + 3]])
+}
+
 /// The bytes that a call wrote into a buffer, or its refusal in words.
 fn written(call: &str, answer: Outcome, mut out: Vec<u8>) -> Result<Vec<u8>, String> {
     let Outcome {
@@ -72,15 +77,15 @@ fn print_plan(plan: &[u8]) {
     let vertices = word(plan, 4);
     let (contents, labels) = plan[8..].split_at(4 * vertices);
     for (vertex, entry) in contents.chunks_exact(4).enumerate() {
-        let here = labels.chunks_exact(8).skip(word(entry, 0));
+        let here = labels.chunks_exact(12).skip(word(entry, 0));
         for label in here.take(word(entry, 2)) {
             let (array, letter, leaving) = (label[0], char::from(label[1]), label[2]);
             print!("vertex {vertex}: array {array} ");
             if letter == 'N' {
                 println!("is not copied");
             } else {
-                let kept = word(label, 6);
-                println!("leaves as version {leaving}, use {letter}, keep {kept:04x}");
+                let kept = set(label, 8);
+                println!("leaves as version {leaving}, use {letter}, keep {kept:08x}");
             }
         }
     }
@@ -88,14 +93,14 @@ fn print_plan(plan: &[u8]) {
 
 fn print_report(report: &[u8]) {
     let arrays = word(&ROUTINE, 8);
-    let (heads, records) = report.split_at(6 * arrays);
-    for (array, head) in heads.chunks_exact(6).enumerate() {
+    let (heads, records) = report.split_at(8 * arrays);
+    for (array, head) in heads.chunks_exact(8).enumerate() {
         let copies = match word(head, 0) {
             1 => String::from("1 copy"),
             more => format!("{more} copies"),
         };
-        let (live, current) = (word(head, 2), head[4]);
-        println!("array {array}: {copies}, live {live:04x}, current {current}");
+        let (live, current) = (set(head, 2), head[6]);
+        println!("array {array}: {copies}, live {live:08x}, current {current}");
     }
     for record in records.chunks_exact(10) {
         let (step, version, kind) = (word(record, 0), record[3], record[4]);

@@ -19,12 +19,12 @@
 //! routine.extend([0x00, 0x20, 0x41, 0x80, 0x10, 0x00]); // 1 define, 2 remap to 1, 3 kill, 4 read
 //! routine.extend([0, 0, 1, 0, 1, 0, 2, 0, 2, 0, 3, 0, 3, 0, 4, 0, 4, 0, 5, 0]); // edges 0-1 to 4-5
 //! let path = [0, 0, 1, 0, 2, 0, 3, 0, 4, 0];
-//! let mut report = [0; 36];
+//! let mut report = [0; 38];
 //! let answer = hpf_remap::run(&routine, &path, &mut report);
-//! assert_eq!((answer.number, answer.first), (0, 36));
-//! assert_eq!(report[..6], [0, 0, 2, 0, 1, 0]); // nothing was copied, version 1 is live and current
-//! assert_eq!(report[16..26], [4, 0, 0, 1, 4, 0, 0, 0, 0, 0]); // step 4 kills version 1
-//! assert_eq!(report[26..36], [5, 0, 0, 1, 1, 0, 0, 0, 0, 0]); // step 5 reads it and sees 0
+//! assert_eq!((answer.number, answer.first), (0, 38));
+//! assert_eq!(report[..8], [0, 0, 2, 0, 0, 0, 1, 0]); // no copy, version 1 is live and current
+//! assert_eq!(report[18..28], [4, 0, 0, 1, 4, 0, 0, 0, 0, 0]); // step 4 kills version 1
+//! assert_eq!(report[28..38], [5, 0, 0, 1, 1, 0, 0, 0, 0, 0]); // step 5 reads it and sees 0
 //! ```
 //!
 //! [`convert`] makes a routine of a directive file, which says `distribute`, `align`,
@@ -72,10 +72,10 @@ pub const LARGEST_ROUTINE: usize = 6194;
 pub const LARGEST_DIRECTIVES: usize = 9334;
 
 /// So many bytes suffice for any plan.
-pub const LARGEST_PLAN: usize = 17_416;
+pub const LARGEST_PLAN: usize = 25_608;
 
 /// So many bytes suffice for any report.
-pub const LARGEST_REPORT: usize = 327_648;
+pub const LARGEST_REPORT: usize = 327_664;
 
 /// So many bytes suffice for the rounds of any routine.
 pub const LARGEST_ROUNDS: usize = 12;
@@ -93,7 +93,7 @@ pub const LONGEST_PATH: usize = 4096;
 /// | number | why | first place |
 /// |---|---|---|
 /// | 40 | a directive file is malformed | first byte of the first wrong field, or the length |
-/// | 41 | the directives give an array more than 16 mappings | array |
+/// | 41 | the directives give an array more than 32 mappings | array |
 /// | 42 | a directive can leave an array that it remaps in two mappings | vertex; array |
 /// | 10 | the routine has under 18 bytes, or a wrong mark | the length, or 0 |
 /// | 11 | its edition is not 1 | 4 |

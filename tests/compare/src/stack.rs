@@ -14,7 +14,7 @@ use std::fmt;
 use std::ptr::null_mut;
 
 /// What include/hpf_remap.h says.
-pub const LIMIT: usize = 48 * 1024;
+pub const LIMIT: usize = 65 * 1024;
 
 const SIZE: usize = 256 * 1024;
 const PAINT: u8 = 0xa5;

@@ -166,11 +166,11 @@ fn lengths(oracle: &Library, input: &Input) -> Vec<usize> {
             vec![needed + SPARE, needed, needed - 1, 0]
         }
         // A directive file is longer than its routine. In a routine a call's byte becomes two labels
-        // of 8 bytes, its row three of the plan's contents of 4.
+        // of 12 bytes, its row three of the plan's contents of 4.
         _ => match input {
             Input::Convert { directives } => vec![SPARE + directives.len().min(LONGEST_FILE), 0],
             Input::Rounds { .. } => vec![SPARE + LONGEST_ROUNDS, 0],
-            _ => vec![SPARE + LONGEST_PLAN.min(30 * input.file().len()), 0],
+            _ => vec![SPARE + LONGEST_PLAN.min(40 * input.file().len()), 0],
         },
     }
 }

@@ -8,12 +8,14 @@ use oracle::calls::{self, Part, Place, Room, is_call};
 use oracle::labels::fixpoint;
 use oracle::machine;
 use oracle::outcome::Outcome;
-use oracle::routine::{HEAD, Kind, MAX_ARRAYS, Routine};
-use oracle::run::vertices;
+use oracle::plan::LABEL;
+use oracle::record::RECORD;
+use oracle::routine::{HEAD, Kind, MAX_ARRAYS, MAX_VERSIONS, Routine, Set};
+use oracle::run::{ENTRY, vertices};
 use std::fmt;
 
 /// The shares that are counted, and the least that each must be in percent.
-const SHARES: [(&str, u64); 57] = [
+const SHARES: [(&str, u64); 67] = [
     ("plans drawn: accepted", 40),
     ("plans drawn: with calls", 50),
     ("plans drawn: two arrays of each kind", 10),
@@ -34,6 +36,11 @@ const SHARES: [(&str, u64); 57] = [
     ("  one that does not pass every array", 20),
     ("accepted plans: with a kill", 25),
     ("  planned otherwise with modifies in its place", 12),
+    ("accepted plans: an array of 17 versions or more", 20),
+    ("labels of accepted plans: a version above 15", 10),
+    ("  that leaves", 4),
+    ("  in the reaching set", 8),
+    ("  in the kept set", 8),
     ("labels of accepted plans: N", 20),
     ("labels of accepted plans: D", 4),
     ("labels of accepted plans: R", 10),
@@ -49,6 +56,9 @@ const SHARES: [(&str, u64); 57] = [
     ("accepted runs: with a kill", 15),
     ("  a read or modify that sees what it left", 5),
     ("  and after a copy of that", 2),
+    ("accepted runs: a record in a version above 15", 10),
+    ("  one live", 10),
+    ("  one current, with a copy", 5),
     ("accepted runs: to the exit, in argument", 30),
     ("  its last label not home", 20),
     ("  with a copy of it", 15),
@@ -68,9 +78,11 @@ const SHARES: [(&str, u64); 57] = [
     ("  a redistribute that remaps nothing matters", 3),
     ("  a directive that no path gets to", 3),
     ("  with a kill", 15),
+    ("  of 17 mappings or more", 2),
     ("converted runs: accepted", 60),
     ("  a reference in another version than 0", 15),
     ("  a kill in the report", 10),
+    ("  a reference in a version above 15", 1),
 ];
 
 /// A part of a whole.
@@ -233,7 +245,7 @@ impl Drawn {
 
     fn count_labels(&mut self, routine: &Routine, plan: &[u8]) {
         let vertices = routine.vertex_count() + 2 * routine.call_count();
-        for label in plan[8 + 4 * vertices..].chunks_exact(8) {
+        for label in plan[8 + 4 * vertices..].chunks_exact(LABEL) {
             for (name, letter) in [
                 ("labels of accepted plans: N", b'N'),
                 ("labels of accepted plans: D", b'D'),
@@ -244,13 +256,22 @@ impl Drawn {
             }
             let kind = routine.array(usize::from(label[0])).kind;
             self.one("labels of accepted plans: in", kind == Kind::In);
+            let leaves = (16..MAX_VERSIONS as u8).contains(&label[2]);
+            let [reaching, kept] = [4, 8].map(|at| set(label, at) > 0xffff);
+            let any = leaves || reaching || kept;
+            self.one("labels of accepted plans: a version above 15", any);
+            self.one("  that leaves", leaves);
+            self.one("  in the reaching set", reaching);
+            self.one("  in the kept set", kept);
         }
+        let is_wide = routine.is_wide();
+        self.one("accepted plans: an array of 17 versions or more", is_wide);
     }
 
     fn count_run(&mut self, routine: &Routine, path: &[usize], report: &[u8]) {
-        let (heads, records) = report.split_at(6 * routine.array_count());
+        let (heads, records) = report.split_at(ENTRY * routine.array_count());
         let each = heads
-            .chunks_exact(6)
+            .chunks_exact(ENTRY)
             .map(|head| usize::from(u16::from_le_bytes([head[0], head[1]])));
         let each: Vec<usize> = each.collect();
         let copies: usize = each.iter().sum();
@@ -264,6 +285,15 @@ impl Drawn {
         self.one("accepted runs: with a record", !records.is_empty());
         self.one("accepted runs: without record", records.is_empty());
         self.count_kill_records(records);
+        let mut records = records.chunks_exact(RECORD);
+        let above = |version: u8| (16..MAX_VERSIONS as u8).contains(&version);
+        let used = records.any(|record| above(record[3]));
+        self.one("accepted runs: a record in a version above 15", used);
+        let mut entries = heads.chunks_exact(ENTRY);
+        let live = entries.clone().any(|entry| set(entry, 2) > 0xffff);
+        self.one("  one live", live);
+        let current = entries.any(|entry| entry[0] > 0 && above(entry[6]));
+        self.one("  one current, with a copy", current);
         let some_in = |test: &dyn Fn(usize) -> bool| {
             let mut ins = (0..arrays.len()).filter(|&array| arrays[array].kind == Kind::In);
             at_exit && ins.any(test)
@@ -282,7 +312,7 @@ impl Drawn {
     fn count_kill_records(&mut self, records: &[u8]) {
         let mut killed = [None; MAX_ARRAYS];
         let (mut kills, mut seen, mut copied) = (false, false, false);
-        for record in records.chunks_exact(10) {
+        for record in records.chunks_exact(RECORD) {
             let (array, version, kind) = (usize::from(record[2]), record[3], record[4]);
             if kind % 2 == 1 {
                 seen |= killed[array].is_some();
@@ -325,6 +355,11 @@ impl Drawn {
             .map(|((name, _), _)| *name)
             .collect()
     }
+}
+
+/// The set at a place.
+fn set(bytes: &[u8], at: usize) -> Set {
+    Set::from_le_bytes([bytes[at], bytes[at + 1], bytes[at + 2], bytes[at + 3]])
 }
 
 fn has_two_of_each_kind(routine: &Routine) -> bool {

@@ -7,6 +7,7 @@ mod kills;
 mod plans;
 mod rounds;
 mod runs;
+mod versions;
 
 use crate::drawn::Drawn;
 use crate::drive::{
@@ -132,7 +133,7 @@ fn the_oracle_agrees_with_itself() {
         ("converted run, refused directives", 50),
         ("conversion, all of four vertices", 7 * 7 * (1 << 9)),
         ("conversion, as drawn", 150),
-        ("conversion, chain with gaps", 50),
+        ("conversion, chain with gaps", 25),
         ("conversion, every byte damaged", 255 * damaged),
         (
             "conversion, every length",
@@ -140,8 +141,9 @@ fn the_oracle_agrees_with_itself() {
         ),
         ("conversion, far too long", 3),
         ("conversion, largest cut", 98),
-        ("conversion, limits", 17 + 12 + 8),
+        ("conversion, limits", 24 + 12 + 8),
         ("conversion, made acceptable", 100),
+        ("conversion, many mappings", 25),
         ("conversion, named", named.len() as u64),
         ("conversion, named and varied", 100),
         (
@@ -159,7 +161,7 @@ fn the_oracle_agrees_with_itself() {
         ("plan, graph as drawn", 200),
         ("plan, graph made acceptable", 200),
         ("plan, in arguments", 200),
-        ("plan, limits", 54 + 11),
+        ("plan, limits", 57 + 11),
         ("plan, named", 16),
         ("plan, program as drawn", 400),
         ("plan, program made acceptable", 200),
@@ -174,7 +176,7 @@ fn the_oracle_agrees_with_itself() {
         ("run, every path length", paths + 11 * 8),
         ("run, far too long", 6),
         ("run, in arguments to the exit", 200),
-        ("run, limits", 10 + 54),
+        ("run, limits", 10 + 57),
         ("run, named", 38),
         ("run, path along edges", 300),
         ("run, path into a call", 100),
@@ -214,6 +216,11 @@ fn a_poor_generator() {
             "  one that does not pass every array",
             "accepted plans: with a kill",
             "  planned otherwise with modifies in its place",
+            "accepted plans: an array of 17 versions or more",
+            "labels of accepted plans: a version above 15",
+            "  that leaves",
+            "  in the reaching set",
+            "  in the kept set",
             "labels of accepted plans: D",
             "labels of accepted plans: R",
             "labels of accepted plans: W",
@@ -225,6 +232,9 @@ fn a_poor_generator() {
             "accepted runs: with a kill",
             "  a read or modify that sees what it left",
             "  and after a copy of that",
+            "accepted runs: a record in a version above 15",
+            "  one live",
+            "  one current, with a copy",
             "accepted runs: to the exit, in argument",
             "  its last label not home",
             "  with a copy of it",

@@ -8,10 +8,10 @@ use oracle::calls::Room;
 use oracle::generate::limits;
 use oracle::generate::rng::Rng;
 use oracle::generate::routines::{self, Size};
-use oracle::labels::fixpoint::Solved;
+use oracle::labels::fixpoint::{Solved, Wide};
 use oracle::labels::{Label, Labels, fixpoint, literal, search};
 use oracle::outcome::Refusal;
-use oracle::routine::Routine;
+use oracle::routine::{MAX_VERSIONS, Routine};
 use std::cell::RefCell;
 
 const SEED: u64 = 1;
@@ -96,6 +96,14 @@ fn all_routines_of_four_vertices() {
     }
 }
 
+/// Few, or so many that sets have 32 bits.
+fn any_versions(rng: &mut Rng) -> usize {
+    match rng.below(4) {
+        0 => rng.between(17, MAX_VERSIONS),
+        _ => rng.between(1, 3),
+    }
+}
+
 #[test]
 fn small_graphs() {
     for index in 0..20_000 {
@@ -103,7 +111,7 @@ fn small_graphs() {
         let size = Size {
             vertices: rng.between(2, 8),
             arrays: rng.between(1, 2),
-            versions: rng.between(1, 3),
+            versions: any_versions(&mut rng),
             calls: routines::any_calls(&mut rng),
         };
         let edges = rng.between(size.vertices - 1, 2 * size.vertices);
@@ -124,7 +132,7 @@ fn small_programs() {
         let size = Size {
             vertices: rng.between(3, 12),
             arrays: rng.between(1, 2),
-            versions: rng.between(1, 3),
+            versions: any_versions(&mut rng),
             calls: routines::any_calls(&mut rng),
         };
         let mut draft = routines::program(&mut rng, size);
@@ -149,11 +157,11 @@ fn routines_of_any_size() {
     }
 }
 
-/// Tables that were used before give the same labels.
+/// Tables that were used before give the same labels, also where narrow sets would do.
 #[test]
 fn tables_used_again() {
     let seed = SEED + 3;
-    let tables = RefCell::new(Solved::EMPTY);
+    let tables = RefCell::new(Solved::<Wide>::EMPTY);
     for index in 0..1000 {
         let mut rng = Rng::for_input(seed, index);
         let size = Size::any(&mut rng);

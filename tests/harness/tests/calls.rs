@@ -8,7 +8,7 @@ use oracle::calls::{Call, Part, Place, Room};
 use oracle::generate::rng::Rng;
 use oracle::generate::routines::{self, Size};
 use oracle::generate::{limits, paths};
-use oracle::labels::fixpoint::Solved;
+use oracle::labels::fixpoint::{Solved, Wide};
 use oracle::outcome::Outcome;
 use oracle::routine::{Action, Array, MAX_EDGES, Routine};
 use oracle::run::{MAX_PATH, check_path, vertices};
@@ -72,7 +72,7 @@ fn names_the_same(file: &[u8], path: &[u8]) -> Result<usize, String> {
     let Ok(parsed) = Routine::parse(file) else {
         return Ok(0);
     };
-    let (mut solved, mut room) = (Solved::EMPTY, Room::EMPTY);
+    let (mut solved, mut room) = (Solved::<Wide>::EMPTY, Room::EMPTY);
     let Ok(routine) = solved.accept(&parsed, &mut room) else {
         return Ok(0);
     };

@@ -8,9 +8,9 @@ use oracle::demand3;
 use oracle::generate::rng::Rng;
 use oracle::generate::routines::{self, Size};
 use oracle::generate::{limits, paths};
-use oracle::labels::fixpoint::{self, Solved};
+use oracle::labels::fixpoint::{self, Solved, Wide};
 use oracle::routine::Routine;
-use oracle::run::{LONGEST_REPORT, MAX_PATH, check_path, run};
+use oracle::run::{ENTRY, LONGEST_REPORT, MAX_PATH, check_path, run};
 
 const SEED: u64 = 2;
 
@@ -20,7 +20,7 @@ fn holds(file: &[u8], path: &[u8]) -> Result<(), String> {
     let Ok(parsed) = Routine::parse(file) else {
         return Ok(());
     };
-    let (mut solved, mut room) = (Solved::EMPTY, Room::EMPTY);
+    let (mut solved, mut room) = (Solved::<Wide>::EMPTY, Room::EMPTY);
     let (accepted, routine) = match solved.accept(&parsed, &mut room) {
         Ok(routine) => (true, routine),
         Err(_) if parsed.call_count() == 0 => (false, parsed),
@@ -121,9 +121,9 @@ fn the_most_copies() {
         limits::ring_of_labels().bytes(),
         path_bytes(&limits::round_the_ring()),
     );
-    let mut report = [0; 48];
+    let mut report = [0; 8 * ENTRY];
     assert_eq!(run(&file, &path, &mut report).number, 0);
-    for head in report.chunks_exact(6) {
+    for head in report.chunks_exact(ENTRY) {
         assert_eq!(u16::from_le_bytes([head[0], head[1]]), 4095);
     }
 }
@@ -135,16 +135,16 @@ fn invented_records_are_found() {
     let file = draft.bytes();
     let path = path_bytes(&[0, 1, 2, 3, 4]);
     let routine = Routine::parse(&file).unwrap();
-    let mut report = [0; 26];
+    let mut report = [0; 28];
     assert_eq!(run(&file, &path, &mut report).number, 0);
     assert_eq!(demand3::of_report(&routine, &path, &report), Ok(()));
     // Copies above the machine's count, a wrong version, kind, zero, stamps.
-    for (place, byte) in [(0, 3), (9, 1), (10, 1), (11, 1), (14, 3), (22, 3), (24, 1)] {
+    for (place, byte) in [(0, 3), (11, 1), (12, 1), (13, 1), (16, 3), (24, 3), (26, 1)] {
         let mut wrong = report;
         wrong[place] = byte;
         assert!(demand3::of_report(&routine, &path, &wrong).is_err());
     }
-    assert!(demand3::of_report(&routine, &path, &report[..16]).is_err());
+    assert!(demand3::of_report(&routine, &path, &report[..18]).is_err());
 }
 
 /// A full path's report in which the caller's copy of an in argument is not live, not alone or not
@@ -154,11 +154,21 @@ fn a_lost_callers_copy_is_found() {
     let file = builder::read_only().bytes();
     let path = path_bytes(&[0, 1, 2, 3]);
     let routine = Routine::parse(&file).unwrap();
-    let mut report = [0; 16];
+    let mut report = [0; 18];
     assert_eq!(run(&file, &path, &mut report).number, 0);
-    assert_eq!(report[..6], [1, 0, 1, 0, 0, 0]);
+    assert_eq!(report[..8], [1, 0, 1, 0, 0, 0, 0, 0]);
     assert_eq!(demand3::of_report(&routine, &path, &report), Ok(()));
-    for (place, byte) in [(0, 2), (2, 0), (2, 2), (2, 3), (3, 1), (4, 1), (4, 255)] {
+    for (place, byte) in [
+        (0, 2),
+        (2, 0),
+        (2, 2),
+        (2, 3),
+        (3, 1),
+        (4, 1),
+        (5, 128),
+        (6, 1),
+        (6, 255),
+    ] {
         let mut wrong = report;
         wrong[place] = byte;
         assert!(demand3::of_report(&routine, &path, &wrong).is_err());

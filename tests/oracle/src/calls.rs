@@ -1,7 +1,7 @@
 //! Calls with interfaces (request 3 of document 02): each call row becomes three vertices, shared by
 //! the arrays that it passes.
 
-use crate::routine::{Action, MAX_VERTICES, Reference, Routine};
+use crate::routine::{Action, MAX_VERTICES, Reference, Routine, Set};
 
 /// What a call does with an array that it passes. None kills it.
 #[derive(Clone, Copy, Debug, PartialEq, Eq)]
@@ -117,7 +117,7 @@ impl Room {
 /// 21 is given otherwise, and none if no path gets there.
 pub fn expanded<'a>(
     file: &Routine<'a>,
-    arriving: impl Fn(usize, usize) -> u16,
+    arriving: impl Fn(usize, usize) -> Set,
     room: &'a mut Room,
 ) -> Routine<'a> {
     if file.call_count() == 0 {

@@ -4,14 +4,14 @@
 
 use crate::labels::{Labels, refusal_20};
 use crate::machine;
-use crate::record::Record;
-use crate::routine::{Array, Event, Kind, Reference, Routine};
-use crate::run::{self, Copies};
+use crate::record::{RECORD, Record};
+use crate::routine::{Array, Event, Kind, Reference, Routine, Set};
+use crate::run::{self, Copies, ENTRY};
 
 /// What a report shows of an array.
 struct Head {
     copied: usize,
-    live: u16,
+    live: Set,
     current: Option<u8>,
 }
 
@@ -125,7 +125,7 @@ fn check(routine: &Routine, path: &[usize], shown: &Shown) -> Result<(), String>
         let callers = (1 << record.initial, Some(record.initial));
         if is_full(routine, path) && record.kind == Kind::In && (live, current) != callers {
             return Err(format!(
-                "array {array}: live {live:04x}, current {current:?} at the exit, not the caller's"
+                "array {array}: live {live:08x}, current {current:?} at the exit, not the caller's"
             ));
         }
         if copied > machines[array].count {
@@ -153,17 +153,17 @@ fn last_label_version(routine: &Routine, path: &[usize], record: &Record) -> Opt
 
 /// Reads a report's bytes.
 fn read(routine: &Routine, report: &[u8]) -> Result<Shown, String> {
-    let heads = 6 * routine.array_count();
-    if report.len() < heads || !(report.len() - heads).is_multiple_of(10) {
+    let heads = ENTRY * routine.array_count();
+    if report.len() < heads || !(report.len() - heads).is_multiple_of(RECORD) {
         return Err(format!("{} bytes are no report", report.len()));
     }
     let (heads, records) = report.split_at(heads);
-    let heads = heads.as_chunks::<6>().0.iter().map(|head| Head {
+    let heads = heads.as_chunks::<ENTRY>().0.iter().map(|head| Head {
         copied: usize::from(u16::from_le_bytes([head[0], head[1]])),
-        live: u16::from_le_bytes([head[2], head[3]]),
-        current: (head[4] != 255).then_some(head[4]),
+        live: Set::from_le_bytes([head[2], head[3], head[4], head[5]]),
+        current: (head[6] != 255).then_some(head[6]),
     });
-    let records = records.as_chunks::<10>().0.iter().map(|bytes| {
+    let records = records.as_chunks::<RECORD>().0.iter().map(|bytes| {
         let record = Record {
             step: u16::from_le_bytes([bytes[0], bytes[1]]),
             array: bytes[2],

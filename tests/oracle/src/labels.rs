@@ -5,7 +5,7 @@ pub mod literal;
 pub mod search;
 
 use crate::outcome::Refusal;
-use crate::routine::{Event, Kind, Routine};
+use crate::routine::{Event, Kind, Routine, Set};
 
 /// **Use** of a label.
 #[derive(Clone, Copy, Debug, PartialEq, Eq)]
@@ -38,9 +38,9 @@ pub struct Label {
     /// The label's version, whether it leaves or not.
     pub version: u8,
     /// **Reaching** set.
-    pub reaching: u16,
+    pub reaching: Set,
     /// **Kept set**.
-    pub kept: u16,
+    pub kept: Set,
 }
 
 impl Label {
@@ -102,7 +102,7 @@ pub fn refusal_20(file: &Routine) -> Option<Refusal> {
 /// The first reference, or array passed to a call, that two versions may come to. `arriving` gives
 /// those that come, by vertex and array: of the last labels before it on paths from the entry,
 /// dropped ones included. A call is no label, and hands on all that come.
-fn refusal_21(file: &Routine, arriving: impl Fn(usize, usize) -> u16) -> Option<Refusal> {
+fn refusal_21(file: &Routine, arriving: impl Fn(usize, usize) -> Set) -> Option<Refusal> {
     first_event(21, file, |vertex, array, event| {
         let names_one = matches!(event, Event::Reference(_) | Event::Call(_));
         names_one && arriving(vertex, array).count_ones() > 1

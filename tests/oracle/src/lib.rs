@@ -1,4 +1,4 @@
-//! An implementation of document 01, the users' specification, with requests 1 to 6 of document
+//! An implementation of document 01, the users' specification, with requests 1 to 7 of document
 //! 02, in Rust, written from their words and from the readings in docs/DECISIONS.md, to hold the
 //! verified library against.
 //!

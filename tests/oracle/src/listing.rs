@@ -1,9 +1,16 @@
 //! Plans, reports and refusals as the programs print them ("Routine P and others").
 
 use crate::outcome::Outcome;
+use crate::plan::LABEL;
+use crate::record::RECORD;
+use crate::run::ENTRY;
 
 fn word(bytes: &[u8], at: usize) -> usize {
     usize::from(u16::from_le_bytes([bytes[at], bytes[at + 1]]))
+}
+
+fn set(bytes: &[u8], at: usize) -> usize {
+    word(bytes, at) + 65_536 * word(bytes, at + 2)
 }
 
 /// The planner program's lines for a plan.
@@ -14,17 +21,17 @@ pub fn plan(plan: &[u8]) -> String {
     for vertex in 0..vertices {
         let first = word(plan, 8 + 4 * vertex);
         let count = word(plan, 10 + 4 * vertex);
-        for label in labels.chunks_exact(8).skip(first).take(count) {
+        for label in labels.chunks_exact(LABEL).skip(first).take(count) {
             let leaving = match label[2] {
                 255 => String::from("-"),
                 version => version.to_string(),
             };
             text += &format!(
-                "{vertex} {} {} {leaving} {:04x} {:04x}\n",
+                "{vertex} {} {} {leaving} {:08x} {:08x}\n",
                 label[0],
                 char::from(label[1]),
-                word(label, 4),
-                word(label, 6)
+                set(label, 4),
+                set(label, 8)
             );
         }
     }
@@ -33,12 +40,12 @@ pub fn plan(plan: &[u8]) -> String {
 
 /// The run program's lines for a report on so many arrays.
 pub fn report(report: &[u8], arrays: usize) -> String {
-    let (heads, records) = report.split_at(6 * arrays);
+    let (heads, records) = report.split_at(ENTRY * arrays);
     let mut text = String::new();
-    for head in heads.chunks_exact(6) {
-        text += &format!("{} {} {}\n", word(head, 0), word(head, 2), head[4]);
+    for head in heads.chunks_exact(ENTRY) {
+        text += &format!("{} {} {}\n", word(head, 0), set(head, 2), head[6]);
     }
-    for record in records.chunks_exact(10) {
+    for record in records.chunks_exact(RECORD) {
         text += &format!(
             "{} {} {} {} {} {}\n",
             word(record, 0),

@@ -2,6 +2,9 @@
 
 use crate::routine::Reference;
 
+/// The bytes of a record.
+pub const RECORD: usize = 10;
+
 /// One reference on a path.
 #[derive(Clone, Copy, Debug, PartialEq, Eq)]
 pub struct Record {
@@ -18,39 +21,29 @@ pub struct Record {
 impl Record {
     /// The record of a reference that finds this stamp.
     pub fn new(step: u16, array: usize, version: u8, reference: Reference, stamp: u16) -> Record {
-        let (seen, new) = match reference {
-            Reference::Read => (stamp, 0),
-            Reference::Define => (0, step),
-            Reference::Modify => (stamp, step),
-            Reference::Kill => (0, 0),
-        };
+        let sees = matches!(reference, Reference::Read | Reference::Modify);
+        let gives = matches!(reference, Reference::Define | Reference::Modify);
         Record {
             step,
             array: array as u8,
             version,
             reference,
-            seen,
-            new,
+            seen: if sees { stamp } else { 0 },
+            new: if gives { step } else { 0 },
         }
     }
 
-    /// The record's ten bytes in the report.
-    pub fn bytes(&self) -> [u8; 10] {
+    /// The record's bytes in the report.
+    pub fn bytes(&self) -> [u8; RECORD] {
         let [step, step_high] = self.step.to_le_bytes();
         let [seen, seen_high] = self.seen.to_le_bytes();
         let [new, new_high] = self.new.to_le_bytes();
-        let kind = match self.reference {
-            Reference::Read => 1,
-            Reference::Define => 2,
-            Reference::Modify => 3,
-            Reference::Kill => 4,
-        };
         [
             step,
             step_high,
             self.array,
             self.version,
-            kind,
+            self.reference.kind(),
             0,
             seen,
             seen_high,

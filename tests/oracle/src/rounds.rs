@@ -8,10 +8,10 @@
 //! anything on, every number that some order gives.
 
 use crate::calls::Room;
-use crate::labels::fixpoint::Solved;
+use crate::labels::fixpoint::{Solved, Wide};
 use crate::labels::{Label, Labels, Use, literal};
 use crate::outcome::{Outcome, Refusal};
-use crate::routine::{Event, Reference, Routine};
+use crate::routine::{Event, MAX_ARRAYS, Reference, Routine, Set};
 
 /// The most bytes that are written: two for each of six passes.
 pub const LONGEST_ROUNDS: usize = 12;
@@ -19,7 +19,7 @@ pub const LONGEST_ROUNDS: usize = 12;
 /// All orders of so many edges are tried.
 const FEW_EDGES: usize = 6;
 
-const EVERY: u16 = 0xffff;
+const EVERY: Set = !0;
 
 /// Writes the rounds of each pass for a routine file over the front of `out`: those of the order in
 /// which facts travel furthest if the vertices are numbered along the edges.
@@ -30,7 +30,7 @@ pub fn rounds(file: &[u8], out: &mut [u8]) -> Outcome {
 /// The same with the edges of each pass put into another order.
 pub fn rounds_in(file: &[u8], mut order: impl FnMut(&mut [Edge]), out: &mut [u8]) -> Outcome {
     Outcome::of(Routine::parse(file).and_then(|file| {
-        let (mut solved, mut room) = (Solved::EMPTY, Room::EMPTY);
+        let (mut solved, mut room) = (Solved::<Wide>::EMPTY, Room::EMPTY);
         let routine = solved.accept(&file, &mut room)?;
         let out = room_in(out, &file)?;
         let mut passes = passes(&file, &routine, &solved);
@@ -69,7 +69,7 @@ fn write(passes: &[Pass], out: &mut [u8]) -> usize {
 /// What is wrong with the numbers written for an accepted file, in words.
 pub fn fault(file: &[u8], written: &[u8]) -> Option<String> {
     let file = Routine::parse(file).ok()?;
-    let (mut solved, mut room) = (Solved::EMPTY, Room::EMPTY);
+    let (mut solved, mut room) = (Solved::<Wide>::EMPTY, Room::EMPTY);
     let routine = solved.accept(&file, &mut room).ok()?;
     let passes = passes(&file, &routine, &solved);
     let numbers = written.as_chunks::<2>().0.iter().map(number);
@@ -83,8 +83,22 @@ fn number(word: &[u8; 2]) -> usize {
     usize::from(u16::from_le_bytes(*word))
 }
 
-/// A set for each array, 16 bits each.
-type Sets = u128;
+/// A set for each array.
+#[derive(Clone, Copy, Default, PartialEq, Eq)]
+struct Sets([Set; MAX_ARRAYS]);
+
+impl Sets {
+    /// These sets, of each that of the same array.
+    fn joined(self, other: Sets, join: impl Fn(Set, Set) -> Set) -> Sets {
+        Sets(std::array::from_fn(|array| {
+            join(self.0[array], other.0[array])
+        }))
+    }
+
+    fn is_empty(self) -> bool {
+        self == Sets::default()
+    }
+}
 
 /// The end of an edge that hands on, and the one that takes.
 pub type Edge = (usize, usize);
@@ -105,7 +119,7 @@ impl Pass {
     fn against(
         name: &'static str,
         routine: &Routine,
-        facts: impl Fn(usize, usize) -> (u16, u16),
+        facts: impl Fn(usize, usize) -> (Set, Set),
     ) -> Pass {
         let edges = routine.edges().map(|(from, to)| (to, from));
         let mut edges: Vec<Edge> = edges.collect();
@@ -117,7 +131,7 @@ impl Pass {
     fn along(
         name: &'static str,
         routine: &Routine,
-        facts: impl Fn(usize, usize) -> (u16, u16),
+        facts: impl Fn(usize, usize) -> (Set, Set),
     ) -> Pass {
         Pass::new(name, routine, routine.edges().collect(), facts)
     }
@@ -126,18 +140,15 @@ impl Pass {
         name: &'static str,
         routine: &Routine,
         edges: Vec<Edge>,
-        facts: impl Fn(usize, usize) -> (u16, u16),
+        facts: impl Fn(usize, usize) -> (Set, Set),
     ) -> Pass {
         let vertices = 0..routine.vertex_count();
         let row = |vertex: usize| {
-            let arrays = (0..routine.array_count()).rev();
-            arrays.fold((0, 0), |(gives, passes), array| {
-                let (given, passed) = facts(vertex, array);
-                (
-                    gives << 16 | Sets::from(given),
-                    passes << 16 | Sets::from(passed),
-                )
-            })
+            let (mut gives, mut passes) = (Sets::default(), Sets::default());
+            for array in 0..routine.array_count() {
+                (gives.0[array], passes.0[array]) = facts(vertex, array);
+            }
+            (gives, passes)
         };
         let (gives, passes) = vertices.map(row).unzip();
         Pass {
@@ -150,7 +161,14 @@ impl Pass {
     }
 
     fn handed(&self, sets: &[Sets], far: usize) -> Sets {
-        self.gives[far] | sets[far] & self.passes[far]
+        let passed = sets[far].joined(self.passes[far], |held, passes| held & passes);
+        passed.joined(self.gives[far], |passed, gives| passed | gives)
+    }
+
+    /// The set at an edge's near end, with what its far end hands on.
+    fn after(&self, sets: &[Sets], far: usize, near: usize) -> Sets {
+        let handed = self.handed(sets, far);
+        handed.joined(sets[near], |handed, held| handed | held)
     }
 
     /// The number of rounds if each takes these edges in this order.
@@ -158,16 +176,16 @@ impl Pass {
         if !self.made {
             return 0;
         }
-        let mut sets = vec![0; self.gives.len()];
+        let mut sets = vec![Sets::default(); self.gives.len()];
         let mut rounds = 0;
         let mut altered = true;
         while altered {
             altered = false;
             rounds += 1;
             for &(far, near) in edges {
-                let handed = self.handed(&sets, far);
-                altered |= handed & !sets[near] != 0;
-                sets[near] |= handed;
+                let after = self.after(&sets, far, near);
+                altered |= after != sets[near];
+                sets[near] = after;
             }
         }
         rounds
@@ -176,13 +194,14 @@ impl Pass {
     /// The sets in the end, and the number of rounds if every edge handed on what its far end held
     /// when the round began. No order takes more: round by round its sets have all that these have.
     fn slowest(&self) -> (Vec<Sets>, usize) {
-        let mut sets = vec![0; self.gives.len()];
+        let mut sets = vec![Sets::default(); self.gives.len()];
         let mut rounds = 0;
         loop {
             rounds += 1;
             let before = sets.clone();
             for &(far, near) in &self.edges {
-                sets[near] |= self.handed(&before, far);
+                let handed = self.handed(&before, far);
+                sets[near] = handed.joined(sets[near], |handed, held| handed | held);
             }
             if sets == before {
                 return (sets, rounds);
@@ -215,7 +234,7 @@ impl Pass {
         // others, the first round alters a set: one of them starts at a vertex that gives.
         let (sets, most) = self.slowest();
         let mut edges = self.edges.clone();
-        edges.retain(|&(far, _)| self.handed(&sets, far) != 0);
+        edges.retain(|&(far, _)| !self.handed(&sets, far).is_empty());
         let least = if edges.is_empty() { 1 } else { 2 };
         if number < least || most < number {
             return Some(format!("any order takes {least} to {most}"));
@@ -251,7 +270,7 @@ fn passes(file: &Routine, routine: &Routine, labels: &impl Labels) -> Vec<Pass> 
 /// Labels by vertex, then array.
 type Rows = [Vec<Option<Label>>];
 
-fn version_if(given: bool, version: u8) -> u16 {
+fn version_if(given: bool, version: u8) -> Set {
     if given { 1 << version } else { 0 }
 }
 
@@ -271,7 +290,7 @@ fn letters(routine: &Routine) -> Pass {
 
 /// Whether a path from the entry gets to a vertex.
 fn reached(name: &'static str, routine: &Routine) -> Pass {
-    Pass::along(name, routine, |vertex, _| (u16::from(vertex == 0), 1))
+    Pass::along(name, routine, |vertex, _| (Set::from(vertex == 0), 1))
 }
 
 /// Whether each vertex but the entry is entered from one with a lower number.
@@ -289,7 +308,7 @@ fn marks(reached: &Pass) -> Vec<bool> {
     let (sets, _) = reached.slowest();
     let marks = sets.iter().enumerate();
     marks
-        .map(|(vertex, &set)| vertex == 0 || set != 0)
+        .map(|(vertex, &set)| vertex == 0 || !set.is_empty())
         .collect()
 }
 

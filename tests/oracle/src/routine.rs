@@ -4,7 +4,7 @@ use crate::calls::{Call, Intent};
 use crate::outcome::Refusal;
 
 pub const MAX_ARRAYS: usize = 8;
-pub const MAX_VERSIONS: usize = 16;
+pub const MAX_VERSIONS: usize = 32;
 pub const MAX_VERTICES: usize = 256;
 pub const MAX_EDGES: usize = 1024;
 
@@ -19,6 +19,9 @@ pub const HEAD: usize = 18;
 
 /// The length of the longest file that is accepted.
 pub const LONGEST_FILE: usize = HEAD + 4 * MAX_ARRAYS + MAX_ARRAYS * MAX_VERTICES + 4 * MAX_EDGES;
+
+/// A version set, bit k for version k.
+pub type Set = u32;
 
 /// Kind of an array; the last three are arguments.
 #[derive(Clone, Copy, Debug, PartialEq, Eq)]
@@ -54,16 +57,29 @@ pub struct Array {
     pub initial: u8,
 }
 
+/// References, each with its kind in a report.
 #[derive(Clone, Copy, Debug, PartialEq, Eq)]
 pub enum Reference {
-    Read,
-    Define,
-    Modify,
+    Read = 1,
+    Define = 2,
+    Modify = 3,
     /// A define whose new stamp is 0 (request 6).
-    Kill,
+    Kill = 4,
 }
 
 impl Reference {
+    /// The reference that a byte stands for, if it does.
+    #[inline(always)]
+    pub const fn from_byte(byte: u8) -> Option<Reference> {
+        match byte {
+            0x10 => Some(Reference::Read),
+            0x20 => Some(Reference::Define),
+            0x30 => Some(Reference::Modify),
+            0x80 => Some(Reference::Kill),
+            _ => None,
+        }
+    }
+
     /// A kill is a define in every rule but that of the new stamp.
     pub fn is_define(self) -> bool {
         matches!(self, Reference::Define | Reference::Kill)
@@ -72,6 +88,11 @@ impl Reference {
     /// All but a read change the array.
     pub fn changes(self) -> bool {
         self != Reference::Read
+    }
+
+    /// Its kind in a report.
+    pub fn kind(self) -> u8 {
+        self as u8
     }
 }
 
@@ -86,14 +107,13 @@ pub enum Action {
 impl Action {
     /// The action that a byte stands for, or none for an unknown byte.
     pub const fn from_byte(byte: u8) -> Option<Action> {
+        if let Some(reference) = Reference::from_byte(byte) {
+            return Some(Action::Reference(reference));
+        }
         match byte {
             0x00 => Some(Action::Nothing),
-            0x10 => Some(Action::Reference(Reference::Read)),
-            0x20 => Some(Action::Reference(Reference::Define)),
-            0x30 => Some(Action::Reference(Reference::Modify)),
-            0x40..=0x4f => Some(Action::Remap(byte - 0x40)),
+            0x40..=0x5f => Some(Action::Remap(byte - 0x40)),
             0x60..=0x7f => Some(Action::Call(Call::new(byte - 0x60, Intent::In))),
-            0x80 => Some(Action::Reference(Reference::Kill)),
             0xa0..=0xbf => Some(Action::Call(Call::new(byte - 0xa0, Intent::Out))),
             0xc0..=0xdf => Some(Action::Call(Call::new(byte - 0xc0, Intent::Inout))),
             _ => None,
@@ -107,7 +127,7 @@ impl Action {
 
     /// Whether a byte refers to its array.
     pub const fn is_reference(byte: u8) -> bool {
-        matches!(Action::from_byte(byte), Some(Action::Reference(_)))
+        Reference::from_byte(byte).is_some()
     }
 }
 
@@ -322,6 +342,11 @@ impl<'a> Routine<'a> {
 
     pub fn arrays(&self) -> impl Iterator<Item = Array> {
         (0..self.array_count()).map(|index| self.array(index))
+    }
+
+    /// Whether some array has more than 16 versions.
+    pub fn is_wide(&self) -> bool {
+        self.arrays().any(|array| array.versions > 16)
     }
 
     pub fn vertex_count(&self) -> usize {

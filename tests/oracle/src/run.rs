@@ -1,24 +1,27 @@
 //! The run rules ("Run", first part), the report's bytes and refusals 30 to 32 and 2.
 
 use crate::calls::Room;
-use crate::labels::fixpoint::Solved;
+use crate::labels::fixpoint::{Narrow, Sets, Solved, Wide};
 use crate::labels::{Label, Labels, Use, literal};
 use crate::outcome::{Outcome, Refusal};
-use crate::record::Record;
+use crate::record::{RECORD, Record};
 use crate::routine::{
-    Action, Array, Kind, MAX_ARRAYS, MAX_VERSIONS, MAX_VERTICES, Reference, Routine,
+    Array, Kind, MAX_ARRAYS, MAX_VERSIONS, MAX_VERTICES, Reference, Routine, Set,
 };
 
 pub const MAX_PATH: usize = 4096;
 
 /// The length of the longest report: every vertex of a path but the entry references every array.
-pub const LONGEST_REPORT: usize = 6 * MAX_ARRAYS + 10 * MAX_ARRAYS * (MAX_PATH - 1);
+pub const LONGEST_REPORT: usize = ENTRY * MAX_ARRAYS + RECORD * MAX_ARRAYS * (MAX_PATH - 1);
+
+/// The bytes of an array in a report.
+pub const ENTRY: usize = 8;
 
 /// The copies of one array.
 #[derive(Clone, Copy, Debug, PartialEq, Eq)]
 pub struct Copies {
     pub current: Option<u8>,
-    pub live: u16,
+    pub live: Set,
     pub stamps: [u16; MAX_VERSIONS],
     /// Number of stamps copied.
     pub copied: u16,
@@ -114,12 +117,12 @@ impl Copies {
         self.stamps[usize::from(version)] = stamp;
     }
 
-    /// An array's six bytes in the report.
-    fn bytes(&self) -> [u8; 6] {
+    /// An array's bytes in the report.
+    fn bytes(&self) -> [u8; ENTRY] {
         let [copied, copied_high] = self.copied.to_le_bytes();
-        let [live, live_high] = self.live.to_le_bytes();
+        let [a, b, c, d] = self.live.to_le_bytes();
         let current = self.current.unwrap_or(255);
-        [copied, copied_high, live, live_high, current, 0]
+        [copied, copied_high, a, b, c, d, current, 0]
     }
 }
 
@@ -181,7 +184,7 @@ pub fn walk(
     for (index, vertex) in vertices(path).enumerate() {
         let step = index as u16 + 1;
         for (array, &byte) in routine.row(vertex).iter().enumerate() {
-            if let Some(Action::Reference(reference)) = Action::from_byte(byte) {
+            if let Some(reference) = Reference::from_byte(byte) {
                 give(all[array].reference(step, array, reference));
             }
         }
@@ -199,11 +202,18 @@ pub fn walk(
 
 /// Writes the report of a path through a routine file over the front of `out`.
 pub fn run(file: &[u8], path: &[u8], out: &mut [u8]) -> Outcome {
-    Outcome::of(Routine::parse(file).and_then(|routine| {
-        let (mut solved, mut room) = (Solved::EMPTY, Room::EMPTY);
-        let routine = solved.accept(&routine, &mut room)?;
-        write(&routine, &solved, path, out)
-    }))
+    Outcome::of(
+        Routine::parse(file).and_then(|routine| match routine.is_wide() {
+            false => run_with::<Narrow>(&routine, path, out),
+            true => run_with::<Wide>(&routine, path, out),
+        }),
+    )
+}
+
+fn run_with<S: Sets>(file: &Routine, path: &[u8], out: &mut [u8]) -> Result<usize, Refusal> {
+    let (mut solved, mut room) = (Solved::<S>::EMPTY, Room::EMPTY);
+    let routine = solved.accept(file, &mut room)?;
+    write(&routine, &solved, path, out)
 }
 
 /// The same with the labels by listing paths, for small routines.
@@ -223,18 +233,18 @@ fn write(
 ) -> Result<usize, Refusal> {
     check_path(routine, path)?;
     let arrays = routine.array_count();
-    let needed = 6 * arrays + 10 * reference_count(routine, path);
+    let needed = ENTRY * arrays + RECORD * reference_count(routine, path);
     if out.len() < needed {
         return Err(Refusal::at(2, needed));
     }
-    let (heads, records) = out[..needed].split_at_mut(6 * arrays);
-    let mut records = records.as_chunks_mut::<10>().0.iter_mut();
+    let (heads, records) = out[..needed].split_at_mut(ENTRY * arrays);
+    let mut records = records.as_chunks_mut::<RECORD>().0.iter_mut();
     let states = walk(routine, labels, path, |record| {
         if let Some(place) = records.next() {
             *place = record.bytes();
         }
     });
-    for (head, copies) in heads.as_chunks_mut::<6>().0.iter_mut().zip(&states) {
+    for (head, copies) in heads.as_chunks_mut::<ENTRY>().0.iter_mut().zip(&states) {
         *head = copies.bytes();
     }
     Ok(needed)

@@ -10,7 +10,7 @@ use oracle::run::run;
 use std::collections::BTreeSet;
 
 fn plan_answer(file: &[u8]) -> (u64, u64, u64) {
-    let mut out = vec![0x5a; 20_000];
+    let mut out = vec![0x5a; 30_000];
     let Outcome {
         number,
         first,
@@ -68,6 +68,8 @@ fn a_lower_number_wins_over_a_lower_byte() {
 fn array_bytes() {
     assert_eq!(p_with(|file| file[18] = 4), (14, 18, 0));
     assert_eq!(p_with(|file| file[19] = 0), (14, 19, 0));
+    assert_eq!(p_with(|file| file[19] = 32).0, 0);
+    assert_eq!(p_with(|file| file[19] = 33), (14, 19, 0));
     assert_eq!(p_with(|file| file[20] = 3), (14, 20, 0));
     assert_eq!(p_with(|file| file[21] = 1), (14, 21, 0));
 }
@@ -76,7 +78,8 @@ fn array_bytes() {
 fn action_bytes() {
     assert_eq!(p_with(|file| file[22] = 0x10), (18, 22, 0));
     assert_eq!(p_with(|file| file[29] = 0x40), (18, 29, 0));
-    assert_eq!(p_with(|file| file[23] = 0x50), (15, 23, 0));
+    assert_eq!(p_with(|file| file[23] = 0x50), (17, 23, 0));
+    assert_eq!(p_with(|file| file[23] = 0x5f), (17, 23, 0));
     assert_eq!(p_with(|file| file[24] = 0x43), (17, 24, 0));
     let mut mixed = Draft {
         arrays: vec![[LOCAL, 2, 0, 0]; 3],
@@ -127,7 +130,7 @@ fn family(byte: u8) -> Option<(u8, u8)> {
     match byte {
         0x00 => Some((0, 0)),
         0x10 | 0x20 | 0x30 | 0x80 => Some((1, 0)),
-        0x40..=0x4f => Some((2, byte - 0x40)),
+        0x40..=0x5f => Some((2, byte - 0x40)),
         0x60..=0x7f => Some((3, byte - 0x60)),
         0xa0..=0xbf => Some((3, byte - 0xa0)),
         0xc0..=0xdf => Some((3, byte - 0xc0)),
@@ -136,7 +139,7 @@ fn family(byte: u8) -> Option<(u8, u8)> {
 }
 
 /// The faults of each action byte with its place, each asked by itself in the words of requests 2,
-/// 3 and 6.
+/// 3, 6 and 7.
 fn faults(draft: &Draft) -> Vec<(usize, Vec<u64>)> {
     let differ = |one: u8, other: u8| match (family(one), family(other)) {
         (Some((one, _)), Some((other, _))) => one != 0 && other != 0 && one != other,
@@ -214,14 +217,14 @@ fn any_action_bytes_by_words() {
         let size = Size {
             vertices: rng.between(2, 8),
             arrays: rng.between(1, 8),
-            versions: rng.between(1, 16),
+            versions: rng.between(1, 32),
             calls: rng.pick(&[0, 50]),
         };
         let mut draft = routines::any_graph(&mut rng, size);
         for _ in 0..rng.between(1, 6) {
             let vertex = rng.below(draft.rows.len());
             let array = rng.below(draft.arrays.len());
-            let remap = remap(rng.below(16) as u8);
+            let remap = remap(rng.below(32) as u8);
             let call = rng.pick(&routines::INTENTS)(rng.below(32) as u8);
             let byte = rng.byte();
             draft.rows[vertex][array] = rng.pick(&[byte, remap, call, READ, DEFINE, KILL]);
@@ -272,7 +275,7 @@ fn edges() {
     assert_eq!(p_with(|file| file[36] = 0), (16, 34, 0));
     assert_eq!(p_with(|file| file[58] = 7), (16, 58, 0));
     assert_eq!(p_with(|file| file[60] = 2), (16, 58, 0));
-    assert_eq!(p_with(|file| file[38] = 1), (0, 72, 0));
+    assert_eq!(p_with(|file| file[38] = 1), (0, 88, 0));
     assert_eq!(p_with(|file| file[38] = 0), (16, 38, 0));
 }
 
@@ -305,9 +308,9 @@ fn paths_are_checked_in_order() {
     assert_eq!(answer(&[0, 1, 2, 4]), (32, 3, 0));
     assert_eq!(answer(&[0, 900]), (32, 1, 0));
     assert_eq!(answer(&[0, 257]), (32, 1, 0));
-    assert_eq!(answer(&[0]), (0, 6, 0));
+    assert_eq!(answer(&[0]), (0, 8, 0));
     assert_eq!(run_answer(&file, &[0]), (30, 0, 0));
-    assert_eq!(run_answer(&file, &[0, 0, 1, 0, 9]), (0, 16, 0));
+    assert_eq!(run_answer(&file, &[0, 0, 1, 0, 9]), (0, 18, 0));
     assert_eq!(run_answer(&builder::t().bytes(), &[]), (21, 2, 0));
 }
 
@@ -315,24 +318,24 @@ fn paths_are_checked_in_order() {
 fn buffers() {
     let file = builder::p().bytes();
     let path = path_bytes(&[0, 1, 2, 3]);
-    for length in 0..80 {
+    for length in 0..96 {
         let mut out = vec![0x5a; length];
         let answer = plan(&file, &mut out);
-        if length < 72 {
-            assert_eq!((answer.number, answer.first, answer.second), (1, 72, 0));
+        if length < 88 {
+            assert_eq!((answer.number, answer.first, answer.second), (1, 88, 0));
             assert!(out.iter().all(|&byte| byte == 0x5a));
         } else {
-            assert_eq!(answer, Outcome::written(72));
-            assert!(out[..4] == *b"HPFP" && out[72..].iter().all(|&byte| byte == 0x5a));
+            assert_eq!(answer, Outcome::written(88));
+            assert!(out[..4] == *b"HPF2" && out[88..].iter().all(|&byte| byte == 0x5a));
         }
         let mut out = vec![0x5a; length];
         let answer = run(&file, &path, &mut out);
-        if length < 26 {
-            assert_eq!((answer.number, answer.first, answer.second), (2, 26, 0));
+        if length < 28 {
+            assert_eq!((answer.number, answer.first, answer.second), (2, 28, 0));
             assert!(out.iter().all(|&byte| byte == 0x5a));
         } else {
-            assert_eq!(answer, Outcome::written(26));
-            assert!(out[26..].iter().all(|&byte| byte == 0x5a));
+            assert_eq!(answer, Outcome::written(28));
+            assert!(out[28..].iter().all(|&byte| byte == 0x5a));
         }
     }
 }
@@ -341,11 +344,11 @@ fn buffers() {
 fn the_largest_file_plan_and_report() {
     let file = limits::largest_report().bytes();
     assert_eq!(file.len(), 6194);
-    assert_eq!(plan_answer(&limits::largest_plan().bytes()), (0, 17_416, 0));
+    assert_eq!(plan_answer(&limits::largest_plan().bytes()), (0, 25_608, 0));
     let path = limits::longest_path();
     assert_eq!(path.len(), 4096);
-    assert_eq!(run_answer(&file, &path_bytes(&path)), (0, 327_648, 0));
-    assert_eq!(run_answer(&file, &path_bytes(&path[..512])), (0, 40_928, 0));
+    assert_eq!(run_answer(&file, &path_bytes(&path)), (0, 327_664, 0));
+    assert_eq!(run_answer(&file, &path_bytes(&path[..512])), (0, 40_944, 0));
 }
 
 #[test]

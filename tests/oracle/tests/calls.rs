@@ -63,11 +63,11 @@ fn three_vertices_for_a_call() {
     assert_eq!(
         planned(&draft),
         "vertex array use leave reach keep\n\
-         0 0 D 1 0002 0002\n\
-         2 0 N - 0002 0001\n\
-         3 0 W 0 0002 0001\n\
-         5 0 R 2 0001 0006\n\
-         7 0 W 1 0004 0002\n"
+         0 0 D 1 00000002 00000002\n\
+         2 0 N - 00000002 00000001\n\
+         3 0 W 0 00000002 00000001\n\
+         5 0 R 2 00000001 00000006\n\
+         7 0 W 1 00000004 00000002\n"
     );
     let path: Vec<u16> = (0..8).collect();
     let records = "2 0 1 2 0 2\n5 0 0 3 2 5\n7 0 2 1 5 0\n";
@@ -187,19 +187,21 @@ fn ambiguous_calls() {
     assert_eq!(answer(&draft), (21, 3, 0));
 }
 
-/// Every action byte with 16 versions, in a row of its own.
+/// Every action byte with 16 and with 32 versions, in a row of its own.
 #[test]
 fn every_action_byte() {
     for byte in 0..=255u8 {
-        let number = match byte {
-            0x00 | 0x10 | 0x20 | 0x30 | 0x40..=0x4f | 0x80 => 0,
-            0x60..=0x6f | 0xa0..=0xaf | 0xc0..=0xcf => 0,
-            0x70..=0x7f | 0xb0..=0xbf | 0xd0..=0xdf => 17,
-            _ => 15,
+        let numbers = match byte {
+            0x00 | 0x10 | 0x20 | 0x30 | 0x80 => [0, 0],
+            0x40..=0x4f | 0x60..=0x6f | 0xa0..=0xaf | 0xc0..=0xcf => [0, 0],
+            0x50..=0x5f | 0x70..=0x7f | 0xb0..=0xbf | 0xd0..=0xdf => [17, 0],
+            _ => [15, 15],
         };
-        let found = answer(&Draft::chain(LOCAL, 16, 3, &[byte]));
-        assert_eq!(found.0, number, "{byte:02x}");
-        assert!(number == 0 || found.1 == 23, "{byte:02x}");
+        for (versions, number) in [16, 32].into_iter().zip(numbers) {
+            let found = answer(&Draft::chain(LOCAL, versions, 3, &[byte]));
+            assert_eq!(found.0, number, "{byte:02x}");
+            assert!(number == 0 || found.1 == 23, "{byte:02x}");
+        }
     }
 }
 
@@ -259,7 +261,7 @@ fn paths_name_expanded_vertices() {
         let steps = (0..length - 1).map(|step| 1 + step % 3);
         [0].into_iter().chain(steps).collect()
     };
-    assert_eq!(run_answer(&around, &path(4096)), (0, 6 + 10 * 1365, 0));
+    assert_eq!(run_answer(&around, &path(4096)), (0, 8 + 10 * 1365, 0));
     assert_eq!(run_answer(&around, &path(4097)), (30, 4097, 0));
 }
 

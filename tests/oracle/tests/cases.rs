@@ -4,6 +4,7 @@
 use oracle::builder::{
     self, DEFINE, Draft, IN, INOUT, KILL, LOCAL, MODIFY, READ, path_bytes, remap,
 };
+use oracle::generate::limits;
 use oracle::listing;
 use oracle::machine;
 use oracle::outcome::Outcome;
@@ -61,20 +62,20 @@ fn case_1_labels_of_p() {
     assert_eq!(
         listing::plan(&plan),
         "vertex array use leave reach keep\n\
-         0 0 D 0 0000 0001\n\
-         2 0 R 1 0001 0003\n\
-         4 0 N - 0002 0003\n\
-         5 0 R 0 0002 0003\n"
+         0 0 D 0 00000000 00000001\n\
+         2 0 R 1 00000001 00000003\n\
+         4 0 N - 00000002 00000003\n\
+         5 0 R 0 00000002 00000003\n"
     );
     #[rustfmt::skip]
     let bytes = [
-        b'H', b'P', b'F', b'P', 8, 0, 4, 0,
+        b'H', b'P', b'F', b'2', 8, 0, 4, 0,
         0, 0, 1, 0, 1, 0, 0, 0, 1, 0, 1, 0, 2, 0, 0, 0,
         2, 0, 1, 0, 3, 0, 1, 0, 4, 0, 0, 0, 4, 0, 0, 0,
-        0, b'D', 0, 0, 0x00, 0, 0x01, 0,
-        0, b'R', 1, 0, 0x01, 0, 0x03, 0,
-        0, b'N', 255, 0, 0x02, 0, 0x03, 0,
-        0, b'R', 0, 0, 0x02, 0, 0x03, 0,
+        0, b'D', 0, 0, 0x00, 0, 0, 0, 0x01, 0, 0, 0,
+        0, b'R', 1, 0, 0x01, 0, 0, 0, 0x03, 0, 0, 0,
+        0, b'N', 255, 0, 0x02, 0, 0, 0, 0x03, 0, 0, 0,
+        0, b'R', 0, 0, 0x02, 0, 0, 0, 0x03, 0, 0, 0,
     ];
     assert_eq!(plan, bytes);
 }
@@ -94,10 +95,10 @@ fn case_3_labels_of_q() {
     assert_eq!(
         listing::plan(&planned(&builder::q())),
         "vertex array use leave reach keep\n\
-         0 0 N - 0001 0002\n\
-         1 0 W 1 0001 0002\n\
-         3 0 R 0 0002 0001\n\
-         5 0 W 0 0001 0001\n"
+         0 0 N - 00000001 00000002\n\
+         1 0 W 1 00000001 00000002\n\
+         3 0 R 0 00000002 00000001\n\
+         5 0 W 0 00000001 00000001\n"
     );
 }
 
@@ -131,7 +132,7 @@ fn case_6_a_run_of_s() {
     );
     #[rustfmt::skip]
     let bytes = [
-        1, 0, 4, 0, 2, 0,
+        1, 0, 4, 0, 0, 0, 2, 0,
         2, 0, 0, 0, 2, 0, 0, 0, 2, 0,
         5, 0, 0, 2, 1, 0, 2, 0, 0, 0,
     ];
@@ -140,9 +141,9 @@ fn case_6_a_run_of_s() {
     assert_eq!(
         listing::plan(&planned(&builder::s())),
         "vertex array use leave reach keep\n\
-         0 0 D 0 0000 0001\n\
-         2 0 N - 0001 0004\n\
-         3 0 R 2 0001 0004\n"
+         0 0 D 0 00000000 00000001\n\
+         2 0 N - 00000001 00000004\n\
+         3 0 R 2 00000001 00000004\n"
     );
 }
 
@@ -157,15 +158,54 @@ fn case_7_t_is_ambiguous() {
 fn case_8_t_with_nothing_at_2() {
     assert_eq!(
         listing::plan(&planned(&builder::t_without_read())),
-        "vertex array use leave reach keep\n0 0 N - 0000 0000\n1 0 N - 0000 0000\n"
+        "vertex array use leave reach keep\n0 0 N - 00000000 00000000\n1 0 N - 00000000 00000000\n"
     );
 }
 
 #[test]
 fn case_9_versions() {
     let draft = |versions| Draft::chain(LOCAL, versions, 0, &[builder::READ]);
-    planned(&draft(16));
-    assert_eq!(plan(&draft(17).bytes(), &mut [0; 100]), outcome(14, 19, 0));
+    planned(&draft(32));
+    assert_eq!(plan(&draft(33).bytes(), &mut [0; 100]), outcome(14, 19, 0));
+}
+
+/// The lengths of the plans and reports that have names.
+#[test]
+fn lengths() {
+    let plans = [builder::p(), builder::q(), builder::s(), builder::u()];
+    assert_eq!(plans.map(|draft| planned(&draft).len()), [88, 80, 68, 76]);
+    let chain = [0, 1, 2, 3, 4];
+    for (draft, path, length) in [
+        (builder::p(), &[0, 1, 2, 3, 4, 5, 6, 2, 3][..], 48),
+        (builder::q(), &[0, 1, 3, 4], 18),
+        (builder::q(), &chain, 28),
+        (builder::s(), &chain, 28),
+    ] {
+        assert_eq!(ran(&draft, path).len(), length);
+    }
+}
+
+/// Versions above 15: the last of 32 in every field, and sets with all 32 bits.
+#[test]
+fn the_last_of_32_versions() {
+    let draft = Draft::chain(INOUT, 32, 31, &[remap(16), READ, remap(31), READ]);
+    assert_eq!(
+        listing::plan(&planned(&draft)),
+        "vertex array use leave reach keep\n\
+         0 0 N - 80000000 80010000\n\
+         1 0 R 16 80000000 80010000\n\
+         3 0 R 31 00010000 80000000\n\
+         5 0 W 31 80000000 80000000\n"
+    );
+    let report = ran(&draft, &[0, 1, 2]);
+    assert_eq!(report[..8], [1, 0, 0, 0, 1, 0x80, 16, 0]);
+    assert_eq!(
+        listing::report(&report, 1),
+        "1 2147549184 16\n3 0 16 1 65535 0\n"
+    );
+    let all = listing::plan(&planned(&limits::most_versions()));
+    let kept = all.lines().filter(|line| line.ends_with(" ffffffff"));
+    assert_eq!(kept.count(), 33);
 }
 
 #[test]
@@ -186,7 +226,7 @@ fn case_9_paths() {
         path[0] = 0;
         path
     };
-    assert_eq!(ran(&round, &path(4096)).len(), 6 + 10 * 4095);
+    assert_eq!(ran(&round, &path(4096)).len(), 8 + 10 * 4095);
     assert_eq!(run_answer(&round, &path(4097)), outcome(30, 4097, 0));
     assert_eq!(run_answer(&round, &[]), outcome(30, 0, 0));
     assert_eq!(run_answer(&builder::p(), &[0, 2]), outcome(32, 1, 0));
@@ -203,9 +243,9 @@ fn routine_u() {
     assert_eq!(
         listing::plan(&planned(&builder::u())),
         "vertex array use leave reach keep\n\
-         0 0 D 0 0000 0001\n\
-         2 0 D 1 0001 0002\n\
-         5 0 R 0 0002 0001\n"
+         0 0 D 0 00000000 00000001\n\
+         2 0 D 1 00000001 00000002\n\
+         5 0 R 0 00000002 00000001\n"
     );
     assert_eq!(
         listing::report(&ran(&builder::u(), &[0, 1, 2, 3, 4, 5, 6]), 1),
@@ -219,8 +259,8 @@ fn routine_z() {
     assert_eq!(
         listing::plan(&planned(&builder::z())),
         "vertex array use leave reach keep\n\
-         0 0 D 0 0000 0001\n\
-         2 0 D 1 0001 0002\n"
+         0 0 D 0 00000000 00000001\n\
+         2 0 D 1 00000001 00000002\n"
     );
     let path = [0, 1, 2, 3, 4];
     assert_eq!(
@@ -256,8 +296,8 @@ fn read_only_argument() {
     assert_eq!(
         listing::plan(&planned(&draft)),
         "vertex array use leave reach keep\n\
-         0 0 N - 0001 0002\n\
-         1 0 R 1 0001 0002\n"
+         0 0 N - 00000001 00000002\n\
+         1 0 R 1 00000001 00000002\n"
     );
     let report = |path: &[u16]| listing::report(&ran(&draft, path), 1);
     assert_eq!(report(&[0, 1, 2]), "1 2 1\n3 0 1 1 65535 0\n");
@@ -301,13 +341,13 @@ fn case_10_a_call_in_a_loop() {
     assert_eq!(
         listing::plan(&planned(&draft)),
         "vertex array use leave reach keep\n\
-         0 0 N - 0001 0002\n\
-         0 1 N - 0001 0003\n\
-         1 0 W 1 0001 0002\n\
-         1 1 R 1 0001 0003\n\
-         3 0 R 0 0002 0003\n\
-         3 1 R 0 0002 0003\n\
-         5 0 W 0 0001 0001\n"
+         0 0 N - 00000001 00000002\n\
+         0 1 N - 00000001 00000003\n\
+         1 0 W 1 00000001 00000002\n\
+         1 1 R 1 00000001 00000003\n\
+         3 0 R 0 00000002 00000003\n\
+         3 1 R 0 00000002 00000003\n\
+         5 0 W 0 00000001 00000001\n"
     );
     assert_eq!(
         listing::report(&ran(&draft, &[0, 1, 2, 3, 4, 1, 2, 3, 4, 5]), 2),

@@ -91,7 +91,7 @@ fn both_forms_agree() {
     assert_shares(&answers, &[(0, 70), (42, 10), (21, 2)]);
 }
 
-/// With few paths also larger programs have few states, and more than 16 mappings.
+/// With few paths also larger programs have few states, and more than 32 mappings.
 #[test]
 fn both_forms_agree_on_chains() {
     let seed = SEED + 1;
@@ -105,7 +105,10 @@ fn both_forms_agree_on_chains() {
             spreads: rng.between(10, 60),
         };
         let gaps = rng.below(4);
-        let program = directives::chain(&mut rng, size, gaps);
+        let program = match rng.below(4) {
+            0 => directives::many_mappings(&mut rng),
+            _ => directives::chain(&mut rng, size, gaps),
+        };
         let answer = agree(&format!("seed {seed}, index {index}"), &program);
         *answers.entry(answer).or_default() += 1;
     }
@@ -363,22 +366,23 @@ fn refusals_have_their_number() {
     }
 }
 
-/// 16 mappings are accepted and 17 refused, at the array that has them.
+/// 32 mappings are accepted and 33 refused, at the array that has them.
 #[test]
 fn mappings_at_the_limit() {
     for program in [limits::by_redistributes, limits::by_realigns] {
-        assert_eq!(answer(&program(16)).0, 1);
-        assert_eq!(answer(&program(17)), (41, 7, 0));
-        agree("16 mappings", &program(16));
-        agree("17 mappings", &program(17));
+        for mappings in [16, 17, 31, 32] {
+            assert_eq!(agree("accepted", &program(mappings)), Some(0));
+        }
+        assert_eq!(answer(&program(33)), (41, 7, 0));
+        assert_eq!(agree("33 mappings", &program(33)), Some(41));
     }
     // One realign gives all but the first: 41 goes before 42.
     assert_eq!(answer(&limits::by_ways(2)).0, 1);
     assert_eq!(answer(&limits::by_ways(3)), (42, 3, 0));
-    assert_eq!(answer(&limits::by_ways(16)), (42, 16, 0));
-    assert_eq!(answer(&limits::by_ways(17)), (41, 0, 0));
+    assert_eq!(answer(&limits::by_ways(32)), (42, 32, 0));
+    assert_eq!(answer(&limits::by_ways(33)), (41, 0, 0));
     // A mapping that no path gives does not count.
-    let program = limits::with_unreached(limits::by_redistributes(16));
+    let program = limits::with_unreached(limits::by_redistributes(32));
     assert_eq!(answer(&program).0, 1);
     assert_eq!(agree("unreached", &program), Some(0));
     assert_eq!(agree("largest", &limits::smallest()), Some(0));

@@ -11,7 +11,7 @@ use oracle::directives::{Program, file, sets};
 use oracle::outcome::Outcome;
 use oracle::plan::plan;
 use oracle::routine::Routine;
-use oracle::run::run;
+use oracle::run::{ENTRY, run};
 use oracle::{listing, machine};
 use std::collections::BTreeMap;
 use std::fs;
@@ -78,7 +78,7 @@ fn copies(figure: &Figure, path: &[u16]) -> Vec<(usize, usize)> {
     let arrays: Vec<_> = routine.arrays().collect();
     let path: Vec<usize> = path.iter().map(|&vertex| vertex.into()).collect();
     let (machines, _) = machine::run(&arrays, routine.action_bytes(), &path);
-    let counts = out.chunks_exact(6).zip(machines);
+    let counts = out.chunks_exact(ENTRY).zip(machines);
     counts
         .map(|(entry, machine)| (usize::from(entry[0]), machine.count))
         .collect()
@@ -151,11 +151,11 @@ fn figure_1() {
     assert_eq!(
         lines(&FIGURE_1),
         [
-            "0 0 D 0 0000 0001",
-            "0 1 D 0 0000 0001",
-            "2 0 N - 0001 0004",
-            "3 0 R 2 0001 0004",
-            "3 1 R 1 0001 0002"
+            "0 0 D 0 00000000 00000001",
+            "0 1 D 0 00000000 00000001",
+            "2 0 N - 00000001 00000004",
+            "3 0 R 2 00000001 00000004",
+            "3 1 R 1 00000001 00000002"
         ]
     );
     assert_eq!(copies(&FIGURE_1, &[0, 1, 2, 3, 4, 5]), [(1, 2), (1, 1)]);

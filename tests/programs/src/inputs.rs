@@ -243,8 +243,8 @@ fn named_conversions() -> Vec<Input> {
 
 fn conversions_at_limits(seed: u64) -> Vec<Input> {
     let mut programs = vec![generate::limits::smallest(), generate::limits::largest()];
-    programs.extend([16, 17].map(generate::limits::by_redistributes));
-    programs.extend([16, 17].map(generate::limits::by_realigns));
+    programs.extend([17, 32, 33].map(generate::limits::by_redistributes));
+    programs.extend([17, 32, 33].map(generate::limits::by_realigns));
     programs.extend(generate::limits::large(&mut Rng::new(seed)));
     programs.extend(
         generate::limits::beyond()

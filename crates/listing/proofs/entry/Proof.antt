@@ -7,11 +7,11 @@ use Rattle.listing.proofs.entry.Tie as tie
 word-requires : tie.Need-word-requires
 word-requires c κs = search needs
 
-add-word : tie.Need-add-word
-add-word c = search needs
+add-long-word : tie.Need-add-long-word
+add-long-word c = search needs
 
-word-requires-2 : tie.Need-word-requires-2
-word-requires-2 c κs = search needs
+long-word-requires : tie.Need-long-word-requires
+long-word-requires c κs = search needs
 
 add-byte : tie.Need-add-byte
 add-byte c = search needs
@@ -34,15 +34,15 @@ same-length c = search needs
 returns : tie.Need-returns
 returns c =
     let f = c .before .before .before .before .before .before in
-    rw (← f .before .before .word .ensures .0, ← f .before .word2 .ensures .0, ← f .byte .ensures .0) (c .before .before .line .ensures)
+    rw (← f .before .before .word .ensures .0, ← f .before .long-word .ensures, ← f .byte .ensures .0) (c .before .before .line .ensures)
 
 pub entry-spec : {M : Type 1} → statement M
 entry-spec =
     tie.close
     (tie.spec
     word-requires
-    add-word
-    word-requires-2
+    add-long-word
+    long-word-requires
     add-byte
     byte-requires
     slice-aggregate-line

@@ -19,17 +19,17 @@ add-byte-2 c = search needs
 byte-requires-3 : tie.Need-byte-requires-3
 byte-requires-3 c κs = search needs
 
-add-word : tie.Need-add-word
-add-word c = search needs
+add-long-word : tie.Need-add-long-word
+add-long-word c = search needs
 
-word-requires : tie.Need-word-requires
-word-requires c κs = search needs
+long-word-requires : tie.Need-long-word-requires
+long-word-requires c κs = search needs
 
-add-word-2 : tie.Need-add-word-2
-add-word-2 c = search needs
+add-long-word-2 : tie.Need-add-long-word-2
+add-long-word-2 c = search needs
 
-word-requires-2 : tie.Need-word-requires-2
-word-requires-2 c κs = search needs
+long-word-requires-2 : tie.Need-long-word-requires-2
+long-word-requires-2 c κs = search needs
 
 slice-aggregate-line : tie.Need-slice-aggregate-line
 slice-aggregate-line c = search needs
@@ -46,7 +46,7 @@ same-length c = search needs
 returns : tie.Need-returns
 returns c =
     let f = c .before .before .before .before .before .before in
-    rw (← f .before .before .before .before .byte .ensures .0, ← f .before .before .before .byte2 .ensures .0, ← f .before .before .byte3 .ensures .0, ← f .before .word .ensures .0, ← f .word2 .ensures .0) (c .before .before .line .ensures)
+    rw (← f .before .before .before .before .byte .ensures .0, ← f .before .before .before .byte2 .ensures .0, ← f .before .before .byte3 .ensures .0, ← f .before .long-word .ensures, ← f .long-word2 .ensures) (c .before .before .line .ensures)
 
 pub label-spec : {M : Type 1} → statement M
 label-spec =
@@ -57,10 +57,10 @@ label-spec =
     byte-requires-2
     add-byte-2
     byte-requires-3
-    add-word
-    word-requires
-    add-word-2
-    word-requires-2
+    add-long-word
+    long-word-requires
+    add-long-word-2
+    long-word-requires-2
     slice-aggregate-line
     slice-aggregate-line-2
     line-requires

@@ -1,19 +1,13 @@
 -- `word` meets its contract: two bytes below 256.
 -- Assumes nothing.
-use mathlib.Core.Path.{_≡_, sym, ap₂}
-use mathlib.Core.List.{List}
-use Prim.Native.Nat.{ℕ, _+_, _*_, _≤_}
+use mathlib.Core.Path.{sym, ap₂}
+use Prim.Native.Nat.{ℕ, _+_, _*_}
 use native.Mathlib.Omega.{arith}
 use borrow.Author.Needs.{needs}
-use lib.ListN.{length, List·getD-eq-default}
 use Rattle.words.specs.Words.{word}
+use Rattle.listing.proofs.Words.{word-beyond}
 use Rattle.listing.proofs.word.Statement.{statement}
 use Rattle.listing.proofs.word.Tie as tie
-
-word-beyond : (s : List ℕ) (at : ℕ) → length s ≤ at → word s at ≡ 0
-unfolding word
-word-beyond s at h =
-    ap₂ (λ (low high : ℕ). low + 256 * high) (List·getD-eq-default s 0 h) (List·getD-eq-default s 0 {n = at + 1} (omega arith))
 
 byte-requires : tie.Need-byte-requires
 byte-requires c κs = search needs

@@ -29,7 +29,7 @@ reply-requires : tie.Need-reply-requires
 reply-requires c κs =
     let k = c .before .before .before .before .before .before .before .before .before .before .before .before .before .before .before .before in
     let p = start k .pre in
-    (p .0, (k .prepare .ensures .1 .1 .answers, (k .prepare .ensures .1 .0, k .prepare .kept .1 .1 .1 .1 .1 .1 .1 .0 ∙ p .1 .1 .1 .1 .1 .1 .1 .0)))
+    (p .0, (k .prepare .ensures .1 .1 .answers, (k .prepare .ensures .1 .0, p .1 .1 .1 .1 .1 .1 .0)))
 
 -- ---- a refusal
 
@@ -52,10 +52,13 @@ same-length-5 : tie.Need-same-length-5
 same-length-5 c = prepared (c .before .before .before .before) .prepare .kept .1 .1 .1 .1 .1 .1 .0
 
 same-length-6 : tie.Need-same-length-6
-same-length-6 c = c .before .before .before .before .reply .kept .1 .1 .1 .1 .1 .0 ∙ prepared (c .before .before .before .before) .prepare .kept .1 .1 .1 .1 .1 .1 .1 .0
+same-length-6 c = c .before .before .before .before .reply .kept .1 .1 .1 .1 .1 .0
 
 same-length-7 : tie.Need-same-length-7
-same-length-7 c = prepared (c .before .before .before .before) .prepare .kept .1 .1 .1 .1 .1 .1 .1 .1 .0
+same-length-7 c = prepared (c .before .before .before .before) .prepare .kept .1 .1 .1 .1 .1 .1 .1 .0
+
+same-length-8 : tie.Need-same-length-8
+same-length-8 c = prepared (c .before .before .before .before) .prepare .kept .1 .1 .1 .1 .1 .1 .1 .1 .0
 
 returns : tie.Need-returns
 returns c =
@@ -82,7 +85,7 @@ kept-requires c κs =
     let x = prepared (e .before .before .before .before) in
     let p = start x .pre in
     let k = x .prepare in
-    (p .0, (k .ensures .0, (k .ensures .1 .0, (k .ensures .1 .1 .letters-are (passed e), (p .1 .1 .1 .1 .1 .1 .0, (k .kept .1 .1 .1 .1 .0 ∙ p .1 .1 .1 .0, k .kept .1 .1 .1 .1 .1 .1 .1 .1 .0 ∙ p .1 .1 .1 .1 .1 .1 .1 .1))))))
+    (p .0, (k .ensures .0, (k .ensures .1 .0, (k .ensures .1 .1 .letters-are (passed e), (k .kept .1 .1 .1 .1 .0 ∙ p .1 .1 .1 .0, (k .kept .1 .1 .1 .1 .1 .1 .1 .0 ∙ p .1 .1 .1 .1 .1 .1 .1 .0, k .kept .1 .1 .1 .1 .1 .1 .1 .1 .0 ∙ p .1 .1 .1 .1 .1 .1 .1 .1))))))
 
 write-requires : tie.Need-write-requires
 write-requires c κs =
@@ -106,32 +109,32 @@ write-requires c κs =
       ),
     )
 
-same-length-8 : tie.Need-same-length-8
-same-length-8 c = c .before .before .write .kept .1 .1 .1 .1 .1 .1 .1 .0
-
 same-length-9 : tie.Need-same-length-9
-same-length-9 c = prepared (replied (keeps (c .before .before))) .prepare .kept .1 .1 .0
+same-length-9 c = c .before .before .write .kept .1 .1 .1 .1 .1 .1 .1 .0
 
 same-length-10 : tie.Need-same-length-10
-same-length-10 c = prepared (replied (keeps (c .before .before))) .prepare .kept .1 .1 .1 .0
+same-length-10 c = prepared (replied (keeps (c .before .before))) .prepare .kept .1 .1 .0
 
 same-length-11 : tie.Need-same-length-11
-same-length-11 c = keeps (c .before .before) .kept .kept .1 .1 .1 .1 .1 .1 .0 ∙ prepared (replied (keeps (c .before .before))) .prepare .kept .1 .1 .1 .1 .0
+same-length-11 c = prepared (replied (keeps (c .before .before))) .prepare .kept .1 .1 .1 .0
 
 same-length-12 : tie.Need-same-length-12
-same-length-12 c = prepared (replied (keeps (c .before .before))) .prepare .kept .1 .1 .1 .1 .1 .0
+same-length-12 c = keeps (c .before .before) .kept .kept .1 .1 .1 .1 .1 .0 ∙ prepared (replied (keeps (c .before .before))) .prepare .kept .1 .1 .1 .1 .0
 
 same-length-13 : tie.Need-same-length-13
-same-length-13 c = prepared (replied (keeps (c .before .before))) .prepare .kept .1 .1 .1 .1 .1 .1 .0
+same-length-13 c = prepared (replied (keeps (c .before .before))) .prepare .kept .1 .1 .1 .1 .1 .0
 
 same-length-14 : tie.Need-same-length-14
-same-length-14 c = keeps (c .before .before) .kept .kept .1 .1 .1 .1 .1 .0
+same-length-14 c = prepared (replied (keeps (c .before .before))) .prepare .kept .1 .1 .1 .1 .1 .1 .0
 
 same-length-15 : tie.Need-same-length-15
-same-length-15 c = replied (keeps (c .before .before)) .reply .kept .1 .1 .1 .1 .1 .0 ∙ prepared (replied (keeps (c .before .before))) .prepare .kept .1 .1 .1 .1 .1 .1 .1 .0
+same-length-15 c = replied (keeps (c .before .before)) .reply .kept .1 .1 .1 .1 .1 .0
 
 same-length-16 : tie.Need-same-length-16
-same-length-16 c = keeps (c .before .before) .kept .kept .1 .1 .1 .1 .1 .1 .1 .0 ∙ prepared (replied (keeps (c .before .before))) .prepare .kept .1 .1 .1 .1 .1 .1 .1 .1 .0
+same-length-16 c = keeps (c .before .before) .kept .kept .1 .1 .1 .1 .1 .1 .0 ∙ prepared (replied (keeps (c .before .before))) .prepare .kept .1 .1 .1 .1 .1 .1 .1 .0
+
+same-length-17 : tie.Need-same-length-17
+same-length-17 c = keeps (c .before .before) .kept .kept .1 .1 .1 .1 .1 .1 .1 .0 ∙ prepared (replied (keeps (c .before .before))) .prepare .kept .1 .1 .1 .1 .1 .1 .1 .1 .0
 
 returns-2 : tie.Need-returns-2
 returns-2 c =
@@ -154,11 +157,11 @@ plan-with-spec =
     same-length-5
     same-length-6
     same-length-7
+    same-length-8
     returns
     enum-told-2
     kept-requires
     write-requires
-    same-length-8
     same-length-9
     same-length-10
     same-length-11
@@ -167,4 +170,5 @@ plan-with-spec =
     same-length-14
     same-length-15
     same-length-16
+    same-length-17
     returns-2)

@@ -52,28 +52,22 @@ slice-aggregate-plan-with-5 : tie.Need-slice-aggregate-plan-with-5
 slice-aggregate-plan-with-5 c = let s = c .before .before .before .before .before .before .before .before .before .before .before .before .before .before .before .before .before in sym (length-take-le _ (s .args .reaching .now) (fits s (s .args .reaching .now) (s .pre .1 .1 .1 .1 .1 .0)))
 
 slice-relend-prefix-plan-with-6 : tie.Need-slice-relend-prefix-plan-with-6
-slice-relend-prefix-plan-with-6 c = let s = c .before .before .before .before .before .before .before .before .before .before .before .before .before .before .before .before .before in fits s (s .args .kept .now) (s .pre .1 .1 .1 .1 .1 .1 .0)
+slice-relend-prefix-plan-with-6 c = let s = c .before .before .before .before .before .before .before .before .before .before .before .before .before .before .before .before .before .before in fits s (s .args .gives .now) (s .pre .1 .1 .1 .1 .1 .1 .1 .0)
 
 slice-aggregate-plan-with-6 : tie.Need-slice-aggregate-plan-with-6
-slice-aggregate-plan-with-6 c = let s = c .before .before .before .before .before .before .before .before .before .before .before .before .before .before .before .before .before .before in sym (length-take-le _ (s .args .kept .now) (fits s (s .args .kept .now) (s .pre .1 .1 .1 .1 .1 .1 .0)))
+slice-aggregate-plan-with-6 c = let s = c .before .before .before .before .before .before .before .before .before .before .before .before .before .before .before .before .before .before .before in sym (length-take-le _ (s .args .gives .now) (fits s (s .args .gives .now) (s .pre .1 .1 .1 .1 .1 .1 .1 .0)))
 
 slice-relend-prefix-plan-with-7 : tie.Need-slice-relend-prefix-plan-with-7
-slice-relend-prefix-plan-with-7 c = let s = c .before .before .before .before .before .before .before .before .before .before .before .before .before .before .before .before .before .before in fits s (s .args .gives .now) (s .pre .1 .1 .1 .1 .1 .1 .1 .0)
+slice-relend-prefix-plan-with-7 c = let s = c .before .before .before .before .before .before .before .before .before .before .before .before .before .before .before .before .before .before .before in fits s (s .args .passes .now) (s .pre .1 .1 .1 .1 .1 .1 .1 .1)
 
 slice-aggregate-plan-with-7 : tie.Need-slice-aggregate-plan-with-7
-slice-aggregate-plan-with-7 c = let s = c .before .before .before .before .before .before .before .before .before .before .before .before .before .before .before .before .before .before .before in sym (length-take-le _ (s .args .gives .now) (fits s (s .args .gives .now) (s .pre .1 .1 .1 .1 .1 .1 .1 .0)))
-
-slice-relend-prefix-plan-with-8 : tie.Need-slice-relend-prefix-plan-with-8
-slice-relend-prefix-plan-with-8 c = let s = c .before .before .before .before .before .before .before .before .before .before .before .before .before .before .before .before .before .before .before in fits s (s .args .passes .now) (s .pre .1 .1 .1 .1 .1 .1 .1 .1)
-
-slice-aggregate-plan-with-8 : tie.Need-slice-aggregate-plan-with-8
-slice-aggregate-plan-with-8 c = let s = c .before .before .before .before .before .before .before .before .before .before .before .before .before .before .before .before .before .before .before .before in sym (length-take-le _ (s .args .passes .now) (fits s (s .args .passes .now) (s .pre .1 .1 .1 .1 .1 .1 .1 .1)))
+slice-aggregate-plan-with-7 c = let s = c .before .before .before .before .before .before .before .before .before .before .before .before .before .before .before .before .before .before .before .before in sym (length-take-le _ (s .args .passes .now) (fits s (s .args .passes .now) (s .pre .1 .1 .1 .1 .1 .1 .1 .1)))
 
 plan-with-requires : tie.Need-plan-with-requires
 plan-with-requires c κs =
     let s = c .before .before .before .before .before .before .before .before .before .before .before .before .before .before .before .before .before .before .before .before in
     let all = ap (λ (n : ℕ). 8 * n) (s .pre .0 .heads .vertices-are) in
-    (s .pre .0, (length-take-le _ (s .args .order .now) (fits-order s) ∙ s .pre .0 .heads .edges-are, (length-take-le _ (s .args .versions .now) (fits s (s .args .versions .now) (s .pre .1 .1 .0)) ∙ all, (length-take-le _ (s .args .uses .now) (fits s (s .args .uses .now) (s .pre .1 .1 .1 .0)) ∙ all, (length-take-le _ (s .args .letters .now) (fits s (s .args .letters .now) (s .pre .1 .1 .1 .1 .0)) ∙ all, (length-take-le _ (s .args .reaching .now) (fits s (s .args .reaching .now) (s .pre .1 .1 .1 .1 .1 .0)) ∙ all, (length-take-le _ (s .args .kept .now) (fits s (s .args .kept .now) (s .pre .1 .1 .1 .1 .1 .1 .0)) ∙ all, (length-take-le _ (s .args .gives .now) (fits s (s .args .gives .now) (s .pre .1 .1 .1 .1 .1 .1 .1 .0)) ∙ all, length-take-le _ (s .args .passes .now) (fits s (s .args .passes .now) (s .pre .1 .1 .1 .1 .1 .1 .1 .1)) ∙ all))))))))
+    (s .pre .0, (length-take-le _ (s .args .order .now) (fits-order s) ∙ s .pre .0 .heads .edges-are, (length-take-le _ (s .args .versions .now) (fits s (s .args .versions .now) (s .pre .1 .1 .0)) ∙ all, (length-take-le _ (s .args .uses .now) (fits s (s .args .uses .now) (s .pre .1 .1 .1 .0)) ∙ all, (length-take-le _ (s .args .letters .now) (fits s (s .args .letters .now) (s .pre .1 .1 .1 .1 .0)) ∙ all, (length-take-le _ (s .args .reaching .now) (fits s (s .args .reaching .now) (s .pre .1 .1 .1 .1 .1 .0)) ∙ all, (s .pre .1 .1 .1 .1 .1 .1 .0, (length-take-le _ (s .args .gives .now) (fits s (s .args .gives .now) (s .pre .1 .1 .1 .1 .1 .1 .1 .0)) ∙ all, length-take-le _ (s .args .passes .now) (fits s (s .args .passes .now) (s .pre .1 .1 .1 .1 .1 .1 .1 .1)) ∙ all))))))))
 
 same-length : tie.Need-same-length
 same-length c = c .before .before .before .before .before .before .before .before .before .before .before .before .before .before .before .before .before .before .plan-with .kept .1 .1 .0
@@ -94,7 +88,7 @@ same-length-6 : tie.Need-same-length-6
 same-length-6 c = let s = c .before .before .before .before .before .before .before .before .before .before .before .before .before .before .before .before .before .before .before .before .before .before .before .before .before .before .before .before .before .before .before .before .before .before .before .before .before .before .before in let p = c .before .before .before .before .before .before .before .before .before .before .before .before .before .before .before .before .before .before .plan-with in length-front (s .args .reaching .now) (p .last .1 .1 .1 .1 .1 .1 .1 .0) (8 * s .args .h .vertices) (p .kept .1 .1 .1 .1 .1 .1 .1 .0)
 
 same-length-7 : tie.Need-same-length-7
-same-length-7 c = let s = c .before .before .before .before .before .before .before .before .before .before .before .before .before .before .before .before .before .before .before .before .before .before .before .before .before .before .before .before .before .before .before .before .before .before .before .before .before .before .before in let p = c .before .before .before .before .before .before .before .before .before .before .before .before .before .before .before .before .before .before .plan-with in length-front (s .args .kept .now) (p .last .1 .1 .1 .1 .1 .1 .1 .1 .0) (8 * s .args .h .vertices) (p .kept .1 .1 .1 .1 .1 .1 .1 .1 .0)
+same-length-7 c = c .before .before .before .before .before .before .before .before .before .before .before .before .before .before .before .before .before .before .plan-with .kept .1 .1 .1 .1 .1 .1 .1 .1 .0
 
 same-length-8 : tie.Need-same-length-8
 same-length-8 c = let s = c .before .before .before .before .before .before .before .before .before .before .before .before .before .before .before .before .before .before .before .before .before .before .before .before .before .before .before .before .before .before .before .before .before .before .before .before .before .before .before in let p = c .before .before .before .before .before .before .before .before .before .before .before .before .before .before .before .before .before .before .plan-with in length-front (s .args .gives .now) (p .last .1 .1 .1 .1 .1 .1 .1 .1 .1 .0) (8 * s .args .h .vertices) (p .kept .1 .1 .1 .1 .1 .1 .1 .1 .1 .0)
@@ -124,8 +118,6 @@ plan-within-spec =
     slice-aggregate-plan-with-6
     slice-relend-prefix-plan-with-7
     slice-aggregate-plan-with-7
-    slice-relend-prefix-plan-with-8
-    slice-aggregate-plan-with-8
     plan-with-requires
     same-length
     same-length-2

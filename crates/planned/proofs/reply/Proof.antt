@@ -17,7 +17,7 @@ abbrev start : tie.After-label-count → tie.Start
 start k = k .before .before .before .before .before .before .before
 
 -- the length, by the count
-needs-length : (k : tie.After-label-count) → 8 + 4 * start k .args .h .vertices + 8 * k .label-count .result ≡ planLength (start k .args .file .now)
+needs-length : (k : tie.After-label-count) → 8 + 4 * start k .args .h .vertices + 12 * k .label-count .result ≡ planLength (start k .args .file .now)
 needs-length k = length-is (start k .args .file .now) (start k .pre .0) (k .label-count .ensures .1 .0)
 
 enum-known-checked : tie.Need-enum-known-checked

@@ -18,7 +18,7 @@ abbrev μ-loop : tie.MeasureT-loop
 μ-loop m out₀ states a₀ out a = m - a
 
 -- where the entry of array a stands
-here : (c : tie.At-loop Inv-loop μ-loop) → 6 * c .loop .a ≡ length (entriesOf (c .before .before .args .t1) (c .loop .a))
+here : (c : tie.At-loop Inv-loop μ-loop) → 8 * c .loop .a ≡ length (entriesOf (c .before .before .args .t1) (c .loop .a))
 here c = sym (entries-length (λ b. bare (carriedOf (c .before .before .args .t1) b)) (c .loop .a))
 
 loop-holds : tie.Need-loop-holds Inv-loop μ-loop

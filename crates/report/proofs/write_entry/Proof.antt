@@ -1,4 +1,4 @@
--- `write_entry` meets its contract: six bytes from the front on.
+-- `write_entry` meets its contract: eight bytes from the front on.
 -- Assumes nothing.
 use native.Mathlib.Omega.{arith}
 use borrow.Author.Needs.{needs}
@@ -33,18 +33,30 @@ cast-out-4 c = search needs
 slice-write-out-4 : tie.Need-slice-write-out-4
 slice-write-out-4 c = simp length-set (omega arith)
 
+cast-out-5 : tie.Need-cast-out-5
+cast-out-5 c = search needs
+
 slice-write-out-5 : tie.Need-slice-write-out-5
 slice-write-out-5 c = simp length-set (omega arith)
 
+cast-out-6 : tie.Need-cast-out-6
+cast-out-6 c = search needs
+
 slice-write-out-6 : tie.Need-slice-write-out-6
-slice-write-out-6 c = search needs
+slice-write-out-6 c = simp length-set (omega arith)
+
+slice-write-out-7 : tie.Need-slice-write-out-7
+slice-write-out-7 c = simp length-set (omega arith)
+
+slice-write-out-8 : tie.Need-slice-write-out-8
+slice-write-out-8 c = simp length-set (omega arith)
 
 same-length : tie.Need-same-length
-same-length c = search needs
+same-length c = simp length-set
 
 returns : tie.Need-returns
 returns c =
-    let s = c .before .before .before .before in
+    let s = c .before .before .before .before .before .before in
     sets-eq (entryBytes (bare (s .args .s))) (s .args .out .now) 0 (s .pre)
 
 pub write-entry-spec : {M : Type 1} → statement M
@@ -59,7 +71,11 @@ write-entry-spec =
     slice-write-out-3
     cast-out-4
     slice-write-out-4
+    cast-out-5
     slice-write-out-5
+    cast-out-6
     slice-write-out-6
+    slice-write-out-7
+    slice-write-out-8
     same-length
     returns)

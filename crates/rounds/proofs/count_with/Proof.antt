@@ -9,15 +9,15 @@ use Rattle.rounds.proofs.count_with.Tie as tie
 
 -- from each call to the one before
 abbrev start : tie.After-prepare → tie.Start
-start p = p .before .before .before .before .before .before .before .before .before .before .before .before .before .before .before .before .before
+start p = p .before .before .before .before .before .before .before .before .before .before .before .before .before .before .before .before
 
 abbrev prepared : tie.After-kept → tie.After-prepare
 prepared t = t .before .before .before .before .before .before .before .before .before .before .before .before .before .before .before .before .before .before .before .before .before .before .before
 
 prepare-requires : tie.Need-prepare-requires
 prepare-requires c κs =
-    let p = c .before .before .before .before .before .before .before .before .before .before .before .before .before .before .before .before .pre in
-    (p .0, (p .1 .0, (p .1 .1 .0, (p .1 .1 .1 .0, (p .1 .1 .1 .1 .0, (p .1 .1 .1 .1 .1 .0, (p .1 .1 .1 .1 .1 .1 .1 .0, p .1 .1 .1 .1 .1 .1 .1 .1)))))))
+    let p = c .before .before .before .before .before .before .before .before .before .before .before .before .before .before .before .pre in
+    (p .0, (p .1 .0, (p .1 .1 .0, (p .1 .1 .1 .0, (p .1 .1 .1 .1 .0, (p .1 .1 .1 .1 .1 .0, (p .1 .1 .1 .1 .1 .1 .0, p .1 .1 .1 .1 .1 .1 .1)))))))
 
 -- ---- a refusal
 
@@ -63,7 +63,7 @@ kept-requires c κs =
     let x = e .before .before .before .before .before .before .before .before .before .before .before .before .before .before .before .before in
     let p = start x .pre in
     let k = x .prepare in
-    (p .0, (k .ensures .0, (k .ensures .1 .0, (k .ensures .1 .1 .letters-are (passed e), (p .1 .1 .1 .1 .1 .1 .0, (k .kept .1 .1 .1 .1 .0 ∙ p .1 .1 .1 .0, k .kept .1 .1 .1 .1 .1 .1 .1 .1 .0 ∙ p .1 .1 .1 .1 .1 .1 .1 .1))))))
+    (p .0, (k .ensures .0, (k .ensures .1 .0, (k .ensures .1 .1 .letters-are (passed e), (k .kept .1 .1 .1 .1 .0 ∙ p .1 .1 .1 .0, (k .kept .1 .1 .1 .1 .1 .1 .1 .0 ∙ p .1 .1 .1 .1 .1 .1 .0, k .kept .1 .1 .1 .1 .1 .1 .1 .1 .0 ∙ p .1 .1 .1 .1 .1 .1 .1))))))
 
 same-length-8 : tie.Need-same-length-8
 same-length-8 c = prepared (c .before .before .before .before .before .before) .prepare .kept .1 .1 .0
@@ -72,7 +72,7 @@ same-length-9 : tie.Need-same-length-9
 same-length-9 c = prepared (c .before .before .before .before .before .before) .prepare .kept .1 .1 .1 .0
 
 same-length-10 : tie.Need-same-length-10
-same-length-10 c = c .before .before .before .before .before .before .kept .kept .1 .1 .1 .1 .1 .1 .0 ∙ prepared (c .before .before .before .before .before .before) .prepare .kept .1 .1 .1 .1 .0
+same-length-10 c = c .before .before .before .before .before .before .kept .kept .1 .1 .1 .1 .1 .0 ∙ prepared (c .before .before .before .before .before .before) .prepare .kept .1 .1 .1 .1 .0
 
 same-length-11 : tie.Need-same-length-11
 same-length-11 c = prepared (c .before .before .before .before .before .before) .prepare .kept .1 .1 .1 .1 .1 .0
@@ -81,13 +81,10 @@ same-length-12 : tie.Need-same-length-12
 same-length-12 c = prepared (c .before .before .before .before .before .before) .prepare .kept .1 .1 .1 .1 .1 .1 .0
 
 same-length-13 : tie.Need-same-length-13
-same-length-13 c = c .before .before .before .before .before .before .kept .kept .1 .1 .1 .1 .1 .0
+same-length-13 c = c .before .before .before .before .before .before .kept .kept .1 .1 .1 .1 .1 .1 .0 ∙ prepared (c .before .before .before .before .before .before) .prepare .kept .1 .1 .1 .1 .1 .1 .1 .0
 
 same-length-14 : tie.Need-same-length-14
-same-length-14 c = prepared (c .before .before .before .before .before .before) .prepare .kept .1 .1 .1 .1 .1 .1 .1 .0
-
-same-length-15 : tie.Need-same-length-15
-same-length-15 c = c .before .before .before .before .before .before .kept .kept .1 .1 .1 .1 .1 .1 .1 .0 ∙ prepared (c .before .before .before .before .before .before) .prepare .kept .1 .1 .1 .1 .1 .1 .1 .1 .0
+same-length-14 c = c .before .before .before .before .before .before .kept .kept .1 .1 .1 .1 .1 .1 .1 .0 ∙ prepared (c .before .before .before .before .before .before) .prepare .kept .1 .1 .1 .1 .1 .1 .1 .1 .0
 
 returns-2 : tie.Need-returns-2
 returns-2 c =
@@ -124,5 +121,4 @@ count-with-spec =
     same-length-12
     same-length-13
     same-length-14
-    same-length-15
     returns-2)

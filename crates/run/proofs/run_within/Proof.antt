@@ -2,7 +2,7 @@
 -- Assumes nothing.
 use mathlib.Core.Path.{_≡_, sym, ap, _∙_}
 use mathlib.Core.List.{List}
-use Prim.Native.Nat.{ℕ, _*_}
+use Prim.Native.Nat.{ℕ, _*_, _≤_}
 use native.Mathlib.Omega.{arith}
 use lib.ListN.{length, take}
 use lib.Seq.{length-take-le, length-front}
@@ -23,13 +23,13 @@ size s = ap (λ (n : ℕ). 8 * n) (s .pre .0 .heads .vertices-are)
 -- ---- the parts
 
 order-part : (s : tie.Start) → length (take (s .args .h .edges) (s .args .order .now)) ≡ s .args .h .edges
-order-part s = length-take-le (s .args .h .edges) (s .args .order .now) (omega (arith, s .pre .1 .0, limits s .few-edges))
+order-part s = length-take-le (s .args .h .edges) (s .args .order .now) (omega (arith, s .pre .1 .0, s .pre .0 .heads .edges-are))
 
-cells-part : (s : tie.Start) (l : List ℕ) → length l ≡ 2048 → length (take (8 * s .args .h .vertices) l) ≡ 8 * s .args .h .vertices
-cells-part s l e = length-take-le (8 * s .args .h .vertices) l (omega (arith, e, limits s .few-vertices))
+cells-part : (s : tie.Start) (l : List ℕ) → 8 * vertices (s .args .file .now) ≤ length l → length (take (8 * s .args .h .vertices) l) ≡ 8 * s .args .h .vertices
+cells-part s l e = length-take-le (8 * s .args .h .vertices) l (omega (arith, e, s .pre .0 .heads .vertices-are))
 
 counts-part : (s : tie.Start) → length (take (s .args .h .vertices) (s .args .counts .now)) ≡ s .args .h .vertices
-counts-part s = length-take-le (s .args .h .vertices) (s .args .counts .now) (omega (arith, s .pre .1 .1 .1 .1 .1 .1 .0, limits s .few-vertices))
+counts-part s = length-take-le (s .args .h .vertices) (s .args .counts .now) (omega (arith, s .pre .1 .1 .1 .1 .1 .1 .0, s .pre .0 .heads .vertices-are))
 
 mul-all : tie.Need-mul-all
 mul-all c = search needs

@@ -1,4 +1,4 @@
--- `lowest` meets its contract: the trailing zeros of 16 bits fit in a byte.
+-- `lowest` meets its contract: the trailing zeros of a set fit in a byte.
 -- Assumes nothing.
 use mathlib.Core.Path.{refl}
 use native.Mathlib.Omega.{arith}

@@ -1,10 +1,10 @@
--- `text::put_mask` meets its contract: four digits, copied.
+-- `text::put_mask` meets its contract: eight digits, copied.
 -- Assumes nothing.
 use mathlib.Core.Path.{ap, _∙_}
 use native.Mathlib.Omega.{arith}
 use borrow.Author.Needs.{needs}
 use lib.ListN.{length}
-use Rattle.text.proofs.Digits.{copied, mask-four, mask-text}
+use Rattle.text.proofs.Digits.{copied, mask-eight, mask-text}
 use Rattle.text.proofs.put_mask.Statement.{statement}
 use Rattle.text.proofs.put_mask.Tie as tie
 
@@ -21,7 +21,7 @@ copy-requires : tie.Need-copy-requires
 copy-requires c κs =
     let s = c .before .before .before .before .before in
     let made = c .before .before .hex .ensures in
-    omega (arith, s .pre, mask-four (s .args .n) _ (made .1 .0), made .0 .1)
+    omega (arith, s .pre, mask-eight (s .args .n) _ (made .1 .0), made .0 .1)
 
 same-length : tie.Need-same-length
 same-length c = search needs

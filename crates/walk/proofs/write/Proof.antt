@@ -17,7 +17,7 @@ use borrow.Author.Needs.{needs}
 use Rattle.walk.proofs.write.Statement.{statement}
 use Rattle.walk.proofs.write.Tie as tie
 
-parts : (s : tie.Start) → 6 * s .args .h .arrays + length (recordsBytes (runRecords (s .args .file .now) (s .args .path .now))) ≤ length (s .args .out .now)
+parts : (s : tie.Start) → 8 * s .args .h .arrays + length (recordsBytes (runRecords (s .args .file .now) (s .args .path .now))) ≤ length (s .args .out .now)
 parts s = omega (arith, s .pre .1 .1 .1, report-parts (s .args .file .now) (s .args .path .now), s .pre .0 .heads .arrays-are)
 
 mul-at : tie.Need-mul-at
@@ -35,12 +35,12 @@ part-follow-end c = search needs
 follow-requires : tie.Need-follow-requires
 follow-requires c κs =
     let s = c .before .before .before .before .before .before .before in
-    (s .pre .0, (s .pre .1 .0, (s .pre .1 .1 .0, omega (arith, parts s, part-length (s .args .out .now) (6 * s .args .h .arrays)))))
+    (s .pre .0, (s .pre .1 .0, (s .pre .1 .1 .0, omega (arith, parts s, part-length (s .args .out .now) (8 * s .args .h .arrays)))))
 
 write-entries-requires : tie.Need-write-entries-requires
 write-entries-requires c κs =
     let s = c .before .before .before .before .before .before .before .before .before .before .before in
-    (omega (arith, s .pre .0 .heads .arrays-are, s .pre .0 .well .laid .limits .few-arrays), omega (arith, parts s, lent-length (s .args .out .now) (c .before .before .before .follow .last .1 .1 .1 .1 .1 .0) (6 * s .args .h .arrays) (omega (arith, parts s)) (c .before .before .before .follow .kept .1 .1 .1 .1 .1 .0)))
+    (omega (arith, s .pre .0 .heads .arrays-are, s .pre .0 .well .laid .limits .few-arrays), omega (arith, parts s, lent-length (s .args .out .now) (c .before .before .before .follow .last .1 .1 .1 .1 .1 .0) (8 * s .args .h .arrays) (omega (arith, parts s)) (c .before .before .before .follow .kept .1 .1 .1 .1 .1 .0)))
 
 same-length : tie.Need-same-length
 same-length c = search needs
@@ -54,9 +54,9 @@ returns c =
     let path = s .args .path .now in
     let m = s .pre .0 .heads .arrays-are in
     let front = ap (entriesOf (c .before .before .before .before .before .before .follow .result)) m ∙ entries-of file path (c .before .before .before .before .before .before .follow .result) (f .0) in
-    let long : 6 * s .args .h .arrays ≡ length (entriesOf (c .before .before .before .before .before .before .follow .result) (s .args .h .arrays)) = sym (entries-length (λ b. bare (carriedOf (c .before .before .before .before .before .before .follow .result) b)) (s .args .h .arrays)) in
+    let long : 8 * s .args .h .arrays ≡ length (entriesOf (c .before .before .before .before .before .before .follow .result) (s .args .h .arrays)) = sym (entries-length (λ b. bare (carriedOf (c .before .before .before .before .before .before .follow .result) b)) (s .args .h .arrays)) in
     c .before .before .write-entries .ensures
-    ∙ write-front (s .args .out .now) (entriesOf (c .before .before .before .before .before .before .follow .result) (s .args .h .arrays)) (recordsBytes (runRecords file path)) _ (6 * s .args .h .arrays) long (omega (arith, parts s)) (f .1)
+    ∙ write-front (s .args .out .now) (entriesOf (c .before .before .before .before .before .before .follow .result) (s .args .h .arrays)) (recordsBytes (runRecords file path)) _ (8 * s .args .h .arrays) long (omega (arith, parts s)) (f .1)
     ∙ ap (λ (e : List ℕ). wrote (s .args .out .now) (e ++ recordsBytes (runRecords file path))) front
 
 pub write-spec : {M : Type 1} → statement M

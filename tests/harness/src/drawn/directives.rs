@@ -4,7 +4,9 @@ use super::Drawn;
 use oracle::builder::{Draft, KILL, remap};
 use oracle::directives::{Program, Statement, file, sets};
 use oracle::outcome::Outcome;
+use oracle::record::RECORD;
 use oracle::routine::Action;
+use oracle::run::ENTRY;
 
 /// In larger files not every statement is tried for what it matters.
 const FEW_VERTICES: usize = 16;
@@ -50,6 +52,8 @@ impl Drawn {
         self.one("  a directive that no path gets to", some);
         let mut bytes = draft.rows.iter().flatten();
         self.one("  with a kill", bytes.any(|&byte| byte == KILL));
+        let many = draft.arrays.iter().any(|record| record[1] > 16);
+        self.one("  of 17 mappings or more", many);
     }
 
     fn count_what_matters(&mut self, program: &Program, draft: &Draft) {
@@ -80,11 +84,13 @@ impl Drawn {
         if let Ok(program) = file::parse(file)
             && answer.number == 0
         {
-            let records = || report[6 * program.arrays.len()..].chunks_exact(10);
+            let records = || report[ENTRY * program.arrays.len()..].chunks_exact(RECORD);
             let other = records().any(|record| record[3] > 0);
             self.one("  a reference in another version than 0", other);
             let kill = records().any(|record| record[4] == 4);
             self.one("  a kill in the report", kill);
+            let above = records().any(|record| record[3] > 15);
+            self.one("  a reference in a version above 15", above);
         }
     }
 }

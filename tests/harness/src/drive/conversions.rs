@@ -45,12 +45,12 @@ fn at_limits(rng: &mut Rng) -> Vec<Program> {
         limits::directives_everywhere(),
         limits::directives_against_numbers(),
     ];
-    for mappings in [15, 16, 17] {
+    for mappings in [16, 17, 31, 32, 33] {
         programs.push(limits::by_redistributes(mappings));
         programs.push(limits::by_realigns(mappings));
         programs.push(limits::with_unreached(limits::by_redistributes(mappings)));
     }
-    programs.extend([2, 3, 16, 17].map(limits::by_ways));
+    programs.extend([2, 3, 17, 32, 33].map(limits::by_ways));
     programs.extend(limits::large(rng));
     programs.extend(limits::beyond().into_iter().map(|(program, _)| program));
     programs
@@ -72,8 +72,9 @@ fn any_size(rng: &mut Rng) -> Size {
 
 /// A file that is accepted, and the parts of its routine.
 fn accepted(rng: &mut Rng) -> (Program, Draft) {
-    let mut program = match rng.below(2) {
-        0 => {
+    let mut program = match rng.below(20) {
+        0 | 1 => directives::many_mappings(rng),
+        2..=10 => {
             let size = any_size(rng);
             directives::program(rng, size)
         }
@@ -156,6 +157,10 @@ impl Driver<'_> {
                     "conversion, as drawn",
                     directives::program(&mut rng, size).bytes(),
                 ),
+                3 if index / 10 % 2 == 1 => {
+                    let program = directives::many_mappings(&mut rng);
+                    ("conversion, many mappings", program.bytes())
+                }
                 3 => {
                     let gaps = rng.below(60);
                     let program = directives::chain(&mut rng, size, gaps);

@@ -9,7 +9,9 @@ use oracle::directives::convert::convert;
 use oracle::directives::meaning::State;
 use oracle::directives::{Alignment, Dimension, Mapping, Program, Statement, file, sets, states};
 use oracle::outcome::Outcome;
+use oracle::record::RECORD;
 use oracle::routine::Action;
+use oracle::run::ENTRY;
 
 /// So many states are followed by a faulty converter.
 const MOST: usize = 1000;
@@ -408,35 +410,35 @@ fn mappings_not_as_written() {
         })
     }
     for faulty in [block_as_cyclic as Convert, low_byte, kind_alone] {
-        directives(faulty, 2);
+        directives(faulty, 3);
     }
 }
 
-/// 41 is given for 16 mappings, not for 17, or for 16 and one that no path gives.
+/// 41 is given for 32 mappings, not for 33, for 17, or for 32 and one that no path gives.
 #[test]
 fn the_limit_of_mappings() {
-    /// The first array of an accepted file that has 16 mappings.
-    fn full(directives: &[u8]) -> Option<u64> {
+    /// The first array of an accepted file that has so many mappings.
+    fn full(directives: &[u8], mappings: u8) -> Option<u64> {
         let routine = converted(&ORACLE, directives).ok()?;
         let arrays = Draft::from_bytes(&routine)?.arrays;
-        let full = arrays.iter().position(|array| array[1] == 16);
+        let full = arrays.iter().position(|array| array[1] == mappings);
         full.map(|array| array as u64)
     }
-    fn for_16(directives: &[u8], out: &mut [u8]) -> Outcome {
-        match full(directives) {
+    fn with<const MAPPINGS: u8>(directives: &[u8], out: &mut [u8]) -> Outcome {
+        match full(directives, MAPPINGS) {
             Some(array) => outcome(41, array, 0),
             None => convert(directives, out),
         }
     }
     fn with_unreached(directives: &[u8], out: &mut [u8]) -> Outcome {
-        match (full(directives), file::parse(directives)) {
+        match (full(directives, 32), file::parse(directives)) {
             (Some(array), Ok(program)) if reached(&program).contains(&false) => {
                 outcome(41, array, 0)
             }
             _ => convert(directives, out),
         }
     }
-    fn not_for_17(directives: &[u8], out: &mut [u8]) -> Outcome {
+    fn not_for_33(directives: &[u8], out: &mut [u8]) -> Outcome {
         let answer = convert(directives, out);
         if answer.number != 41 {
             return answer;
@@ -451,7 +453,12 @@ fn the_limit_of_mappings() {
             _ => without_last,
         }
     }
-    for faulty in [for_16 as Convert, with_unreached, not_for_17] {
+    for faulty in [
+        with::<32> as Convert,
+        with::<17>,
+        with_unreached,
+        not_for_33,
+    ] {
         let (mismatch, _) = converter(faulty);
         let fault = &mismatch.fault;
         assert_eq!(fault.difference, Difference::Outcome);
@@ -733,7 +740,7 @@ fn a_reference_in_another_mapping() {
             let answer = oracle::run::run(file, path, out);
             if answer.number == 0 {
                 let arrays = usize::from(file[8]);
-                for record in out[6 * arrays..answer.first as usize].chunks_exact_mut(10) {
+                for record in out[ENTRY * arrays..answer.first as usize].chunks_exact_mut(RECORD) {
                     record[3] = 0;
                 }
             }

@@ -6,8 +6,10 @@ use crate::library::{Convert, Plan, Run};
 use oracle::builder::{DEFINE, Draft, IN, KILL, MODIFY, READ};
 use oracle::directives::{Statement, convert, file};
 use oracle::outcome::Outcome;
+use oracle::plan;
+use oracle::record::RECORD;
 use oracle::routine::Routine;
-use oracle::{plan, run};
+use oracle::run::{self, ENTRY};
 
 /// A file whose parts fit together, with another byte for each kill.
 fn with_byte(file: &[u8], byte: u8) -> Vec<u8> {
@@ -113,9 +115,9 @@ fn ran_as<const BYTE: u8>(file: &[u8], path: &[u8], out: &mut [u8]) -> Outcome {
         let routine = Routine::parse(file).unwrap();
         let mut right = vec![0; answer.first as usize];
         run::run(file, path, &mut right);
-        let heads = 6 * routine.array_count();
-        let records = out[heads..].chunks_exact_mut(10);
-        for (record, right) in records.zip(right[heads..].chunks_exact(10)) {
+        let heads = ENTRY * routine.array_count();
+        let records = out[heads..].chunks_exact_mut(RECORD);
+        for (record, right) in records.zip(right[heads..].chunks_exact(RECORD)) {
             record[4] = right[4];
         }
     }
@@ -147,8 +149,8 @@ fn a_stamp_that_stays() {
         if answer.number == 0 {
             let arrays = Routine::parse(file).unwrap().array_count();
             let mut stamps = vec![None; arrays];
-            let records = &mut out[6 * arrays..answer.first as usize];
-            for record in records.chunks_exact_mut(10) {
+            let records = &mut out[ENTRY * arrays..answer.first as usize];
+            for record in records.chunks_exact_mut(RECORD) {
                 let stamp = &mut stamps[usize::from(record[2])];
                 match record[4] {
                     1 => {
@@ -179,7 +181,7 @@ fn another_kind() {
         let answer = run::run(file, path, out);
         if answer.number == 0 {
             let arrays = Routine::parse(file).unwrap().array_count();
-            let records = out[6 * arrays..answer.first as usize].chunks_exact_mut(10);
+            let records = out[ENTRY * arrays..answer.first as usize].chunks_exact_mut(RECORD);
             records
                 .filter(|record| record[4] == 4)
                 .for_each(|record| record[4] = 2);

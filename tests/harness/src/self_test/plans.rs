@@ -6,7 +6,7 @@ use crate::drive::Mismatch;
 use crate::library::Plan;
 use oracle::builder::{self, Draft};
 use oracle::outcome::Outcome;
-use oracle::plan;
+use oracle::plan::{self, LABEL};
 use oracle::routine::{Action, Event, Kind, Reference, Routine};
 use std::sync::Mutex;
 
@@ -17,7 +17,7 @@ fn labels(out: &mut [u8]) -> Vec<(usize, &mut [u8])> {
     let word = |at: usize| usize::from(u16::from_le_bytes([head[at], head[at + 1]]));
     let counts = (0..vertex_count).map(|vertex| (vertex, word(10 + 4 * vertex)));
     let vertices = counts.flat_map(|(vertex, count)| std::iter::repeat_n(vertex, count));
-    vertices.zip(records.chunks_exact_mut(8)).collect()
+    vertices.zip(records.chunks_exact_mut(LABEL)).collect()
 }
 
 /// Whether a segment from here meets a read or modify without a define before it.
@@ -58,9 +58,9 @@ fn define_on_one_branch_only() {
         }
         answer
     }
-    let mut out = [0; 64];
+    let mut out = [0; 80];
     let written = faulty(&builder::q().bytes(), &mut out).first as usize;
-    assert_eq!(out[..written][8 + 24 + 8 + 1], b'D');
+    assert_eq!(out[..written][8 + 24 + LABEL + 1], b'D');
     let (mismatch, draft) = planner(faulty);
     assert!(matches!(mismatch.fault.difference, Difference::Written(_)));
     let draft = draft.unwrap();
@@ -122,7 +122,7 @@ fn kept_for_a_label_that_is_gone() {
                     *vertex != routine.exit() || kind != Kind::In
                 });
                 for ((_, label), (_, before)) in labels(out).into_iter().zip(left) {
-                    label[6..8].copy_from_slice(&before[6..8]);
+                    label[8..12].copy_from_slice(&before[8..12]);
                 }
             });
         }
@@ -143,7 +143,7 @@ fn nothing_kept_at_a_dropped_label() {
         if answer.number == 0 {
             for (_, label) in labels(out) {
                 if label[1] == b'N' {
-                    label[6..8].fill(0);
+                    label[8..12].fill(0);
                 }
             }
         }
@@ -464,7 +464,7 @@ fn the_last_array_of_20() {
     }
     let (mismatch, draft) = planner(faulty);
     assert_eq!(mismatch.fault.difference, Difference::Outcome);
-    assert!(mismatch.index < 400, "{mismatch}");
+    assert!(mismatch.index < 600, "{mismatch}");
     let draft = draft.unwrap();
     assert_eq!((draft.arrays.len(), draft.rows.len()), (2, 3), "{mismatch}");
 }

@@ -5,8 +5,9 @@ use crate::check::Difference;
 use crate::library::Run;
 use oracle::builder;
 use oracle::outcome::Outcome;
+use oracle::record::RECORD;
 use oracle::routine::{Kind, Routine};
-use oracle::run::{self, LONGEST_REPORT};
+use oracle::run::{self, ENTRY, LONGEST_REPORT};
 
 /// One copy too many where there are two or more: more than the machine's.
 #[test]
@@ -48,8 +49,8 @@ fn a_wrong_stamp() {
         if answer.number == 0 {
             let arrays = Routine::parse(file).unwrap().array_count();
             let copied = out[0] > 0;
-            let records = &mut out[6 * arrays..answer.first as usize];
-            for record in records.chunks_exact_mut(10) {
+            let records = &mut out[ENTRY * arrays..answer.first as usize];
+            for record in records.chunks_exact_mut(RECORD) {
                 if copied && record[4] == 3 {
                     record[6] ^= 1;
                 }
@@ -79,7 +80,7 @@ fn change_callers(
         if run::vertices(path).last() == Some(with_expanded(file, |routine| routine.exit())) {
             let mut before = vec![0; LONGEST_REPORT];
             run::run(file, &path[..2 * (steps - 1)], &mut before);
-            let heads = out.chunks_exact_mut(6).zip(before.chunks_exact(6));
+            let heads = out.chunks_exact_mut(ENTRY).zip(before.chunks_exact(ENTRY));
             for (array, (head, before)) in routine.arrays().zip(heads) {
                 if array.kind == Kind::In {
                     change(head, array.initial, before);
@@ -99,11 +100,11 @@ fn the_callers_copy_left_dead() {
         })
     }
     fn current_and_dead(file: &[u8], path: &[u8], out: &mut [u8]) -> Outcome {
-        change_callers(file, path, out, |head, _, _| head[2..4].fill(0))
+        change_callers(file, path, out, |head, _, _| head[2..6].fill(0))
     }
     fn as_a_local_array(file: &[u8], path: &[u8], out: &mut [u8]) -> Outcome {
         change_callers(file, path, out, |head, _, _| {
-            head[2..5].copy_from_slice(&[0, 0, 255]);
+            head[2..7].copy_from_slice(&[0, 0, 0, 0, 255]);
         })
     }
     for (faulty, vertices) in [
@@ -127,7 +128,7 @@ fn the_callers_copy_left_dead() {
 fn a_copy_home_counted() {
     fn faulty(file: &[u8], path: &[u8], out: &mut [u8]) -> Outcome {
         change_callers(file, path, out, |head, initial, before| {
-            head[0] += u8::from(before[4] != initial);
+            head[0] += u8::from(before[6] != initial);
         })
     }
     let (mismatch, draft) = runner(faulty);
@@ -148,7 +149,7 @@ fn kept_live_for_a_label_that_is_gone() {
     }
     let (mismatch, draft) = runner(faulty);
     assert_eq!(mismatch.fault.difference, Difference::Written(2));
-    assert_eq!(mismatch.fault.found.buffer[..6], [1, 0, 3, 0, 1, 0]);
+    assert_eq!(mismatch.fault.found.buffer[..8], [1, 0, 3, 0, 0, 0, 1, 0]);
     assert_eq!(draft.unwrap(), builder::read_only(), "{mismatch}");
 }
 
@@ -216,7 +217,7 @@ fn copies_of_11_bits() {
         let answer = run::run(file, path, out);
         if answer.number == 0 {
             let arrays = Routine::parse(file).unwrap().array_count();
-            for head in out[..6 * arrays].chunks_exact_mut(6) {
+            for head in out[..ENTRY * arrays].chunks_exact_mut(ENTRY) {
                 head[1] &= 7;
             }
         }

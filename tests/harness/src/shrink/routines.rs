@@ -4,6 +4,7 @@ use super::{Shrinker, drop_exit, drop_vertex};
 use crate::library::Input;
 use oracle::builder::{Draft, LOCAL, call_in, path_bytes, remap};
 use oracle::calls::{Part, Place, is_call};
+use oracle::routine::MAX_VERSIONS;
 
 #[derive(Clone)]
 struct Parts {
@@ -206,7 +207,7 @@ impl Shrinker<'_, Parts> {
             self.attempt_draft(|draft| draft.arrays[array][0] = LOCAL);
             self.attempt_draft(|draft| draft.arrays[array][2] = 0);
             self.attempt_draft(|draft| draft.arrays[array][3] = 0);
-            for versions in 1..=16 {
+            for versions in 1..=MAX_VERSIONS as u8 {
                 let lower = |draft: &mut Draft| {
                     let old = &mut draft.arrays[array][1];
                     *old = versions.min(*old);

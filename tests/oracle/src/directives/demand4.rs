@@ -4,18 +4,15 @@
 use super::meaning::State;
 use super::{Mapping, Program, Statement};
 use crate::builder::REFERENCES;
-use crate::run;
-
-/// The bytes of a report for an array, and for a reference.
-const HEAD: usize = 6;
-const RECORD: usize = 10;
+use crate::record::RECORD;
+use crate::run::{self, ENTRY};
 
 /// A reference: its step, its array, and its byte in the row.
 type Found = (usize, usize, u8);
 
 /// The references that a report tells, and the version of each.
 fn told(report: &[u8], arrays: usize) -> impl Iterator<Item = (Found, u8)> {
-    let records = report[HEAD * arrays..].chunks_exact(RECORD);
+    let records = report[ENTRY * arrays..].chunks_exact(RECORD);
     records.map(|record| {
         let step = usize::from(u16::from_le_bytes([record[0], record[1]]));
         let byte = match record[4] {

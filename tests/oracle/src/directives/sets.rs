@@ -11,7 +11,7 @@ use super::file::MAX_TEMPLATES;
 use super::{Alignment, Mapping, Program, Statement};
 use crate::builder::remap;
 use crate::outcome::Refusal;
-use crate::routine::{MAX_ARRAYS, MAX_VERSIONS, MAX_VERTICES};
+use crate::routine::{MAX_ARRAYS, MAX_VERSIONS, MAX_VERTICES, Set};
 use std::collections::BTreeSet;
 
 /// Sets that are joined where paths meet.
@@ -143,37 +143,38 @@ fn spread(program: &Program, template: usize, giver: usize) -> Mapping {
     }
 }
 
-/// For each array the versions in which paths bring it, 16 bits for each template with which it is
-/// then aligned.
+/// For each array the versions in which paths bring it, for each template with which it is then
+/// aligned.
 #[derive(Clone, PartialEq)]
-struct Brought([u128; MAX_ARRAYS]);
+struct Brought([[Set; MAX_TEMPLATES]; MAX_ARRAYS]);
 
 impl Sets for Brought {
     fn join(&mut self, other: &Brought) {
-        for (one, more) in self.0.iter_mut().zip(other.0) {
+        let sets = self.0.as_flattened_mut().iter_mut();
+        for (one, more) in sets.zip(other.0.as_flattened()) {
             *one |= more;
         }
     }
 }
 
 /// These versions with a template.
-fn with_template(template: usize, versions: u16) -> u128 {
-    u128::from(versions) << (MAX_VERSIONS * template)
+fn with_template(template: usize, versions: Set) -> [Set; MAX_TEMPLATES] {
+    let mut pairs = [0; MAX_TEMPLATES];
+    pairs[template] = versions;
+    pairs
 }
 
 /// The versions, whatever their template.
-fn versions_of(pairs: u128) -> u16 {
-    (0..MAX_TEMPLATES).fold(0, |versions, template| {
-        versions | (pairs >> (MAX_VERSIONS * template)) as u16
-    })
+fn versions_of(pairs: [Set; MAX_TEMPLATES]) -> Set {
+    pairs.iter().fold(0, |versions, more| versions | more)
 }
 
 /// For each vertex and array the versions that the vertex's directive gives.
-type Given = Vec<[u16; MAX_ARRAYS]>;
+type Given = Vec<[Set; MAX_ARRAYS]>;
 
 impl Brought {
     fn at_entry(program: &Program) -> Brought {
-        let mut pairs = [0; MAX_ARRAYS];
+        let mut pairs = [[0; MAX_TEMPLATES]; MAX_ARRAYS];
         for (set, array) in pairs.iter_mut().zip(&program.arrays) {
             *set = with_template(array.alignment.template, 1);
         }
@@ -189,8 +190,7 @@ impl Brought {
             }
             Statement::Redistribute(template, _) => {
                 for (pairs, versions) in left.0.iter_mut().zip(given[vertex]) {
-                    *pairs &= !with_template(template, !0);
-                    *pairs |= with_template(template, versions);
+                    pairs[template] = versions;
                 }
             }
         }
@@ -228,7 +228,7 @@ fn number(
 fn remaps(
     vertex: usize,
     arrays: usize,
-    given: &[u16; MAX_ARRAYS],
+    given: &[Set; MAX_ARRAYS],
     left: &Brought,
 ) -> Result<Vec<u8>, Refusal> {
     let mut row = vec![0; arrays];

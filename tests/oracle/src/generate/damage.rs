@@ -14,12 +14,9 @@ use crate::routine::{HEAD, MAX_VERSIONS, MAX_VERTICES, Routine};
 pub const FILE_REFUSALS: [u64; 13] = [10, 11, 12, 13, 14, 15, 16, 17, 18, 19, 20, 22, 21];
 
 /// Action bytes that stand for nothing, about those that do.
-const UNKNOWN: [u8; 13] = [
-    0x01, 0x0f, 0x11, 0x3f, 0x50, 0x5f, 0x81, 0x88, 0x90, 0x9f, 0xe0, 0xef, 0xff,
+const UNKNOWN: [u8; 11] = [
+    0x01, 0x0f, 0x11, 0x3f, 0x81, 0x88, 0x90, 0x9f, 0xe0, 0xef, 0xff,
 ];
-
-/// The versions that a call's byte has room for.
-const CALL_VERSIONS: usize = 32;
 
 /// A well-formed routine with at least three vertices and two edges.
 fn base(rng: &mut Rng) -> Draft {
@@ -117,7 +114,7 @@ fn damage_array(rng: &mut Rng, draft: &mut Draft) {
     let record = &mut draft.arrays[array];
     match rng.below(4) {
         0 => record[0] = rng.between(4, 255) as u8,
-        1 => record[1] = rng.pick(&[0, 17, 18, 32, 255]),
+        1 => record[1] = rng.pick(&[0, 33, 34, 64, 255]),
         2 => record[2] = rng.between(usize::from(record[1]), 255) as u8,
         _ => record[3] = rng.between(1, 255) as u8,
     }
@@ -131,11 +128,11 @@ fn damage_action(rng: &mut Rng, draft: &mut Draft, number: u64) {
     match number {
         15 => draft.rows[rng.below(exit + 1)][array] = rng.pick(&UNKNOWN),
         17 => {
-            let (action, room) = match rng.below(2) {
-                0 => (remap as fn(u8) -> u8, MAX_VERSIONS),
-                _ => (rng.pick(&INTENTS), CALL_VERSIONS),
+            let action = match rng.below(2) {
+                0 => remap as fn(u8) -> u8,
+                _ => rng.pick(&INTENTS),
             };
-            let version = rng.between(usize::from(versions), room - 1) as u8;
+            let version = rng.between(usize::from(versions), MAX_VERSIONS - 1) as u8;
             draft.rows[rng.below(exit + 1)][array] = action(version);
         }
         18 => {
@@ -181,7 +178,7 @@ pub fn all_of_two_rows() -> impl Iterator<Item = Vec<u8>> {
         MODIFY,
         remap(0),
         remap(1),
-        remap(2),
+        remap(16),
         call_in(1),
         call_out(0),
         call_inout(31),

@@ -170,6 +170,26 @@ pub fn chain(rng: &mut Rng, size: Size, gaps: usize) -> Program {
     on_graph(rng, size, size.vertices, edges)
 }
 
+/// A chain whose arrays have many mappings, often 17 to 32 and sometimes more.
+pub fn many_mappings(rng: &mut Rng) -> Program {
+    let size = Size {
+        vertices: rng.between(30, 110),
+        templates: rng.between(1, 2),
+        arrays: rng.between(1, 2),
+        spreads: 1,
+    };
+    let mut program = chain(rng, size, 0);
+    let spread = |size| Mapping(Dimension::Cyclic(size), Dimension::Block);
+    let spreads: Vec<Mapping> = (1..=50).map(spread).collect();
+    for vertex in 1..size.vertices - 1 {
+        program.vertices[vertex] = match rng.below(4) {
+            0 => references(rng, &program.arrays),
+            _ => directive(rng, &program, &spreads),
+        };
+    }
+    program
+}
+
 /// Takes what 41, 42, 20 and 21 refuse out of a program, one statement after the other; at first
 /// something else may stand there instead.
 pub fn make_acceptable(rng: &mut Rng, program: &mut Program) {
@@ -357,8 +377,9 @@ pub fn refused(rng: &mut Rng, number: u64, any_size: fn(&mut Rng) -> Size) -> Ve
     loop {
         let mut size = any_size(rng);
         if number == 41 {
-            size.vertices = size.vertices.max(24);
-            size.spreads = 60;
+            size.vertices = size.vertices.max(100);
+            size.templates = size.templates.min(2);
+            size.spreads = 120;
         }
         let mut program = program(rng, size);
         if number == 40 {

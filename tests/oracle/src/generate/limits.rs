@@ -56,34 +56,42 @@ pub fn longest_path() -> Vec<u16> {
     path
 }
 
-/// Random rows on a chain that takes the vertices in this order.
-fn chain(rng: &mut Rng, order: &[u16]) -> Draft {
-    let mut draft = routines::graph(rng, Size::LARGEST, 0, false);
+/// Random rows on a chain that takes the vertices in this order, arrays of up to so many versions.
+fn chain(rng: &mut Rng, versions: usize, order: &[u16]) -> Draft {
+    let size = Size {
+        versions,
+        ..Size::LARGEST
+    };
+    let mut draft = routines::graph(rng, size, 0, false);
     draft.edges = order.windows(2).map(|pair| (pair[0], pair[1])).collect();
     draft.edges.sort_unstable();
     draft
 }
 
 /// A chain numbered against its direction: facts travel one vertex a sweep.
-pub fn backward_chain(rng: &mut Rng) -> Draft {
+pub fn backward_chain(rng: &mut Rng, versions: usize) -> Draft {
     let exit = MAX_VERTICES as u16 - 1;
     let mut order = vec![0];
     order.extend((1..exit).rev());
     order.push(exit);
-    chain(rng, &order)
+    chain(rng, versions, &order)
 }
 
 /// A chain 0, 128, 1, 129 and so on: facts travel two vertices a sweep, whichever way the
 /// sweeps go.
-pub fn zigzag_chain(rng: &mut Rng) -> Draft {
+pub fn zigzag_chain(rng: &mut Rng, versions: usize) -> Draft {
     let half = MAX_VERTICES as u16 / 2;
     let order: Vec<u16> = (0..half).flat_map(|low| [low, half + low]).collect();
-    chain(rng, &order)
+    chain(rng, versions, &order)
 }
 
-/// 256 vertices, 1,024 edges, eight arrays of up to 16 versions.
-pub fn dense(rng: &mut Rng) -> Draft {
-    routines::graph_of(rng, Size::LARGEST, MAX_EDGES)
+/// 256 vertices, 1,024 edges, eight arrays of up to so many versions.
+pub fn dense(rng: &mut Rng, versions: usize) -> Draft {
+    let size = Size {
+        versions,
+        ..Size::LARGEST
+    };
+    routines::graph_of(rng, size, MAX_EDGES)
 }
 
 /// Eight arrays that the last vertex but one and vertex 1 remap; nothing else is done.
@@ -118,6 +126,16 @@ pub fn chain_both_ways() -> Draft {
     edges.extend((2..exit).map(|vertex| (vertex, vertex)));
     edges.extend((2..exit - 1).map(|vertex| (vertex, vertex + 1)));
     two_rows_of_labels(edges)
+}
+
+/// A loop that reads an inout argument in each of 32 versions: every set is full.
+pub fn most_versions() -> Draft {
+    let versions = MAX_VERSIONS as u8;
+    let actions: Vec<u8> = (0..versions).flat_map(|v| [remap(v), READ]).collect();
+    let mut draft = Draft::chain(INOUT, versions, versions - 1, &actions);
+    draft.edges.push((actions.len() as u16, 1));
+    draft.edges.sort_unstable();
+    draft
 }
 
 /// The vertices of a ring that has room for another vertex beside each.
@@ -177,7 +195,7 @@ fn rows_of_calls(rng: &mut Rng, vertices: usize, calls: usize) -> Draft {
     let arrays = routines::arrays(rng, Size::LARGEST);
     let exit = vertices - 2 * calls - 1;
     let mut rows = vec![vec![0; MAX_ARRAYS]; exit + 1];
-    let remaps = |&[_, versions, ..]: &[u8; 4]| remap(rng.below(usize::from(versions)) as u8);
+    let remaps = |&[_, versions, ..]: &[u8; 4]| remap(routines::any_version(rng, versions));
     rows[1] = arrays.iter().map(remaps).collect();
     let mut calls_left = calls;
     for (vertex, row) in rows.iter_mut().enumerate().take(exit).skip(2) {
@@ -286,6 +304,9 @@ pub fn at_limits(rng: &mut Rng) -> Vec<Draft> {
     let mut drafts = vec![
         Draft::one_array(LOCAL, 1, 0, &[], &[]),
         Draft::one_array(INOUT, 16, 15, &[], &[(0, 1)]),
+        Draft::one_array(INOUT, 17, 16, &[], &[(0, 1)]),
+        Draft::one_array(INOUT, 32, 31, &[], &[(0, 1)]),
+        most_versions(),
         largest_plan(),
         largest_report(),
         largest_with_kills(),
@@ -294,20 +315,21 @@ pub fn at_limits(rng: &mut Rng) -> Vec<Draft> {
         ring_of_labels(),
     ];
     drafts.extend(about_powers_of_two(rng));
-    for _ in 0..2 {
-        let mut draft = backward_chain(rng);
+    for versions in [16, MAX_VERSIONS] {
+        let mut draft = backward_chain(rng, versions);
         drafts.push(draft.clone());
         routines::make_acceptable(rng, &mut draft);
         drafts.push(draft);
-        let mut draft = zigzag_chain(rng);
+        let mut draft = zigzag_chain(rng, versions);
         routines::make_acceptable(rng, &mut draft);
         drafts.push(draft);
-        let mut draft = dense(rng);
+        let mut draft = dense(rng, versions);
         drafts.push(draft.clone());
         routines::make_acceptable(rng, &mut draft);
         drafts.push(draft);
         for calls in [0, 40] {
             let size = Size {
+                versions,
                 calls,
                 ..Size::LARGEST
             };

@@ -27,7 +27,8 @@ impl Size {
         calls: 0,
     };
 
-    /// Mostly small, sometimes up to the limits; mostly with calls.
+    /// Mostly small, sometimes up to the limits; mostly with calls; one of four with arrays of more
+    /// than 16 versions.
     pub fn any(rng: &mut Rng) -> Size {
         let (vertices, arrays, versions) = match rng.below(20) {
             0..=9 => (rng.between(3, 16), rng.between(1, 3), rng.between(1, 4)),
@@ -38,7 +39,10 @@ impl Size {
         Size {
             vertices,
             arrays,
-            versions,
+            versions: match rng.chance(25) {
+                true => rng.between(17, MAX_VERSIONS),
+                false => versions,
+            },
             calls: any_calls(rng),
         }
     }
@@ -57,11 +61,20 @@ pub fn any_calls(rng: &mut Rng) -> usize {
 pub fn arrays(rng: &mut Rng, size: Size) -> Vec<[u8; 4]> {
     (0..size.arrays)
         .map(|_| {
-            let versions = rng.between(1.max(size.versions / 2), size.versions);
+            let versions = rng.between(1.max(size.versions / 2), size.versions) as u8;
             let kind = rng.between(0, usize::from(INOUT)) as u8;
-            [kind, versions as u8, rng.below(versions) as u8, 0]
+            [kind, versions, any_version(rng, versions), 0]
         })
         .collect()
+}
+
+/// A version of an array that has so many. Of more than 16 it is mostly one of a few, so that the
+/// same one is met again.
+pub fn any_version(rng: &mut Rng, versions: u8) -> u8 {
+    if versions > 16 && rng.chance(70) {
+        return rng.pick(&[0, 15, 16, versions - 1]);
+    }
+    rng.below(usize::from(versions)) as u8
 }
 
 /// A reference: reads and defines twice as often as modifies and kills.
@@ -78,7 +91,7 @@ pub fn call_row(rng: &mut Rng, arrays: &[[u8; 4]]) -> Vec<u8> {
     let always = rng.below(arrays.len());
     for (array, &[kind, versions, ..]) in arrays.iter().enumerate() {
         if array == always || rng.chance(40) {
-            let version = rng.below(usize::from(versions)) as u8;
+            let version = any_version(rng, versions);
             let intent = if kind == IN && !rng.chance(1) {
                 call_in
             } else {
@@ -105,7 +118,7 @@ pub fn row(rng: &mut Rng, arrays: &[[u8; 4]], calls: usize) -> Vec<u8> {
     for (array, &[kind, versions, ..]) in arrays.iter().enumerate() {
         if array == always || rng.chance(40) {
             row[array] = if remaps {
-                remap(rng.below(usize::from(versions)) as u8)
+                remap(any_version(rng, versions))
             } else if kind == IN && !rng.chance(1) {
                 READ
             } else {
@@ -330,8 +343,7 @@ pub fn make_acceptable(rng: &mut Rng, draft: &mut Draft) {
         } else {
             // Remapping here makes later references name one version.
             row.fill(0);
-            let versions = usize::from(draft.arrays[array][1]);
-            row[array] = remap(rng.below(versions) as u8);
+            row[array] = remap(any_version(rng, draft.arrays[array][1]));
         }
     }
 }

@@ -1,4 +1,6 @@
-//! The label rules as data flow, for speed: all arrays at once, tables on the stack.
+//! The label rules as data flow, for speed: all arrays at once, tables on the stack. A version set
+//! has 16 bits where no array has more versions, so that those of eight arrays are one word; else it
+//! has 32, and they are two.
 //!
 //! Three sweeps over the edges: use (against the edges), last versions and reaching (along
 //! them, from the entry), kept sets (against them). A sweep takes up a vertex again only
@@ -11,21 +13,134 @@
 use super::{Label, Labels, Use};
 use crate::calls::{self, Room};
 use crate::outcome::Refusal;
-use crate::routine::{Array, Kind, MAX_ARRAYS, MAX_EXPANDED_EDGES, MAX_VERTICES, Routine};
+use crate::routine::{Array, Kind, MAX_ARRAYS, MAX_EXPANDED_EDGES, MAX_VERTICES, Routine, Set};
+use std::ops::{BitAnd, BitOr, BitOrAssign, Not};
 
-/// A version set for each array, 16 bits each.
-type Sets = u128;
+/// A version set for each array.
+pub trait Sets:
+    Copy + PartialEq + BitOr<Output = Self> + BitAnd<Output = Self> + BitOrAssign + Not<Output = Self>
+{
+    const NONE: Self;
 
-/// The set of one array.
-#[inline(always)]
-fn set_of(sets: Sets, array: usize) -> u16 {
-    (sets >> (16 * array)) as u16
+    /// A version of one array alone.
+    fn only(array: usize, version: u8) -> Self;
+
+    /// The set of one array.
+    fn set_of(self, array: usize) -> Set;
+
+    /// All versions of some arrays.
+    fn all_of(arrays: Arrays) -> Self;
 }
 
-/// A set for one array, the others empty.
-#[inline(always)]
-fn only(array: usize, set: u16) -> Sets {
-    Sets::from(set) << (16 * array)
+/// Sets of 16 bits.
+pub type Narrow = u128;
+
+impl Sets for Narrow {
+    const NONE: Narrow = 0;
+
+    #[inline(always)]
+    fn only(array: usize, version: u8) -> Narrow {
+        Narrow::from(1u16 << version) << (16 * array)
+    }
+
+    #[inline(always)]
+    fn set_of(self, array: usize) -> Set {
+        Set::from((self >> (16 * array)) as u16)
+    }
+
+    #[inline(always)]
+    fn all_of(arrays: Arrays) -> Narrow {
+        const ALL_OF: [Narrow; 256] = {
+            let mut table = [0; 256];
+            let mut bits = 0;
+            while bits < 8 * 256 {
+                let (arrays, array) = (bits / 8, bits % 8);
+                if arrays >> array & 1 == 1 {
+                    table[arrays] |= 0xffff << (16 * array);
+                }
+                bits += 1;
+            }
+            table
+        };
+        ALL_OF[usize::from(arrays)]
+    }
+}
+
+/// Sets of 32 bits: the versions below 16, and the others.
+#[derive(Clone, Copy, PartialEq, Eq)]
+pub struct Wide {
+    low: Narrow,
+    high: Narrow,
+}
+
+impl BitOr for Wide {
+    type Output = Wide;
+
+    #[inline(always)]
+    fn bitor(self, other: Wide) -> Wide {
+        Wide {
+            low: self.low | other.low,
+            high: self.high | other.high,
+        }
+    }
+}
+
+impl BitAnd for Wide {
+    type Output = Wide;
+
+    #[inline(always)]
+    fn bitand(self, other: Wide) -> Wide {
+        Wide {
+            low: self.low & other.low,
+            high: self.high & other.high,
+        }
+    }
+}
+
+impl BitOrAssign for Wide {
+    #[inline(always)]
+    fn bitor_assign(&mut self, other: Wide) {
+        *self = *self | other;
+    }
+}
+
+impl Not for Wide {
+    type Output = Wide;
+
+    #[inline(always)]
+    fn not(self) -> Wide {
+        Wide {
+            low: !self.low,
+            high: !self.high,
+        }
+    }
+}
+
+impl Sets for Wide {
+    const NONE: Wide = Wide { low: 0, high: 0 };
+
+    #[inline(always)]
+    fn only(array: usize, version: u8) -> Wide {
+        let half = Narrow::only(array, version % 16);
+        match version {
+            0..16 => Wide { low: half, high: 0 },
+            _ => Wide { low: 0, high: half },
+        }
+    }
+
+    #[inline(always)]
+    fn set_of(self, array: usize) -> Set {
+        self.low.set_of(array) | self.high.set_of(array) << 16
+    }
+
+    #[inline(always)]
+    fn all_of(arrays: Arrays) -> Wide {
+        let all = Narrow::all_of(arrays);
+        Wide {
+            low: all,
+            high: all,
+        }
+    }
 }
 
 /// One bit for each array.
@@ -38,24 +153,6 @@ fn members(mut arrays: Arrays) -> impl Iterator<Item = usize> {
         arrays &= arrays - 1;
         Some(array)
     })
-}
-
-/// All versions of some arrays.
-#[inline(always)]
-fn all_of(arrays: Arrays) -> Sets {
-    const ALL_OF: [Sets; 256] = {
-        let mut table = [0; 256];
-        let mut bits = 0;
-        while bits < 8 * 256 {
-            let (arrays, array) = (bits / 8, bits % 8);
-            if arrays >> array & 1 == 1 {
-                table[arrays] |= 0xffff << (16 * array);
-            }
-            bits += 1;
-        }
-        table
-    };
-    ALL_OF[usize::from(arrays)]
 }
 
 /// A set of vertices.
@@ -182,9 +279,9 @@ fn gather(word: u64, bit: u32) -> Arrays {
 
 /// What one vertex does with the arrays.
 #[derive(Clone, Copy)]
-struct Row {
+struct Row<S> {
     /// The version of each label, as a set of one; empty without a label.
-    version: Sets,
+    version: S,
     labels: Arrays,
     /// References, and what is passed to a call.
     references: Arrays,
@@ -202,9 +299,9 @@ struct Row {
     ahead: Meets,
 }
 
-impl Row {
-    const EMPTY: Row = Row {
-        version: 0,
+impl<S: Sets> Row<S> {
+    const EMPTY: Row<S> = Row {
+        version: S::NONE,
         labels: 0,
         references: 0,
         changes: 0,
@@ -216,15 +313,17 @@ impl Row {
     };
 
     /// The row of up to eight action bytes, none of which is a call: reads and modifies have bit
-    /// 4, defines and modifies bit 5, remappings bit 6, kills, which are defines too, bit 7.
+    /// 4, defines and modifies bit 5, remappings bit 6, kills, which are defines too, bit 7. The bits
+    /// below 5 of a remapping are its version.
     #[inline(always)]
-    fn of_actions(bytes: &[u8]) -> Row {
+    fn of_actions(bytes: &[u8]) -> Row<S> {
         let word = word(bytes);
-        let (sees, labels) = (gather(word, 4), gather(word, 6));
+        let labels = gather(word, 6);
+        let sees = gather(word, 4) & !labels;
         let changes = gather(word | word >> 2, 5);
-        let mut version = 0;
+        let mut version = S::NONE;
         for array in members(labels) {
-            version |= only(array, 1 << (bytes[array] & 15));
+            version |= S::only(array, bytes[array] & 31);
         }
         Row {
             version,
@@ -239,7 +338,7 @@ impl Row {
 
     /// The row of up to eight action bytes of a file. Calls have two of the bits 5, 6 and 7, those
     /// with intent out and inout bit 7; nothing else has two.
-    fn of_file(bytes: &[u8]) -> Row {
+    fn of_file(bytes: &[u8]) -> Row<S> {
         let word = word(bytes);
         let (low, high, change) = (gather(word, 5), gather(word, 6), gather(word, 7));
         if low & high | change & (low | high) == 0 {
@@ -253,9 +352,9 @@ impl Row {
     }
 
     /// The row of a vertex that labels some arrays with their initial versions.
-    fn of_labels(labels: Arrays, initial: Sets) -> Row {
+    fn of_labels(labels: Arrays, initial: S) -> Row<S> {
         Row {
-            version: initial & all_of(labels),
+            version: initial & S::all_of(labels),
             labels,
             here: meets(0, 0, labels),
             stops: meets(labels, labels, labels),
@@ -277,32 +376,33 @@ impl Row {
     }
 }
 
-/// The labels of a routine. The tables can be used for one routine after the other.
-pub struct Solved {
-    rows: [Row; MAX_VERTICES],
+/// The labels of a routine, in sets that are wide enough. The tables can be used for one routine
+/// after the other.
+pub struct Solved<S> {
+    rows: [Row<S>; MAX_VERTICES],
     /// Versions of the last label on paths from the entry, dropped ones included.
-    last: [Sets; MAX_VERTICES],
-    reaching: [Sets; MAX_VERTICES],
-    kept: [Sets; MAX_VERTICES],
+    last: [S; MAX_VERTICES],
+    reaching: [S; MAX_VERTICES],
+    kept: [S; MAX_VERTICES],
 }
 
-impl Solved {
+impl<S: Sets> Solved<S> {
     /// Tables with nothing in them.
-    pub const EMPTY: Solved = Solved {
+    pub const EMPTY: Solved<S> = Solved {
         rows: [Row::EMPTY; MAX_VERTICES],
-        last: [0; MAX_VERTICES],
-        reaching: [0; MAX_VERTICES],
-        kept: [0; MAX_VERTICES],
+        last: [S::NONE; MAX_VERTICES],
+        reaching: [S::NONE; MAX_VERTICES],
+        kept: [S::NONE; MAX_VERTICES],
     };
 
     /// Reads the action bytes, the entry's labels and the exit's.
     #[inline(always)]
-    fn read_rows(&mut self, routine: &Routine, of_bytes: impl Fn(&[u8]) -> Row) {
+    fn read_rows(&mut self, routine: &Routine, of_bytes: impl Fn(&[u8]) -> Row<S>) {
         let bytes = routine.action_bytes().chunks_exact(routine.array_count());
         for (row, bytes) in self.rows.iter_mut().zip(bytes) {
             *row = of_bytes(bytes);
         }
-        let initial = sets(routine, |array| 1 << array.initial);
+        let initial = initial_versions(routine);
         let all = arrays(routine, |_| true);
         let home = arrays(routine, |array| array.kind.is_out_or_inout());
         self.rows[0] = Row::of_labels(all, initial);
@@ -343,23 +443,23 @@ impl Solved {
 
     /// Last versions and **reaching**: along the edges, from the entry.
     fn find_arriving(&mut self, routine: &Routine, graph: &Graph) {
-        self.last[..graph.vertices].fill(0);
-        self.reaching[..graph.vertices].fill(0);
+        self.last[..graph.vertices].fill(S::NONE);
+        self.reaching[..graph.vertices].fill(S::NONE);
         let brought = arrays(routine, |array| array.kind.brings_value());
-        self.reaching[0] = self.rows[0].version & all_of(brought);
+        self.reaching[0] = self.rows[0].version & S::all_of(brought);
         let mut reached = Vertices::EMPTY;
         let mut open = Vertices::EMPTY;
         open.insert(0);
         while !open.is_empty() {
             open.take_rising(|open, vertex| {
                 let row = &self.rows[vertex];
-                let kept = all_of(row.kept);
-                let last = row.version | self.last[vertex] & !all_of(row.labels);
+                let kept = S::all_of(row.kept);
+                let last = row.version | self.last[vertex] & !S::all_of(row.labels);
                 let reaching = row.version & kept | self.reaching[vertex] & !kept;
                 for &next in graph.successors(vertex) {
                     let next = usize::from(next);
                     let new = last & !self.last[next] | reaching & !self.reaching[next];
-                    if new != 0 || !reached.contains(next) {
+                    if new != S::NONE || !reached.contains(next) {
                         self.last[next] |= last;
                         self.reaching[next] |= reaching;
                         reached.insert(next);
@@ -373,16 +473,16 @@ impl Solved {
     /// **Kept set**: against the edges, through all labels but D and W.
     fn find_kept(&mut self, graph: &Graph) {
         for (kept, row) in self.kept.iter_mut().zip(&self.rows[..graph.vertices]) {
-            *kept = row.version & all_of(row.kept);
+            *kept = row.version & S::all_of(row.kept);
         }
         let mut open = Vertices::below(graph.vertices);
         while !open.is_empty() {
             open.take_falling(|open, vertex| {
-                let mut ahead = 0;
+                let mut ahead = S::NONE;
                 for &next in graph.successors(vertex) {
                     ahead |= self.kept[usize::from(next)];
                 }
-                let all = self.kept[vertex] | ahead & !all_of(self.rows[vertex].closed);
+                let all = self.kept[vertex] | ahead & !S::all_of(self.rows[vertex].closed);
                 if all != self.kept[vertex] {
                     self.kept[vertex] = all;
                     open.add_all(&graph.before[vertex]);
@@ -405,7 +505,7 @@ impl Solved {
         (0..file.vertex_count()).flat_map(move |vertex| {
             let last = self.last[vertex];
             members(self.rows[vertex].references)
-                .filter(move |&array| set_of(last, array).count_ones() > 1)
+                .filter(move |&array| last.set_of(array).count_ones() > 1)
                 .map(move |array| (vertex, array))
         })
     }
@@ -435,7 +535,7 @@ impl Solved {
 
     /// A file's routine with its calls expanded, by the last versions that were worked out.
     fn expanded<'a>(&self, file: &Routine<'a>, room: &'a mut Room) -> Routine<'a> {
-        calls::expanded(file, |vertex, array| set_of(self.last[vertex], array), room)
+        calls::expanded(file, |vertex, array| self.last[vertex].set_of(array), room)
     }
 
     /// Works out the labels of a file's routine with its calls expanded, and gives that, or refusal
@@ -462,7 +562,7 @@ impl Solved {
     }
 }
 
-impl Labels for Solved {
+impl<S: Sets> Labels for Solved<S> {
     #[inline(always)]
     fn at(&self, vertex: usize) -> impl Iterator<Item = (usize, Label)> {
         let row = &self.rows[vertex];
@@ -471,9 +571,9 @@ impl Labels for Solved {
         members(row.labels).map(move |array| {
             let label = Label {
                 letter: row.letter(array),
-                version: set_of(row.version, array).trailing_zeros() as u8,
-                reaching: set_of(reaching, array),
-                kept: set_of(kept, array),
+                version: row.version.set_of(array).trailing_zeros() as u8,
+                reaching: reaching.set_of(array),
+                kept: kept.set_of(array),
             };
             (array, label)
         })
@@ -488,15 +588,23 @@ fn arrays(routine: &Routine, test: impl Fn(Array) -> bool) -> Arrays {
     })
 }
 
-/// A set for each array.
-fn sets(routine: &Routine, set: impl Fn(Array) -> u16) -> Sets {
-    let sets = routine.arrays().enumerate();
-    sets.fold(0, |sets, (index, array)| sets | only(index, set(array)))
+fn initial_versions<S: Sets>(routine: &Routine) -> S {
+    let arrays = routine.arrays().enumerate();
+    arrays.fold(S::NONE, |sets, (index, array)| {
+        sets | S::only(index, array.initial)
+    })
 }
 
 /// The labels of every array of a routine without calls, by array, then vertex.
 pub fn labels(routine: &Routine) -> Vec<Vec<Option<Label>>> {
-    let mut solved = Solved::EMPTY;
+    match routine.is_wide() {
+        false => labels_with::<Narrow>(routine),
+        true => labels_with::<Wide>(routine),
+    }
+}
+
+fn labels_with<S: Sets>(routine: &Routine) -> Vec<Vec<Option<Label>>> {
+    let mut solved = Solved::<S>::EMPTY;
     solved.solve(routine);
     let label = |vertex, array| {
         let mut labels = solved.at(vertex);
@@ -515,21 +623,28 @@ pub fn labels(routine: &Routine) -> Vec<Vec<Option<Label>>> {
 
 /// Refusal 20 or 21 of a file's routine, if there is one.
 pub fn refusal(file: &Routine) -> Option<Refusal> {
-    let mut solved = Solved::EMPTY;
+    match file.is_wide() {
+        false => refusal_with::<Narrow>(file),
+        true => refusal_with::<Wide>(file),
+    }
+}
+
+fn refusal_with<S: Sets>(file: &Routine) -> Option<Refusal> {
+    let mut solved = Solved::<S>::EMPTY;
     solved.arrive(file);
     solved.refusal(file)
 }
 
 /// The ambiguous references and calls of a file's routine, by vertex, then array.
 pub fn ambiguous(file: &Routine) -> Vec<(usize, usize)> {
-    let mut solved = Solved::EMPTY;
+    let mut solved = Solved::<Wide>::EMPTY;
     solved.arrive(file);
     solved.ambiguous(file).collect()
 }
 
 /// A file's routine that is not refused, with its calls expanded.
 pub fn expanded<'a>(file: &Routine<'a>, room: &'a mut Room) -> Routine<'a> {
-    let mut solved = Solved::EMPTY;
+    let mut solved = Solved::<Wide>::EMPTY;
     solved.arrive(file);
     solved.expanded(file, room)
 }

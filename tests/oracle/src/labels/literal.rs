@@ -7,7 +7,7 @@
 use super::{Label, Use, refusal_20, refusal_21};
 use crate::calls::{self, Room};
 use crate::outcome::Refusal;
-use crate::routine::{Array, Event, Kind, Reference, Routine};
+use crate::routine::{Array, Event, Kind, Reference, Routine, Set};
 
 /// A kill is a define in every rule.
 const DEFINES: [Reference; 2] = [Reference::Define, Reference::Kill];
@@ -110,7 +110,7 @@ impl View {
     }
 
     /// Versions of the last label before the vertex, dropped ones included.
-    fn last_versions(&self, vertex: usize) -> u16 {
+    fn last_versions(&self, vertex: usize) -> Set {
         let mut versions = 0;
         self.each_path(0, &mut |path| {
             if let [before @ .., last] = path
@@ -136,7 +136,7 @@ impl View {
             _ => None,
         };
         let reaching = |vertex: usize| {
-            let mut versions = 0u16;
+            let mut versions: Set = 0;
             self.each_path(0, &mut |path| {
                 if let [before @ .., last] = path
                     && *last == vertex
@@ -154,7 +154,7 @@ impl View {
             versions
         };
         let kept = |vertex: usize| {
-            let mut versions = leaving(vertex).map_or(0u16, |version| 1 << version);
+            let mut versions: Set = leaving(vertex).map_or(0, |version| 1 << version);
             self.each_path(vertex, &mut |path| {
                 if let [before @ .., last] = path
                     && before

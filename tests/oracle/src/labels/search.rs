@@ -6,7 +6,7 @@
 use super::{Label, Use, refusal_20, refusal_21};
 use crate::calls::{self, Room};
 use crate::outcome::Refusal;
-use crate::routine::{Array, Event, MAX_VERSIONS, Reference, Routine};
+use crate::routine::{Array, Event, MAX_VERSIONS, Reference, Routine, Set};
 
 /// One array in its graph.
 struct View<'a> {
@@ -96,7 +96,7 @@ impl View<'_> {
     /// For each vertex the versions that paths from the entry bring to it, where
     /// `replaced` gives the version that a path carries on from a vertex, if it changes,
     /// and `brought` the one that it carries into the entry.
-    fn arriving(&self, brought: Option<u8>, replaced: impl Fn(usize) -> Option<u8>) -> Vec<u16> {
+    fn arriving(&self, brought: Option<u8>, replaced: impl Fn(usize) -> Option<u8>) -> Vec<Set> {
         const NONE: usize = MAX_VERSIONS;
         let start = brought.map_or(NONE, usize::from);
         let seen =
@@ -113,7 +113,7 @@ impl View<'_> {
     }
 
     /// Versions of the last label on the paths to each vertex, dropped ones included.
-    fn last_versions(&self) -> Vec<u16> {
+    fn last_versions(&self) -> Vec<Set> {
         self.arriving(None, |vertex| match self.events[vertex] {
             Event::Label(version) => Some(version),
             _ => None,
@@ -187,7 +187,7 @@ pub fn labels(routine: &Routine) -> Vec<Vec<Option<Label>>> {
 }
 
 /// Versions of the last label on the paths to each vertex, by array.
-fn last_versions(file: &Routine) -> Vec<Vec<u16>> {
+fn last_versions(file: &Routine) -> Vec<Vec<Set>> {
     views(file, &successors(file))
         .iter()
         .map(View::last_versions)

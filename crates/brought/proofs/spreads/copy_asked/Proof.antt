@@ -12,10 +12,10 @@ use Rattle.brought.proofs.spreads.copy_asked.Statement.{statement}
 use Rattle.brought.proofs.spreads.copy_asked.Tie as tie
 
 abbrev Inv-loop : tie.InvT-loop
-Inv-loop file h t first sets spreads₀ n v₀ spreads v = (v ≤ n) × Copying file first t spreads v
+Inv-loop file h t sets spreads₀ n v₀ spreads v = (v ≤ n) × Copying file t spreads v
 
 abbrev μ-loop : tie.MeasureT-loop
-μ-loop file h t first sets spreads₀ n v₀ spreads v = n - v
+μ-loop file h t sets spreads₀ n v₀ spreads v = n - v
 
 -- what holds in a turn
 module _ (c : tie.In-loop Inv-loop μ-loop) where

@@ -1,7 +1,7 @@
 -- `spreads::fill_row` meets its contract: two rows are replaced.
 -- Assumes nothing.
 use mathlib.Core.Path.{refl, ap, _∙_}
-use Prim.Native.Nat.{_+_, _-_, _*_, _<_}
+use Prim.Native.Nat.{_-_, _*_, _<_}
 use native.Mathlib.Omega.{arith}
 use Rattle.words.proofs.Replaced.{Replacing, replacing-begin, replacing-next, replacing-end}
 use Rattle.directives.proofs.Limits.{read-heads}
@@ -12,12 +12,12 @@ use Rattle.brought.proofs.spreads.fill_row.Statement.{statement}
 use Rattle.brought.proofs.spreads.fill_row.Tie as tie
 
 abbrev Inv-loop : tie.InvT-loop
-Inv-loop file t first v reached gives₀ passes₀ gave given column set c₀ gives passes c =
-    Replacing gives₀ (8 * v) (λ b. spreadGives file t (first + b) v) 8 gives c
+Inv-loop file t v reached gives₀ passes₀ gave given column set c₀ gives passes c =
+    Replacing gives₀ (8 * v) (λ b. spreadGives file t b v) 8 gives c
     × Replacing passes₀ (8 * v) (λ b. spreadPasses file t v) 8 passes c
 
 abbrev μ-loop : tie.MeasureT-loop
-μ-loop file t first v reached gives₀ passes₀ gave given column set c₀ gives passes c = 8 - c
+μ-loop file t v reached gives₀ passes₀ gave given column set c₀ gives passes c = 8 - c
 
 -- what holds in a turn
 module _ (c : tie.In-loop Inv-loop μ-loop) where
@@ -25,10 +25,10 @@ module _ (c : tie.In-loop Inv-loop μ-loop) where
   s = c .before .before .before .before .before .before .before .before .before .before
 
   small : s .args .v < 256
-  small = omega (arith, s .pre .1 .1 .0, read-heads (s .pre .0) .limits .few-vertices)
+  small = omega (arith, s .pre .1 .0, read-heads (s .pre .0) .limits .few-vertices)
 
 at-requires : tie.Need-at-requires Inv-loop μ-loop
-at-requires c κs = let s = c .before .before .before .before in (read-heads (s .pre .0), s .pre .1 .1 .0)
+at-requires c κs = let s = c .before .before .before .before in (read-heads (s .pre .0), s .pre .1 .0)
 
 redistributes-requires : tie.Need-redistributes-requires Inv-loop μ-loop
 redistributes-requires c κs = tt
@@ -36,7 +36,7 @@ redistributes-requires c κs = tt
 is-reached-requires : tie.Need-is-reached-requires Inv-loop μ-loop
 is-reached-requires c κs =
     let s = c .before .before .before .before .before .before in
-    (s .pre .1 .1 .1 .0, (s .pre .1 .1 .0, omega (arith, s .pre .1 .1 .0, read-heads (s .pre .0) .limits .few-vertices)))
+    (s .pre .1 .1 .0, (s .pre .1 .0, omega (arith, s .pre .1 .0, read-heads (s .pre .0) .limits .few-vertices)))
 
 cast-single : tie.Need-cast-single Inv-loop μ-loop
 cast-single c = omega arith
@@ -53,9 +53,6 @@ mul-at c = omega (arith, small c)
 add-at : tie.Need-add-at Inv-loop μ-loop
 add-at c = omega (arith, small c)
 
-add-set-if : tie.Need-add-set-if Inv-loop μ-loop
-add-set-if c = omega (arith, s c .pre .1 .0)
-
 set-if-requires : tie.Need-set-if-requires Inv-loop μ-loop
 set-if-requires c κs = tt
 
@@ -63,7 +60,7 @@ mul-gives : tie.Need-mul-gives Inv-loop μ-loop
 mul-gives c = omega (arith, small (c .before))
 
 slice-write-gives : tie.Need-slice-write-gives Inv-loop μ-loop
-slice-write-gives c = let t = c .before in omega (arith, s t .pre .1 .1 .0, s t .pre .1 .1 .1 .1 .0, t .before .loop .inv .0 .sized)
+slice-write-gives c = let t = c .before in omega (arith, s t .pre .1 .0, s t .pre .1 .1 .1 .0, t .before .loop .inv .0 .sized)
 
 every-if-requires : tie.Need-every-if-requires Inv-loop μ-loop
 every-if-requires c κs = tt
@@ -72,7 +69,7 @@ mul-passes : tie.Need-mul-passes Inv-loop μ-loop
 mul-passes c = omega (arith, small (c .before .before))
 
 slice-write-passes : tie.Need-slice-write-passes Inv-loop μ-loop
-slice-write-passes c = let t = c .before .before in omega (arith, s t .pre .1 .1 .0, s t .pre .1 .1 .1 .1 .1, t .before .loop .inv .1 .sized)
+slice-write-passes c = let t = c .before .before in omega (arith, s t .pre .1 .0, s t .pre .1 .1 .1 .1, t .before .loop .inv .1 .sized)
 
 add-c : tie.Need-add-c Inv-loop μ-loop
 add-c c = omega arith
@@ -88,7 +85,7 @@ loop-again c =
     let found = t .before .before .before in
     let is = found .before .redistributes .ensures ∙ ap (redistributes (a .t)) (found .before .before .at .ensures) in (
       replacing-next (l .inv .0) (t .loop-test .taken) refl
-          (spread-gives (a .file .now) (a .t) (a .v) is (a .first + l .c) (found .is-reached .ensures) (t .before .before .single .ensures) (c .before .set-if .ensures)),
+          (spread-gives (a .file .now) (a .t) (a .v) is (l .c) (found .is-reached .ensures) (t .before .before .single .ensures) (c .before .set-if .ensures)),
       replacing-next (l .inv .1) (t .loop-test .taken) refl (spread-passes (a .file .now) (a .t) (a .v) is (c .every-if .ensures)),
     )
 
@@ -115,7 +112,6 @@ fill-row-spec =
     loop-holds
     mul-at
     add-at
-    add-set-if
     set-if-requires
     mul-gives
     slice-write-gives

@@ -12,15 +12,15 @@ use Rattle.brought.proofs.spreads.solve.Statement.{statement}
 use Rattle.brought.proofs.spreads.solve.Tie as tie
 
 abbrev Inv-loop : tie.InvT-loop
-Inv-loop file h order first reached spreads₀ sets₀ gives₀ passes₀ n t₀ spreads sets gives passes t =
+Inv-loop file h order reached spreads₀ sets₀ gives₀ passes₀ n t₀ spreads sets gives passes t =
     (t ≤ n)
-    × SpreadsTo file first t spreads
+    × SpreadsTo file t spreads
     × (length sets ≡ 8 * vertices file)
     × (length gives ≡ 8 * vertices file)
     × (length passes ≡ 8 * vertices file)
 
 abbrev μ-loop : tie.MeasureT-loop
-μ-loop file h order first reached spreads₀ sets₀ gives₀ passes₀ n t₀ spreads sets gives passes t = n - t
+μ-loop file h order reached spreads₀ sets₀ gives₀ passes₀ n t₀ spreads sets gives passes t = n - t
 
 -- what holds in a turn
 module _ (c : tie.In-loop Inv-loop μ-loop) where
@@ -32,14 +32,14 @@ module _ (c : tie.In-loop Inv-loop μ-loop) where
 
 loop-holds : tie.Need-loop-holds Inv-loop μ-loop
 loop-holds c =
-    let sizes = c .before .before .before .before .before .before .before .pre .1 .1 .1 .1 in
+    let sizes = c .before .before .before .before .before .before .before .pre .1 .1 .1 in
     (omega arith, spreads-begin (sizes .0), sizes .1 .0, sizes .1 .1 .0, sizes .1 .1 .1)
 
 solve-template-requires : tie.Need-solve-template-requires Inv-loop μ-loop
 solve-template-requires c κs =
     let t = c .before .before .before .before in
     let inv = t .before .loop .inv in
-    (s t .pre .0, (s t .pre .1 .0, (s t .pre .1 .1 .0, (s t .pre .1 .1 .1 .0, (inv .1, (inv .2, (inv .3, inv .4)))))))
+    (s t .pre .0, (s t .pre .1 .0, (s t .pre .1 .1 .0, (inv .1, (inv .2, (inv .3, inv .4))))))
 
 add-t : tie.Need-add-t Inv-loop μ-loop
 add-t c = omega (arith, small (c .before .before .before .before .before .before .before .before .before .before .before .before .before))
@@ -59,16 +59,16 @@ loop-again c =
     )
 
 same-length : tie.Need-same-length Inv-loop μ-loop
-same-length c = c .before .loop .inv .1 .size ∙ sym (c .before .before .before .before .before .before .before .before .before .pre .1 .1 .1 .1 .0)
+same-length c = c .before .loop .inv .1 .size ∙ sym (c .before .before .before .before .before .before .before .before .before .pre .1 .1 .1 .0)
 
 same-length-2 : tie.Need-same-length-2 Inv-loop μ-loop
-same-length-2 c = c .before .loop .inv .2 ∙ sym (c .before .before .before .before .before .before .before .before .before .pre .1 .1 .1 .1 .1 .0)
+same-length-2 c = c .before .loop .inv .2 ∙ sym (c .before .before .before .before .before .before .before .before .before .pre .1 .1 .1 .1 .0)
 
 same-length-3 : tie.Need-same-length-3 Inv-loop μ-loop
-same-length-3 c = c .before .loop .inv .3 ∙ sym (c .before .before .before .before .before .before .before .before .before .pre .1 .1 .1 .1 .1 .1 .0)
+same-length-3 c = c .before .loop .inv .3 ∙ sym (c .before .before .before .before .before .before .before .before .before .pre .1 .1 .1 .1 .1 .0)
 
 same-length-4 : tie.Need-same-length-4 Inv-loop μ-loop
-same-length-4 c = c .before .loop .inv .4 ∙ sym (c .before .before .before .before .before .before .before .before .before .pre .1 .1 .1 .1 .1 .1 .1)
+same-length-4 c = c .before .loop .inv .4 ∙ sym (c .before .before .before .before .before .before .before .before .before .pre .1 .1 .1 .1 .1 .1)
 
 returns : tie.Need-returns Inv-loop μ-loop
 returns c =

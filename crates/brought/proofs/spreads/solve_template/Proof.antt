@@ -2,7 +2,6 @@
 -- Assumes nothing.
 use mathlib.Core.Path.{refl, sym, _∙_}
 use mathlib.Core.Logic.{inl, inr}
-use Prim.Native.Nat.{_+_}
 use native.Mathlib.Nat.{le-refl}
 use borrow.Author.Needs.{needs}
 use borrow.Author.Tests.{not-true}
@@ -19,24 +18,24 @@ returns : tie.Need-returns
 returns c =
     let s = c .before .before .before .before .before .before .before .before .before in
     let none = sym (c .before .is-asked .ensures) ∙ not-true _ (c .if1 .taken) in
-    (spreads-on (s .args .t) (s .pre .1 .1 .1 .1 .0) none, inr (refl, none))
+    (spreads-on (s .args .t) (s .pre .1 .1 .1 .0) none, inr (refl, none))
 
 fill-requires : tie.Need-fill-requires
 fill-requires c κs =
     let s = c .before .before .before .before .before .before .before .before .before .before .before in
-    (s .pre .0, (s .pre .1 .1 .0, (s .pre .1 .1 .1 .0, (s .pre .1 .1 .1 .1 .1 .1 .0, s .pre .1 .1 .1 .1 .1 .1 .1))))
+    (s .pre .0, (s .pre .1 .1 .0, (s .pre .1 .1 .1 .1 .1 .0, s .pre .1 .1 .1 .1 .1 .1)))
 
 solve-requires : tie.Need-solve-requires
 solve-requires c κs =
     let s = c .before .before .before .before .before .before .before .before .before .before .before .before .before .before .before .before .before .before .before in
     let filled = c .before .before .before .before .before .before .before .fill .ensures in
-    (s .pre .0, (s .pre .1 .0, (filled .0 .size, (filled .1 .size, s .pre .1 .1 .1 .1 .1 .0))))
+    (s .pre .0, (s .pre .1 .0, (filled .0 .size, (filled .1 .size, s .pre .1 .1 .1 .1 .0))))
 
 copy-asked-requires : tie.Need-copy-asked-requires
 copy-asked-requires c κs =
     let s = c .before .before .before .before .before .before .before .before .before .before .before .before .before .before .before .before .before .before .before .before .before .before .before .before in
     let filled = c .before .before .before .before .before .before .before .before .before .before .before .before .fill .ensures in
-    (s .pre .0, (spreads-solved (s .args .file .now) (s .args .t) (s .args .first) (filled .0) (filled .1) (c .before .before .before .before .solve .ensures .0), s .pre .1 .1 .1 .1 .0))
+    (s .pre .0, (spreads-solved (s .args .file .now) (s .args .t) (filled .0) (filled .1) (c .before .before .before .before .solve .ensures .0), s .pre .1 .1 .1 .0))
 
 same-length : tie.Need-same-length
 same-length c = search needs
@@ -58,7 +57,7 @@ returns-2 c =
     let t = s .args .t in
     let filled = x .before .before .before .before .before .before .before .before .before .before .before .before .before .fill .ensures in (
       x .copy-asked .ensures,
-      inl (pass-stops (λ k v. spreadGives file t (s .args .first + k) v) (λ k v. spreadPasses file t v) (s .pre .0) (le-refl 8) (s .pre .1 .0) (filled .0) (filled .1) (none-beyond _ _) (x .before .before .before .before .before .solve .ensures .1)),
+      inl (pass-stops (spreadGives file t) (λ k v. spreadPasses file t v) (s .pre .0) (le-refl 8) (s .pre .1 .0) (filled .0) (filled .1) (none-beyond _ _) (x .before .before .before .before .before .solve .ensures .1)),
     )
 
 pub solve-template-spec : {M : Type 1} → statement M

@@ -41,7 +41,7 @@ gives s {list = list} {q = q} e g = subst (λ (d : Directive). Grown s (givenBy 
 
 -- by none
 stays : (s : tie.Start) {ms : List Mapping} → ms ≡ [] → Grown s ms (s .args .list .now) (record { count = s .args .count; given = 0 })
-stays s e = rw e (grows-none (s .pre .1 .1 .1 .1 .1 .1 .0) (s .pre .1 .1 .1 .1 .1 .1 .1))
+stays s e = rw e (grows-none (s .pre .1 .1 .1 .1 .1 .0) (s .pre .1 .1 .1 .1 .1 .1))
 
 -- a realign of another array
 other-by : (file : List ℕ) (a v b : ℕ) (x : Alignment) → (a ≡ b → ⊥) → givenBy file a v (Realign b x) ≡ []
@@ -56,7 +56,7 @@ nothing-by file a v (Redistribute t m) h k = ⊎-elim (λ e. absurd (omega arith
 -- ---- a redistribute
 
 at-requires : tie.Need-at-requires
-at-requires c κs = let s = c .before .before .before .before .before in (read-heads (s .pre .0), s .pre .1 .1 .0)
+at-requires c κs = let s = c .before .before .before .before in (read-heads (s .pre .0), s .pre .1 .1 .0)
 
 enum-known-d : tie.Need-enum-known-d
 enum-known-d c = search needs
@@ -68,32 +68,32 @@ mul-at : tie.Need-mul-at
 mul-at c = search needs
 
 add-at : tie.Need-add-at
-add-at c = omega (arith, few (c .before .before .before .before .before .before .before .before .before))
+add-at c = omega (arith, few (c .before .before .before .before .before .before .before .before))
 
 mul-redistributed : tie.Need-mul-redistributed
-mul-redistributed c = omega (arith, few (c .before .before .before .before .before .before .before .before .before))
+mul-redistributed c = omega (arith, few (c .before .before .before .before .before .before .before .before))
 
 shared-slice-read-redistributed : tie.Need-shared-slice-read-redistributed
 shared-slice-read-redistributed c =
-    let s = c .before .before .before .before .before .before .before .before .before .before in
+    let s = c .before .before .before .before .before .before .before .before .before in
     omega (arith, s .pre .1 .1 .1 .0 .size, in-cells (read-heads (s .pre .0) .limits .few-arrays) (s .pre .1 .0) (s .pre .1 .1 .0))
 
-is-redistribute : (c : tie.After-d) → let s = c .before .before .before .before .before .before .before .before in
+is-redistribute : (c : tie.After-d) → let s = c .before .before .before .before .before .before .before in
     directive (s .args .file .now) (s .args .v) ≡ Redistribute (c .d .given .0 .0) (c .d .given .0 .1 .0)
 is-redistribute c = sym (c .before .before .at .ensures) ∙ c .d .given .1
 
 redistributed-requires : tie.Need-redistributed-requires
 redistributed-requires c κs =
-    let s = c .before .before .before .before .before .before .before .before .before .before .before in
+    let s = c .before .before .before .before .before .before .before .before .before .before in
     let t = vertex-redistributed (s .args .file .now) (s .pre .0 .passed) (s .args .v) (s .pre .1 .1 .0) _ _ (is-redistribute (c .before .before .before)) in
-    (omega (arith, t, read-heads (s .pre .0) .limits .few-templates), (s .pre .1 .1 .1 .1 .1 .1 .0, s .pre .1 .1 .1 .1 .1 .1 .1))
+    (omega (arith, t, read-heads (s .pre .0) .limits .few-templates), (s .pre .1 .1 .1 .1 .1 .0, s .pre .1 .1 .1 .1 .1 .1))
 
 same-length : tie.Need-same-length
 same-length c = search needs
 
 returns : tie.Need-returns
 returns c =
-    let s = c .before .before .before .before .before .before .before .before .before .before .before .before .before .before in
+    let s = c .before .before .before .before .before .before .before .before .before .before .before .before .before in
     let d = c .before .before .before .before .before .before in
     let r = c .before .before .redistributed in
     gives s (is-redistribute d)
@@ -106,7 +106,7 @@ returns c =
 enum-known-d-2 : tie.Need-enum-known-d-2
 enum-known-d-2 c = search needs
 
-is-realign : (c : tie.Then1) → let s = c .before .before .before .before .before .before .before .before .before .before .before in
+is-realign : (c : tie.Then1) → let s = c .before .before .before .before .before .before .before .before .before .before in
     directive (s .args .file .now) (s .args .v) ≡ Realign (s .args .a) (c .before .before .d2 .given .0 .1 .0)
 is-realign c =
     let r = c .before .before in
@@ -114,27 +114,27 @@ is-realign c =
 
 realigned-requires : tie.Need-realigned-requires
 realigned-requires c κs =
-    let p = c .before .before .before .before .before .before .before .before .before .before .before .before .pre in
-    (p .0, (p .1 .1 .0, (is-realign (c .before), (p .1 .1 .1 .1 .0, (p .1 .1 .1 .1 .1 .0, (p .1 .1 .1 .1 .1 .1 .0, p .1 .1 .1 .1 .1 .1 .1))))))
+    let p = c .before .before .before .before .before .before .before .before .before .before .before .pre in
+    (p .0, (p .1 .1 .0, (is-realign (c .before), (p .1 .1 .1 .1 .0, (p .1 .1 .1 .1 .1 .0, p .1 .1 .1 .1 .1 .1)))))
 
 same-length-2 : tie.Need-same-length-2
 same-length-2 c = search needs
 
 returns-2 : tie.Need-returns-2
-returns-2 c = gives (c .before .before .before .before .before .before .before .before .before .before .before .before .before .before .before) (is-realign (c .before .before .before .before)) (c .before .before .realigned .ensures)
+returns-2 c = gives (c .before .before .before .before .before .before .before .before .before .before .before .before .before .before) (is-realign (c .before .before .before .before)) (c .before .before .realigned .ensures)
 
 -- ---- nothing
 
 returns-3 : tie.Need-returns-3
 returns-3 c =
     let d = c .before .before in
-    let s = c .before .before .before .before .before .before .before .before .before .before .before in
+    let s = c .before .before .before .before .before .before .before .before .before .before in
     gives s (sym (d .before .before .before .at .ensures) ∙ d .d2 .given .1)
     (stays s (other-by (s .args .file .now) (s .args .a) (s .args .v) (d .d2 .given .0 .0) (d .d2 .given .0 .1 .0) (c .if1 .left)))
 
 returns-4 : tie.Need-returns-4
 returns-4 c =
-    let s = c .before .before .before .before .before .before .before .before in
+    let s = c .before .before .before .before .before .before .before in
     let d = c .before .before .at in
     gives s (sym (d .ensures)) (stays s (nothing-by (s .args .file .now) (s .args .a) (s .args .v) (d .result) (c .before .match .keys2) (c .match2 .keys2)))
 

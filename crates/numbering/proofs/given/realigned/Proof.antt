@@ -28,28 +28,28 @@ abbrev row : List ℕ → ℕ → Alignment → ℕ → List Mapping
 row file v x u = cond (has (getD (spreadSets file (x .template)) v 0) u) (turned (x .exchanged) (spreadBy file (x .template) u) ∷ []) []
 
 abbrev Inv-loop : tie.InvT-loop
-Inv-loop file h a v x low high list₀ n q₀ u₀ list q u = (u ≤ vertices file) × Grows (rows (row file v x) u) list₀ q₀ list q
+Inv-loop file h a v x spreads list₀ n q₀ u₀ list q u = (u ≤ vertices file) × Grows (rows (row file v x) u) list₀ q₀ list q
 
 abbrev μ-loop : tie.MeasureT-loop
-μ-loop file h a v x low high list₀ n q₀ u₀ list q u = n - u
+μ-loop file h a v x spreads list₀ n q₀ u₀ list q u = n - u
 
 loop-holds : tie.Need-loop-holds Inv-loop μ-loop
 unfolding rows
-loop-holds c = let s = c .before .before .before .before in (omega arith, grows-none (s .pre .1 .1 .1 .1 .1 .0) (s .pre .1 .1 .1 .1 .1 .1))
+loop-holds c = let s = c .before .before .before in (omega arith, grows-none (s .pre .1 .1 .1 .1 .0) (s .pre .1 .1 .1 .1 .1))
 
 -- in the loop there is such a vertex
-in-u : (c : tie.In-loop Inv-loop μ-loop) → c .before .loop .u < vertices (c .before .before .before .before .before .before .args .file .now)
-in-u c = omega (arith, read-heads (c .before .before .before .before .before .before .pre .0) .vertices-are)
+in-u : (c : tie.In-loop Inv-loop μ-loop) → c .before .loop .u < vertices (c .before .before .before .before .before .args .file .now)
+in-u c = omega (arith, read-heads (c .before .before .before .before .before .pre .0) .vertices-are)
 
 is-brought-requires : tie.Need-is-brought-requires Inv-loop μ-loop
 is-brought-requires c κs =
-    let s = c .before .before .before .before .before .before in
-    (s .pre .0, (s .pre .1 .0, (in-u c, (s .pre .1 .1 .0, (s .pre .1 .1 .1 .0, s .pre .1 .1 .1 .1 .0)))))
+    let s = c .before .before .before .before .before in
+    (s .pre .0, (s .pre .1 .0, (in-u c, (s .pre .1 .1 .0, s .pre .1 .1 .1 .0))))
 
 spread-by-requires : tie.Need-spread-by-requires Inv-loop μ-loop
 spread-by-requires c κs =
     let l = c .before .before .before in
-    let s = l .before .before .before .before .before .before in
+    let s = l .before .before .before .before .before in
     (s .pre .0, (formed (s .args .file .now) (s .pre .0 .passed) .realigned (s .args .v) (s .args .a) (s .args .x) (s .pre .1 .0) (s .pre .1 .1 .0) .0, in-u l))
 
 turned-requires : tie.Need-turned-requires Inv-loop μ-loop
@@ -67,7 +67,7 @@ loop-less c = omega arith
 loop-again : tie.Need-loop-again Inv-loop μ-loop
 loop-again c =
     let l = c .before .before .before .loop in
-    let s = c .before .before .before .before .before .before .before .before .args in (
+    let s = c .before .before .before .before .before .before .before .args in (
       omega (arith, in-u (c .before .before)),
       grows-row (row (s .file .now) (s .v) (s .x)) (l .u) (l .inv .1)
           (⊎-elim
@@ -77,11 +77,11 @@ loop-again c =
     )
 
 same-length : tie.Need-same-length Inv-loop μ-loop
-same-length c = c .before .loop .inv .1 .room ∙ sym (c .before .before .before .before .before .before .pre .1 .1 .1 .1 .1 .0)
+same-length c = c .before .loop .inv .1 .room ∙ sym (c .before .before .before .before .before .pre .1 .1 .1 .1 .0)
 
 returns : tie.Need-returns Inv-loop μ-loop
 returns c =
-    let s = c .before .before .before .before .before .before in
+    let s = c .before .before .before .before .before in
     let l = c .before .loop in
     let e : l .u ≡ vertices (s .args .file .now) = omega (arith, l .inv .0, read-heads (s .pre .0) .vertices-are) in
     rw (eq-eqb (s .args .a) (s .args .a) refl)

@@ -10,8 +10,8 @@ slice-aggregate-number-with c = search needs
 
 number-with-requires : tie.Need-number-with-requires
 number-with-requires c κs =
-    let p = c .before .before .before .before .before .before .before .pre in
-    (p .0, (p .1 .0, (p .1 .1 .0, (p .1 .1 .1 .0, (p .1 .1 .1 .1 .0, (p .1 .1 .1 .1 .1, refl))))))
+    let p = c .before .before .before .before .before .before .pre in
+    (p .0, (p .1 .0, (p .1 .1 .0, (p .1 .1 .1 .0, (p .1 .1 .1 .1, refl)))))
 
 same-length : tie.Need-same-length
 same-length c = search needs

@@ -12,7 +12,7 @@ use Rattle.planbytes.proofs.contents.label_count.Statement.{statement}
 use Rattle.planbytes.proofs.contents.label_count.Tie as tie
 
 abbrev Inv-loop : tie.InvT-loop
-Inv-loop file h versions firsts₀ n count₀ v₀ firsts count v = (v ≤ n) × (count ≡ labelsBefore file v) × Filling (labelsBefore file) (8 * vertices file) firsts₀ firsts v
+Inv-loop file h versions firsts₀ n count₀ v₀ firsts count v = (v ≤ n) × (count ≡ labelsBefore file v) × Filling (labelsBefore file) (length firsts₀) firsts₀ firsts v
 
 abbrev μ-loop : tie.MeasureT-loop
 μ-loop file h versions firsts₀ n count₀ v₀ firsts count v = n - v
@@ -26,7 +26,7 @@ few c =
 
 loop-holds : tie.Need-loop-holds Inv-loop μ-loop
 unfolding labelsBefore
-loop-holds c = (omega arith, refl, fill-begin _ (c .before .before .before .pre .1 .1))
+loop-holds c = (omega arith, refl, fill-begin _ refl)
 
 cast-firsts : tie.Need-cast-firsts Inv-loop μ-loop
 cast-firsts c = omega (arith, few (c .before))
@@ -37,7 +37,7 @@ mul-firsts c = omega arith
 slice-write-firsts : tie.Need-slice-write-firsts Inv-loop μ-loop
 slice-write-firsts c =
     let s = c .before .before .before .before .before in
-    omega (arith, fill-length (c .before .loop .inv .2), c .loop-test .taken, s .pre .0 .heads .vertices-are)
+    omega (arith, fill-length (c .before .loop .inv .2), c .loop-test .taken, s .pre .0 .heads .vertices-are, s .pre .1 .1)
 
 labels-at-requires : tie.Need-labels-at-requires Inv-loop μ-loop
 labels-at-requires c κs =
@@ -60,7 +60,7 @@ loop-again c =
     let t = l .loop .inv in (
       omega arith,
       before-more (s .args .file .now) (l .loop .v) (t .1) (c .labels-at .ensures .0),
-      fill-next (t .2) (omega (arith, c .before .loop-test .taken, s .pre .0 .heads .vertices-are)) (t .1),
+      fill-next (t .2) (omega (arith, c .before .loop-test .taken, s .pre .0 .heads .vertices-are, s .pre .1 .1)) (t .1),
     )
 
 -- ---- at the end
@@ -74,7 +74,7 @@ mul-firsts-2 c = omega arith
 slice-write-firsts-2 : tie.Need-slice-write-firsts-2 Inv-loop μ-loop
 slice-write-firsts-2 c =
     let s = c .before .before .before .before .before in
-    omega (arith, fill-length (c .before .loop .inv .2), s .pre .0 .heads .vertices-are, s .pre .0 .heads .laid .limits .two-vertices)
+    omega (arith, fill-length (c .before .loop .inv .2), s .pre .0 .heads .vertices-are, s .pre .1 .1)
 
 same-length : tie.Need-same-length Inv-loop μ-loop
 same-length c =
@@ -90,7 +90,7 @@ returns c =
     let l = c .before .loop in
     let is = s .pre .0 .heads .vertices-are in
     let end : l .v ≡ s .args .h .vertices = omega (arith, l .inv .0, c .loop-test .left) in
-    (firsts-done (s .args .file .now) (l .inv .2) end is (s .pre .0 .heads .laid .limits .two-vertices) (l .inv .1), (l .inv .1 ∙ ap (labelsBefore (s .args .file .now)) (end ∙ is), few (c .before)))
+    (firsts-done (s .args .file .now) (l .inv .2) end is (s .pre .1 .1) (l .inv .1), (l .inv .1 ∙ ap (labelsBefore (s .args .file .now)) (end ∙ is), few (c .before)))
 
 pub label-count-spec : {M : Type 1} → statement M
 label-count-spec =

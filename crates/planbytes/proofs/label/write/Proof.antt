@@ -1,9 +1,9 @@
--- `label::write` meets its contract: eight stores from the front.
+-- `label::write` meets its contract: twelve stores from the front.
 -- Assumes nothing.
 use native.Mathlib.Omega.{arith}
 use lib.ListN.{length-set}
 use lib.Seq.{sets-eq}
-use Rattle.planbytes.specs.Plan.{eightBytes}
+use Rattle.planbytes.specs.Plan.{twelveBytes}
 use borrow.Author.Needs.{needs}
 use Rattle.planbytes.proofs.label.write.Statement.{statement}
 use Rattle.planbytes.proofs.label.write.Tie as tie
@@ -44,14 +44,38 @@ cast-out-4 c = search needs
 slice-write-out-8 : tie.Need-slice-write-out-8
 slice-write-out-8 c = simp length-set (omega arith)
 
+cast-out-5 : tie.Need-cast-out-5
+cast-out-5 c = search needs
+
+slice-write-out-9 : tie.Need-slice-write-out-9
+slice-write-out-9 c = simp length-set (omega arith)
+
+cast-out-6 : tie.Need-cast-out-6
+cast-out-6 c = search needs
+
+slice-write-out-10 : tie.Need-slice-write-out-10
+slice-write-out-10 c = simp length-set (omega arith)
+
+cast-out-7 : tie.Need-cast-out-7
+cast-out-7 c = search needs
+
+slice-write-out-11 : tie.Need-slice-write-out-11
+slice-write-out-11 c = simp length-set (omega arith)
+
+cast-out-8 : tie.Need-cast-out-8
+cast-out-8 c = search needs
+
+slice-write-out-12 : tie.Need-slice-write-out-12
+slice-write-out-12 c = simp length-set (omega arith)
+
 same-length : tie.Need-same-length
-same-length c = search needs
+same-length c = simp length-set
 
 returns : tie.Need-returns
 returns c =
-    let s = c .before .before .before .before in
+    let s = c .before .before .before .before .before .before .before .before in
     let l = s .args .l in
-    sets-eq (eightBytes (l .array) (l .letter) (l .leaving) (l .reaching) (l .kept)) (s .args .out .now) 0 (s .pre)
+    sets-eq (twelveBytes (l .array) (l .letter) (l .leaving) (l .reaching) (l .kept)) (s .args .out .now) 0 (s .pre)
 
 pub write-spec : {M : Type 1} → statement M
 write-spec =
@@ -69,5 +93,13 @@ write-spec =
     slice-write-out-7
     cast-out-4
     slice-write-out-8
+    cast-out-5
+    slice-write-out-9
+    cast-out-6
+    slice-write-out-10
+    cast-out-7
+    slice-write-out-11
+    cast-out-8
+    slice-write-out-12
     same-length
     returns)

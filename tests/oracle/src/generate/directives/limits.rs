@@ -6,7 +6,7 @@ use crate::directives::{Alignment, Array, Dimension, Mapping, Program, Statement
 use crate::generate::directives::{Size, make_acceptable, on_graph};
 use crate::generate::limits as routines;
 use crate::generate::rng::Rng;
-use crate::routine::{MAX_ARRAYS, MAX_EDGES, MAX_VERTICES};
+use crate::routine::{MAX_ARRAYS, MAX_EDGES, MAX_VERSIONS, MAX_VERTICES};
 
 /// Spreads that differ from each other and from each other exchanged.
 fn spread(index: usize) -> Mapping {
@@ -48,10 +48,15 @@ pub fn chain(templates: Vec<Mapping>, arrays: Vec<Array>, statements: Vec<Statem
     program
 }
 
-/// Every count at its limit, and accepted. The first four arrays are redistributed, each with a
+/// Every count at its limit, mappings too, and accepted.
+pub fn largest() -> Program {
+    largest_of(MAX_VERSIONS)
+}
+
+/// Every count but that of mappings at its limit, and accepted. The first four arrays are redistributed, each with a
 /// template of its own, the others are realigned with the other templates, straight and exchanged.
 /// Every fifth vertex changes the spread of a template that nothing is aligned with.
-pub fn largest() -> Program {
+pub fn largest_of(mappings: usize) -> Program {
     let graph = routines::largest_plan();
     let half = MAX_ARRAYS / 2;
     let mut program = Program {
@@ -73,7 +78,7 @@ pub fn largest() -> Program {
         let turn = vertex / 5;
         program.vertices[vertex] = match vertex % 5 {
             0 => Statement::Redistribute(MAX_TEMPLATES - 1, spread(turn % 30)),
-            1 | 2 => Statement::Redistribute(turn % half, spread(vertex % 16)),
+            1 | 2 => Statement::Redistribute(turn % half, spread(vertex % mappings)),
             3 => Statement::Realign(
                 half + turn % half,
                 Alignment {
@@ -205,11 +210,11 @@ pub fn with_unreached(mut program: Program) -> Program {
 /// numbers, and with as many edges as allowed.
 pub fn large(rng: &mut Rng) -> Vec<Program> {
     let graphs = [
-        routines::backward_chain(rng),
-        routines::zigzag_chain(rng),
+        routines::backward_chain(rng, MAX_VERSIONS),
+        routines::zigzag_chain(rng, MAX_VERSIONS),
         routines::chain_from_entry(),
         routines::chain_both_ways(),
-        routines::dense(rng),
+        routines::dense(rng, MAX_VERSIONS),
         routines::largest_plan(),
     ];
     let mut programs = Vec::new();

@@ -1,0 +1,59 @@
+-- `run_small` meets its contract: the work slices are arrays of a small routine's sizes.
+-- Assumes nothing.
+use native.Mathlib.Omega.{arith}
+use borrow.Author.Needs.{needs}
+use Rattle.run.proofs.run_small.Statement.{statement}
+use Rattle.run.proofs.run_small.Tie as tie
+
+slice-aggregate-run-within : tie.Need-slice-aggregate-run-within
+slice-aggregate-run-within c = search needs
+
+slice-aggregate-run-within-2 : tie.Need-slice-aggregate-run-within-2
+slice-aggregate-run-within-2 c = search needs
+
+slice-aggregate-run-within-3 : tie.Need-slice-aggregate-run-within-3
+slice-aggregate-run-within-3 c = search needs
+
+slice-aggregate-run-within-4 : tie.Need-slice-aggregate-run-within-4
+slice-aggregate-run-within-4 c = search needs
+
+slice-aggregate-run-within-5 : tie.Need-slice-aggregate-run-within-5
+slice-aggregate-run-within-5 c = search needs
+
+slice-aggregate-run-within-6 : tie.Need-slice-aggregate-run-within-6
+slice-aggregate-run-within-6 c = search needs
+
+slice-aggregate-run-within-7 : tie.Need-slice-aggregate-run-within-7
+slice-aggregate-run-within-7 c = search needs
+
+slice-aggregate-run-within-8 : tie.Need-slice-aggregate-run-within-8
+slice-aggregate-run-within-8 c = search needs
+
+run-within-requires : tie.Need-run-within-requires
+run-within-requires c κs =
+    let p = c .before .before .before .before .before .before .before .before .before .before .before .before .pre in
+    let v = p .1 .0 in
+    let e = p .1 .1 in
+    (p .0, (omega (arith, p .0 .heads .vertices-are, p .0 .heads .edges-are, v, e), (omega (arith, p .0 .heads .vertices-are, p .0 .heads .edges-are, v, e), (omega (arith, p .0 .heads .vertices-are, p .0 .heads .edges-are, v, e), (omega (arith, p .0 .heads .vertices-are, p .0 .heads .edges-are, v, e), (omega (arith, p .0 .heads .vertices-are, p .0 .heads .edges-are, v, e), (omega (arith, p .0 .heads .vertices-are, p .0 .heads .edges-are, v, e), (omega (arith, p .0 .heads .vertices-are, p .0 .heads .edges-are, v, e), omega (arith, p .0 .heads .vertices-are, p .0 .heads .edges-are, v, e)))))))))
+
+same-length : tie.Need-same-length
+same-length c = search needs
+
+returns : tie.Need-returns
+returns c = search needs
+
+pub run-small-spec : {M : Type 1} → statement M
+run-small-spec =
+    tie.close
+    (tie.spec
+    slice-aggregate-run-within
+    slice-aggregate-run-within-2
+    slice-aggregate-run-within-3
+    slice-aggregate-run-within-4
+    slice-aggregate-run-within-5
+    slice-aggregate-run-within-6
+    slice-aggregate-run-within-7
+    slice-aggregate-run-within-8
+    run-within-requires
+    same-length
+    returns)
