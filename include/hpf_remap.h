@@ -2,7 +2,7 @@
  * a routine of directives, hpf_rounds tells what planning took.
  *
  * Memory    A call reads the bytes and writes the buffer that its caller lends. It keeps no state and takes no heap,
- *           and at most 65 KiB of stack. Any number of threads may call at once, each with a buffer of its own.
+ *           and at most 64 KiB of stack. Any number of threads may call at once, each with a buffer of its own.
  *           Every call ends.
  * Pointers  Each points to as many bytes as the length beside it says; where that is 0 it may be null. The buffer
  *           must overlap nothing that the call reads; a routine and a path may overlap.
@@ -88,7 +88,7 @@ typedef struct {
 #define HPF_LARGEST_DIRECTIVES 9334 /* 22 + 8 * 8 + 4 * 8 + 256 * (12 + 8) + 4 * 1024 */
 #define HPF_LARGEST_ROUTINE 6194    /* 18 + 4 * 8 + 256 * 8 + 4 * 1024 */
 #define HPF_LARGEST_PLAN 25608      /* 8 + 4 * 256 + 12 * 256 * 8 */
-#define HPF_LARGEST_REPORT 327664   /* 8 * 8 + 10 * 4095 * 8: at the entry stands no reference */
+#define HPF_LARGEST_REPORT 330048   /* 8 * 8 + 10 * 4095 * 8 + 2 * 1192: at the entry stands no reference */
 #define HPF_LARGEST_ROUNDS 12       /* 2 * 6 */
 #define HPF_LONGEST_PATH 4096
 
@@ -211,7 +211,7 @@ hpf_outcome hpf_plan(const uint8_t *routine, size_t routine_len, uint8_t *plan, 
  * path_len counts bytes, as every length here does: two for each vertex. A caller who hands over the number of vertices
  * has half the path run, and is answered 0.
  *
- *   report         bytes  of A arrays and N references, N = (length - 8A) / 10
+ *   report         bytes  of A arrays, N references and the F edges of the expanded routine
  *   -------------  -----  ----------------------------------------------------------------------------------------
  *   0              8A     for each array, after the last step:
  *     + 0, 2       2, 4   copies made; set of live versions
@@ -222,6 +222,11 @@ hpf_outcome hpf_plan(const uint8_t *routine, size_t routine_len, uint8_t *plan, 
  *     + 4, 5              kind: 1 read, 2 define, 3 modify, 4 kill; zero
  *     + 6          2      stamp seen by a read or modify; 0 for a define or kill
  *     + 8          2      new stamp, given by a define or modify: the step; 0 for a read, and for a kill, which gives 0
+ *   8A + 10N       2F     for each edge of the expanded routine, rising by from, then to: how often the path passes it
+ *
+ * F is E, and 2 more for each vertex of the file with calls: edges inside a call stand among the others. So N is
+ * (length - 8A - 2F) / 10. The counts stand there too where the path has no reference; their total is the number of the
+ * path's vertices less one.
  *
  * A stamp tells a value: it is the step that gave it, 65,535 for what the caller gave (in and inout), 0 for what was
  * never given or is killed.

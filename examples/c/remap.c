@@ -1,5 +1,6 @@
 /* Plans routine P and runs case 2 (docs/CASES.md). Prints the plan's labels, the copies and flags that the run leaves
- * for each array, and what each reference saw and gave. Then plans routine K, which has a call, and prints its labels.
+ * for each array, what each reference saw and gave, and how often each edge was passed. Then plans routine K, which has
+ * a call, and prints its labels.
  */
 #include <stdio.h>
 #include <stdlib.h>
@@ -66,12 +67,16 @@ static void print_array(unsigned array, const uint8_t *entry) {
         printf("%u\n", entry[6]);
 }
 
+/* P has no calls: the edges of the expanded routine, of which each has a count behind the records, are the file's. */
 static void print_report(const uint8_t *report, size_t length) {
-    unsigned arrays = word(routine + 8);
+    unsigned arrays = word(routine + 8), edges = word(routine + 16);
+    const uint8_t *edge = routine + word(routine + 14), *counts = report + length - 2 * edges;
     for (unsigned a = 0; a < arrays; a++) print_array(a, report + 8 * a);
-    for (const uint8_t *record = report + 8 * arrays; record < report + length; record += 10)
+    for (const uint8_t *record = report + 8 * arrays; record < counts; record += 10)
         printf("step %u: version %u, kind %u, sees %u, gives %u\n", word(record), record[3], record[4],
                word(record + 6), word(record + 8));
+    for (unsigned e = 0; e < edges; e++)
+        printf("edge %u-%u: passed %u\n", word(edge + 4 * e), word(edge + 4 * e + 2), word(counts + 2 * e));
 }
 
 int main(void) {

@@ -11,7 +11,7 @@ module hpf_remap
   integer, parameter, public :: hpf_largest_directives = 9334
   integer, parameter, public :: hpf_largest_routine = 6194
   integer, parameter, public :: hpf_largest_plan = 25608
-  integer, parameter, public :: hpf_largest_report = 327664
+  integer, parameter, public :: hpf_largest_report = 330048
   integer, parameter, public :: hpf_largest_rounds = 12
   integer, parameter, public :: hpf_longest_path = 4096
 

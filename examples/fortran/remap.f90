@@ -1,5 +1,6 @@
 ! Plans routine P and runs case 2 (docs/CASES.md). Prints the plan's labels, the copies and flags that the run leaves
-! for each array, and what each reference saw and gave. Then plans routine K, which has a call, and prints its labels.
+! for each array, what each reference saw and gave, and how often each edge was passed. Then plans routine K, which has
+! a call, and prints its labels.
 program remap
   use iso_c_binding, only: c_int8_t, c_size_t
   use iso_fortran_env, only: error_unit
@@ -130,15 +131,24 @@ contains
       set(report, at + 2), ', current ', trim(current)
   end subroutine print_array
 
+  ! P has no calls: the edges of the expanded routine, of which each has a count behind the records, are the file's.
   subroutine print_report()
-    integer :: array, arrays, at
+    integer :: array, arrays, at, counts, edge, edges, first_edge
     arrays = word(routine, 9)
+    edges = word(routine, 17)
+    counts = 1 + size(report) - 2 * edges
+    first_edge = 1 + word(routine, 15)
     do array = 0, arrays - 1
       call print_array(array, 1 + 8 * array)
     end do
-    do at = 1 + 8 * arrays, size(report), 10
+    do at = 1 + 8 * arrays, counts - 1, 10
       print '(5(a, i0))', 'step ', word(report, at), ': version ', byte(report, at + 3), &
         ', kind ', byte(report, at + 4), ', sees ', word(report, at + 6), ', gives ', word(report, at + 8)
+    end do
+    do edge = 0, edges - 1
+      at = first_edge + 4 * edge
+      print '(3(a, i0))', 'edge ', word(routine, at), '-', word(routine, at + 2), &
+        ': passed ', word(report, counts + 2 * edge)
     end do
   end subroutine print_report
 end program remap

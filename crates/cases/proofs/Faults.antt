@@ -7,7 +7,7 @@ use native.Mathlib.Omega.{arith}
 use lib.Count.{ones}
 use lib.ListN.{getD}
 use Rattle.cases.specs.Cases.{P, path2}
-use Rattle.cases.specs.Faults.{zeros, RefusesAll, P-with-nothing, PlanOfPForAll, WritesNoPlan, InventsRecords, InventsCopies, WritesNoReport}
+use Rattle.cases.specs.Faults.{zeros, RefusesAll, P-with-nothing, PlanOfPForAll, WritesNoPlan, InventsRecords, InventsCopies, CountsFirstStep, WritesNoReport}
 use Rattle.calls.specs.Expanded.{routineOf}
 use Rattle.planned.specs.Calls.{planOf, Planned}
 use Rattle.refusal.specs.Replies.{filledBy}
@@ -65,10 +65,14 @@ writes-no-plan reply h = absurd (omega (arith, byte (planBytes (routineOf P)) (z
 
 -- byte 16 is the new stamp of the first record
 pub invents-records : InventsRecords
-invents-records reply h = absurd (omega (arith, byte (reportBytes (routineOf P) path2) (zeros 48) (all-hold .1 .0 .0) (all-hold .1 .0 .4) (h .answer) (h .buffer) 16))
+invents-records reply h = absurd (omega (arith, byte (reportBytes (routineOf P) path2) (zeros 64) (all-hold .1 .0 .0) (all-hold .1 .0 .4) (h .answer) (h .buffer) 16))
 
 pub invents-copies : InventsCopies
-invents-copies reply h = absurd (omega (arith, byte (reportBytes (routineOf P) path2) (zeros 48) (all-hold .1 .0 .0) (all-hold .1 .0 .4) (h .answer) (h .buffer) 0))
+invents-copies reply h = absurd (omega (arith, byte (reportBytes (routineOf P) path2) (zeros 64) (all-hold .1 .0 .0) (all-hold .1 .0 .4) (h .answer) (h .buffer) 0))
+
+-- byte 48 is the count of the first edge
+pub counts-first-step : CountsFirstStep
+counts-first-step reply h = absurd (omega (arith, byte (reportBytes (routineOf P) path2) (zeros 64) (all-hold .1 .0 .0) (all-hold .1 .0 .4) (h .answer) (h .buffer) 48))
 
 pub writes-no-report : WritesNoReport
-writes-no-report reply h = absurd (omega (arith, byte (reportBytes (routineOf P) path2) (zeros 48) (all-hold .1 .0 .0) (all-hold .1 .0 .4) (h .answer) (h .buffer) 0))
+writes-no-report reply h = absurd (omega (arith, byte (reportBytes (routineOf P) path2) (zeros 64) (all-hold .1 .0 .0) (all-hold .1 .0 .4) (h .answer) (h .buffer) 0))

@@ -71,7 +71,7 @@ pub record Refuses : Type 0 where
   pub outcome : Outcome
 
 -- a run: the copies of each array, against those of copying at every remapping; what its reads see; and the report whole, in rows of
--- bytes: an array, then a reference in each
+-- bytes: an array, then a reference in each, then the counts of the edges
 pub record Runs : Type 0 where
   pub file : List ℕ
   pub path : List ℕ
@@ -301,6 +301,7 @@ case2 =
           ∷ 4 ∷ 0 ∷ 0 ∷ 1 ∷ 1 ∷ 0 ∷ 2 ∷ 0 ∷ 0 ∷ 0
           ∷ 7 ∷ 0 ∷ 0 ∷ 0 ∷ 1 ∷ 0 ∷ 2 ∷ 0 ∷ 0 ∷ 0
           ∷ 9 ∷ 0 ∷ 0 ∷ 1 ∷ 1 ∷ 0 ∷ 2 ∷ 0 ∷ 0 ∷ 0
+          ∷ 1 ∷ 0 ∷ 1 ∷ 0 ∷ 2 ∷ 0 ∷ 1 ∷ 0 ∷ 1 ∷ 0 ∷ 1 ∷ 0 ∷ 1 ∷ 0 ∷ 0 ∷ 0
           ∷ [];
     })
 
@@ -339,6 +340,7 @@ case4 =
       report =
           2 ∷ 0 ∷ 1 ∷ 0 ∷ 0 ∷ 0 ∷ 0 ∷ 0
           ∷ 4 ∷ 0 ∷ 0 ∷ 0 ∷ 1 ∷ 0 ∷ 255 ∷ 255 ∷ 0 ∷ 0
+          ∷ 1 ∷ 0 ∷ 0 ∷ 0 ∷ 1 ∷ 0 ∷ 0 ∷ 0 ∷ 1 ∷ 0 ∷ 0 ∷ 0
           ∷ [];
     })
 
@@ -356,10 +358,11 @@ case5 =
           2 ∷ 0 ∷ 1 ∷ 0 ∷ 0 ∷ 0 ∷ 0 ∷ 0
           ∷ 3 ∷ 0 ∷ 0 ∷ 1 ∷ 2 ∷ 0 ∷ 0 ∷ 0 ∷ 3 ∷ 0
           ∷ 5 ∷ 0 ∷ 0 ∷ 0 ∷ 1 ∷ 0 ∷ 3 ∷ 0 ∷ 0 ∷ 0
+          ∷ 1 ∷ 0 ∷ 1 ∷ 0 ∷ 0 ∷ 0 ∷ 1 ∷ 0 ∷ 1 ∷ 0 ∷ 0 ∷ 0
           ∷ [];
     })
 
--- 6. ★ S, path 0 1 2 3 4: read sees 2 in version 2, one copy against 2; the lines `1 4 2`, `2 0 0 2 0 2` and `5 0 2 1 2 0`
+-- 6. ★ S, path 0 1 2 3 4: read sees 2 in version 2, one copy against 2; the lines `1 4 2`, `2 0 0 2 0 2` and `5 0 2 1 2 0`, then 1, 1, 1, 1 and 0
 abbrev pub case6 : Case
 case6 =
     runs
@@ -373,6 +376,7 @@ case6 =
           1 ∷ 0 ∷ 4 ∷ 0 ∷ 0 ∷ 0 ∷ 2 ∷ 0
           ∷ 2 ∷ 0 ∷ 0 ∷ 0 ∷ 2 ∷ 0 ∷ 0 ∷ 0 ∷ 2 ∷ 0
           ∷ 5 ∷ 0 ∷ 0 ∷ 2 ∷ 1 ∷ 0 ∷ 2 ∷ 0 ∷ 0 ∷ 0
+          ∷ 1 ∷ 0 ∷ 1 ∷ 0 ∷ 1 ∷ 0 ∷ 1 ∷ 0 ∷ 0 ∷ 0
           ∷ [];
     })
 
@@ -455,6 +459,7 @@ runU =
           ∷ 4 ∷ 0 ∷ 0 ∷ 1 ∷ 2 ∷ 0 ∷ 0 ∷ 0 ∷ 4 ∷ 0
           ∷ 5 ∷ 0 ∷ 0 ∷ 1 ∷ 1 ∷ 0 ∷ 4 ∷ 0 ∷ 0 ∷ 0
           ∷ 7 ∷ 0 ∷ 0 ∷ 0 ∷ 1 ∷ 0 ∷ 4 ∷ 0 ∷ 0 ∷ 0
+          ∷ 1 ∷ 0 ∷ 1 ∷ 0 ∷ 1 ∷ 0 ∷ 1 ∷ 0 ∷ 1 ∷ 0 ∷ 1 ∷ 0 ∷ 0 ∷ 0
           ∷ [];
     })
 
@@ -489,6 +494,7 @@ runX =
       report =
           1 ∷ 0 ∷ 2 ∷ 0 ∷ 0 ∷ 0 ∷ 1 ∷ 0
           ∷ 3 ∷ 0 ∷ 0 ∷ 1 ∷ 1 ∷ 0 ∷ 255 ∷ 255 ∷ 0 ∷ 0
+          ∷ 1 ∷ 0 ∷ 1 ∷ 0 ∷ 0 ∷ 0
           ∷ [];
     })
 
@@ -505,6 +511,7 @@ fullRunX =
       report =
           1 ∷ 0 ∷ 1 ∷ 0 ∷ 0 ∷ 0 ∷ 0 ∷ 0
           ∷ 3 ∷ 0 ∷ 0 ∷ 1 ∷ 1 ∷ 0 ∷ 255 ∷ 255 ∷ 0 ∷ 0
+          ∷ 1 ∷ 0 ∷ 1 ∷ 0 ∷ 1 ∷ 0
           ∷ [];
     })
 
@@ -537,7 +544,8 @@ caseK =
           ∷ [];
     })
 
--- request 3: K, path 0 1 2 3 4 1 2 3 4 5: three copies and one, against four each; reads after the call see what it left
+-- request 3: K, path 0 1 2 3 4 1 2 3 4 5: three copies and one, against four each; reads after the call see what it left; request 8: counts
+-- of the expanded routine's edges
 abbrev pub runK : Case
 runK =
     runs
@@ -558,6 +566,7 @@ runK =
           ∷ 7 ∷ 0 ∷ 1 ∷ 1 ∷ 1 ∷ 0 ∷ 255 ∷ 255 ∷ 0 ∷ 0
           ∷ 9 ∷ 0 ∷ 0 ∷ 0 ∷ 1 ∷ 0 ∷ 7 ∷ 0 ∷ 0 ∷ 0
           ∷ 9 ∷ 0 ∷ 1 ∷ 0 ∷ 1 ∷ 0 ∷ 255 ∷ 255 ∷ 0 ∷ 0
+          ∷ 1 ∷ 0 ∷ 2 ∷ 0 ∷ 2 ∷ 0 ∷ 2 ∷ 0 ∷ 1 ∷ 0 ∷ 1 ∷ 0
           ∷ [];
     })
 
@@ -620,6 +629,7 @@ runZ =
           ∷ 2 ∷ 0 ∷ 0 ∷ 0 ∷ 2 ∷ 0 ∷ 0 ∷ 0 ∷ 2 ∷ 0
           ∷ 4 ∷ 0 ∷ 0 ∷ 1 ∷ 4 ∷ 0 ∷ 0 ∷ 0 ∷ 0 ∷ 0
           ∷ 5 ∷ 0 ∷ 0 ∷ 1 ∷ 1 ∷ 0 ∷ 0 ∷ 0 ∷ 0 ∷ 0
+          ∷ 1 ∷ 0 ∷ 1 ∷ 0 ∷ 1 ∷ 0 ∷ 1 ∷ 0 ∷ 0 ∷ 0
           ∷ [];
     })
 
@@ -662,6 +672,7 @@ runY =
           1 ∷ 0 ∷ 0 ∷ 0 ∷ 3 ∷ 0 ∷ 17 ∷ 0
           ∷ 2 ∷ 0 ∷ 0 ∷ 16 ∷ 2 ∷ 0 ∷ 0 ∷ 0 ∷ 2 ∷ 0
           ∷ 4 ∷ 0 ∷ 0 ∷ 17 ∷ 1 ∷ 0 ∷ 2 ∷ 0 ∷ 0 ∷ 0
+          ∷ 1 ∷ 0 ∷ 1 ∷ 0 ∷ 1 ∷ 0 ∷ 0 ∷ 0 ∷ 0 ∷ 0 ∷ 0 ∷ 0
           ∷ [];
     })
 

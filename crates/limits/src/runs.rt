@@ -1,4 +1,4 @@
-// The runner's answers (document 01, "Who can cause a refusal", cases 2, 6 and 9; document 02, request 3): for a run 0, the report's length and 0; for a refused path or
+// The runner's answers (document 01, "Who can cause a refusal", cases 2, 6 and 9; document 02, requests 3 and 8): for a run 0, the report's length and 0; for a refused path or
 // buffer the number and the two places.
 use crate::build;
 use crate::build::Buffer;
@@ -92,7 +92,7 @@ fn write_stamp(file: &[u8], path: &[u8], out: &mut [u8], at: usize)
 fn u_on(file: Buffer, path: Buffer) {
     let mut out = buffer();
     print::bytes(b"u ");
-    write_stamp(&file[..58], &path[..14], &mut out[..48], 44);
+    write_stamp(&file[..58], &path[..14], &mut out[..62], 44);
 }
 
 fn u() {
@@ -142,8 +142,8 @@ fn calls() {
 
 // 2: the buffer.
 fn buffers() {
-    p_round(b"report_fits", 9, 18, 48);
-    p_round(b"report_a_byte_short", 9, 18, 47);
+    p_round(b"report_fits", 9, 18, 64);
+    p_round(b"report_a_byte_short", 9, 18, 63);
     p_round(b"report_no_buffer", 9, 18, 0);
 }
 

@@ -26,6 +26,10 @@ recordLine report at =
     (NUMBER ∷ NUMBER ∷ NUMBER ∷ NUMBER ∷ NUMBER ∷ NUMBER ∷ [])
     (word report at ∷ getD report (at + 2) 0 ∷ getD report (at + 3) 0 ∷ getD report (at + 4) 0 ∷ word report (at + 6) ∷ word report (at + 8) ∷ [])
 
+-- the count of an edge, two bytes at `at` (document 02, request 8)
+abbrev pub countLine : List ℕ → ℕ → List ℕ
+countLine report at = line (NUMBER ∷ []) (word report at ∷ [])
+
 -- a call's answer: number and places
 abbrev pub outcomeLine : Reply → List ℕ
 outcomeLine reply =

@@ -9,7 +9,7 @@ ghost use mathlib.Core.Path.{_≡_};
 ghost use Prim.Native.Nat.{_≤_};
 ghost use lib.ListN.{length, getD};
 ghost use Rattle.io.specs.Counts.{Counts};
-ghost use Rattle.listing.specs.Lines.{labelLine, entryLine, recordLine, outcomeLine};
+ghost use Rattle.listing.specs.Lines.{labelLine, entryLine, recordLine, countLine, outcomeLine};
 ghost use Rattle.words.specs.Tables.{wrote};
 ghost use Rattle.words.specs.Words.{word, longWord};
 
@@ -102,6 +102,19 @@ pub fn record(out: &mut [u8], report: &[u8], at: usize) -> usize
         word(report, at + 6),
         word(report, at + 8),
     ];
+    line(out, &forms, &fields)
+}
+
+// The count of an edge, two bytes at `at`.
+pub fn count(out: &mut [u8], report: &[u8], at: usize) -> usize
+    requires { ⌜ 128 ≤ length (now out) ⌝ }
+    requires { ⌜ at ≤ 2000000 ⌝ }
+    ensures { λ r. ⌜ Counts r (now (out .exit)) ⌝ }
+    ensures { λ r. ⌜ r ≡ length (countLine (now (report .entry)) at) ⌝ }
+    ensures { λ _. ⌜ now (out .exit) ≡ wrote (now (out .entry)) (countLine (now (report .entry)) at) ⌝ }
+{
+    let forms = [NUMBER];
+    let fields = [word(report, at)];
     line(out, &forms, &fields)
 }
 

@@ -1,2 +1,5 @@
-pub mod EdgeTable
+pub mod Counted
+pub mod Passes
 pub mod Paths
+pub mod Places
+pub mod Rising

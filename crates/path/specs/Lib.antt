@@ -1,2 +1,3 @@
-pub mod EdgeTable
+pub mod Passes
 pub mod Paths
+pub mod Places

@@ -1,18 +1,21 @@
-// The path: 16-bit vertices, an odd last byte ignored; refusals 30 to 32 (document 01, "Who can cause a refusal").
+// The path: 16-bit vertices, an odd last byte ignored; refusals 30 to 32 (document 01, "Who can cause a refusal"), and how often each edge is
+// passed (document 02, request 8).
+pub mod edges;
+
+use crate::edges::Found;
 use refusal::Refusal;
 use refusal::Verdict;
-use routine::edge;
-use routine::edge::Edge;
 use routine::header::Header;
 ghost use mathlib.Core.Path.{_≡_};
-ghost use Prim.Native.Nat.{_+_, _<_, _^_};
-ghost use Rattle.sets.specs.Sets.{has};
-ghost use lib.ListN.{length, replicate};
+ghost use Prim.Native.Nat.{_+_, _≤_, _<_};
+ghost use lib.ListN.{replicate};
 ghost use Rattle.labels.specs.Routines.{ReadAs};
+ghost use Rattle.refusal.specs.declared.Verdict.the-variants.{Passed};
 ghost use Rattle.routine.specs.Layout.{edges};
-ghost use Rattle.routine.specs.Reader.{WellFormed};
-ghost use Rattle.path.specs.EdgeTable.{withEdge, edgeTable, hasEdge, arrivalBy};
-ghost use Rattle.path.specs.Paths.{steps, vertexAt, check30, check31, check32, pathCheck};
+ghost use Rattle.path.specs.Passes.{passesUpTo, passesOf};
+ghost use Rattle.path.specs.Paths.{steps, vertexAt, check30, check31, arrivalCheck, check32, pathCheck};
+ghost use Rattle.path.specs.Places.{Starts};
+ghost use Rattle.words.specs.Tables.{table};
 
 // The longest path.
 pub const MAX: usize = 4096;
@@ -30,64 +33,6 @@ pub fn vertex(path: &[u8], i: usize) -> usize
     ensures { λ r. ⌜ r ≡ vertexAt (now (path .entry)) i ⌝ }
 {
     words::at(path, 2 * i)
-}
-
-// Words of the table of edges.
-const WORDS: usize = 4096;
-
-// The word with bit k alone.
-fn bit(k: u8) -> u16
-    requires { ⌜ k < 16 ⌝ }
-    ensures { λ r. ⌜ r ≡ 2 ^ k ⌝ }
-{
-    1 << k
-}
-
-// Whether a word has bit k.
-fn has_bit(word: u16, k: u8) -> bool
-    requires { ⌜ k < 16 ⌝ }
-    ensures { λ r. ⌜ r ≡ has word k ⌝ }
-{
-    (word >> k) & 1 == 1
-}
-
-// Puts an edge into the table.
-fn put_edge(table: &mut [u16], e: Edge)
-    requires { ⌜ length (now table) ≡ 4096 ⌝ }
-    requires { ⌜ (e .from < 256) × (e .to < 256) ⌝ }
-    ensures { λ _. ⌜ now (table .exit) ≡ withEdge (now (table .entry)) e ⌝ }
-{
-    let at = 16 * e.from + e.to / 16;
-    table[at] = table[at] | bit((e.to % 16) as u8);
-}
-
-// Puts every edge into an empty table.
-fn put_edges(file: &[u8], h: Header, table: &mut [u16])
-    requires { ⌜ ReadAs (now file) h ⌝ }
-    requires { ⌜ now table ≡ replicate 4096 0 ⌝ }
-    ensures { λ _. ⌜ now (table .exit) ≡ edgeTable (now (file .entry)) (edges (now (file .entry))) ⌝ }
-{
-    let n = h.edges;
-    let mut i = 0;
-    while i < n {
-        put_edge(table, edge::at(file, h, i));
-        i += 1;
-    }
-}
-
-// Whether the table has an edge from v to w.
-fn has_edge(table: &[u16], v: usize, w: usize) -> bool
-    requires { ⌜ length (now table) ≡ 4096 ⌝ }
-    ensures { λ r. ⌜ r ≡ hasEdge (now (table .entry)) v w ⌝ }
-{
-    if v >= 256 {
-        return false;
-    }
-    if w >= 256 {
-        return false;
-    }
-    let at = 16 * v + w / 16;
-    has_bit(table[at], (w % 16) as u8)
 }
 
 // Refusal 30.
@@ -116,31 +61,43 @@ fn check_start(path: &[u8]) -> Verdict
     Verdict::Passed
 }
 
-// Whether an edge of the table leads on from the vertex at index i.
-fn check_arrival(table: &[u16], path: &[u8], i: usize) -> Verdict
-    requires { ⌜ length (now table) ≡ 4096 ⌝ }
-    requires { ⌜ i + 1 < steps (now path) ⌝ }
-    ensures { λ r. ⌜ r ≡ arrivalBy (now (table .entry)) (now (path .entry)) (i + 1) ⌝ }
+// Whether an edge leads on from the vertex at index i; it is counted in `taken`.
+fn pass(file: &[u8], h: Header, starts: &[u16], path: &[u8], i: usize, taken: &mut [u16]) -> Verdict
+    requires { ⌜ ReadAs (now file) h ⌝ }
+    requires { ⌜ Starts (now file) (now starts) ⌝ }
+    requires { ⌜ (i + 1 < steps (now path)) × (i < 4096) ⌝ }
+    requires { ⌜ now taken ≡ table (passesUpTo (now file) (now path) i) (edges (now file)) ⌝ }
+    ensures { λ r. ⌜ r ≡ arrivalCheck (now (file .entry)) (now (path .entry)) (i + 1) ⌝ }
+    ensures { λ r. ⌜ (r ≡ Passed → now (taken .exit) ≡ table (passesUpTo (now (file .entry)) (now (path .entry)) (i + 1)) (edges (now (file .entry)))) ⌝ }
 {
     let next = i + 1;
-    let joined = has_edge(table, vertex(path, i), vertex(path, next));
-    if !joined {
+    let found = edges::find(file, h, starts, vertex(path, i), vertex(path, next));
+    let Found::At(place) = found else {
         return Verdict::Failed(Refusal::NoSuchEdge { index: next });
-    }
+    };
+    taken[place] += 1;
     Verdict::Passed
 }
 
-// Refusal 32, by the table of edges.
-fn check_arrivals_by(file: &[u8], table: &[u16], path: &[u8]) -> Verdict
-    requires { ⌜ WellFormed (now file) ⌝ }
-    requires { ⌜ now table ≡ edgeTable (now file) (edges (now file)) ⌝ }
-    requires { ⌜ 0 < steps (now path) ⌝ }
+// Refusal 32, with where the edges from each vertex start.
+fn check_arrivals_by(
+    file: &[u8],
+    h: Header,
+    starts: &[u16],
+    path: &[u8],
+    taken: &mut [u16],
+) -> Verdict
+    requires { ⌜ ReadAs (now file) h ⌝ }
+    requires { ⌜ Starts (now file) (now starts) ⌝ }
+    requires { ⌜ (0 < steps (now path)) × (steps (now path) ≤ 4096) ⌝ }
+    requires { ⌜ now taken ≡ replicate (edges (now file)) 0 ⌝ }
     ensures { λ r. ⌜ r ≡ check32 (now (file .entry)) (now (path .entry)) ⌝ }
+    ensures { λ r. ⌜ (r ≡ Passed → now (taken .exit) ≡ table (passesOf (now (file .entry)) (now (path .entry))) (edges (now (file .entry)))) ⌝ }
 {
     let n = count(path) - 1;
     let mut i = 0;
     while i < n {
-        let verdict = check_arrival(table, path, i);
+        let verdict = pass(file, h, starts, path, i, taken);
         if let Verdict::Failed(_) = verdict {
             return verdict;
         }
@@ -150,20 +107,24 @@ fn check_arrivals_by(file: &[u8], table: &[u16], path: &[u8]) -> Verdict
 }
 
 // Refusal 32.
-fn check_arrivals(file: &[u8], h: Header, path: &[u8]) -> Verdict
+fn check_arrivals(file: &[u8], h: Header, path: &[u8], taken: &mut [u16]) -> Verdict
     requires { ⌜ ReadAs (now file) h ⌝ }
-    requires { ⌜ 0 < steps (now path) ⌝ }
+    requires { ⌜ (0 < steps (now path)) × (steps (now path) ≤ 4096) ⌝ }
+    requires { ⌜ now taken ≡ replicate (edges (now file)) 0 ⌝ }
     ensures { λ r. ⌜ r ≡ check32 (now (file .entry)) (now (path .entry)) ⌝ }
+    ensures { λ r. ⌜ (r ≡ Passed → now (taken .exit) ≡ table (passesOf (now (file .entry)) (now (path .entry))) (edges (now (file .entry)))) ⌝ }
 {
-    let mut table = [0u16; WORDS];
-    put_edges(file, h, &mut table);
-    check_arrivals_by(file, &table, path)
+    let mut starts = [0u16; Header::MAX_VERTICES + 1];
+    edges::fill_starts(file, h, &mut starts);
+    check_arrivals_by(file, h, &starts, path, taken)
 }
 
-// Refusals 30 to 32.
-pub fn check(file: &[u8], h: Header, path: &[u8]) -> Verdict
+// Refusals 30 to 32. Where they pass, `taken`, which holds a zero for each edge, is left with how often the path passes each edge.
+pub fn check(file: &[u8], h: Header, path: &[u8], taken: &mut [u16]) -> Verdict
     requires { ⌜ ReadAs (now file) h ⌝ }
+    requires { ⌜ now taken ≡ replicate (edges (now file)) 0 ⌝ }
     ensures { λ r. ⌜ r ≡ pathCheck (now (file .entry)) (now (path .entry)) ⌝ }
+    ensures { λ r. ⌜ (r ≡ Passed → now (taken .exit) ≡ table (passesOf (now (file .entry)) (now (path .entry))) (edges (now (file .entry)))) ⌝ }
 {
     let length = check_length(path);
     if let Verdict::Failed(_) = length {
@@ -173,5 +134,5 @@ pub fn check(file: &[u8], h: Header, path: &[u8]) -> Verdict
     if let Verdict::Failed(_) = start {
         return start;
     }
-    check_arrivals(file, h, path)
+    check_arrivals(file, h, path, taken)
 }

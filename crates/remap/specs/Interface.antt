@@ -20,7 +20,7 @@ use Rattle.refusal.specs.declared.Reply.the-variants.{Written, Denied}
 use Rattle.refusal.specs.declared.Verdict.the-variants.{Passed}
 use Rattle.rounds.specs.Calls.{PassBytes, roundsOf, roundsOutcome}
 use Rattle.routine.specs.Reader.{readCheck}
-use Rattle.run.specs.Calls.{runOf, runOutcome, runInto, DemandMet}
+use Rattle.run.specs.Calls.{runOf, runOutcome, runInto, DemandMet, CountsMet}
 use Rattle.words.specs.Tables.{wrote}
 
 -- what hpf_plan answers and leaves
@@ -40,6 +40,7 @@ pub record RanC (file path before : List ℕ) (outcome : Outcome) (after : List 
   pub answer : outcome ≡ runOutcome file path (length before)
   pub buffer : after ≡ runInto (runOf file path (length before)) file path before
   pub demand : DemandMet (runOf file path (length before)) file path
+  pub counts : CountsMet (runOf file path (length before)) file path
 
 -- what hpf_convert answers and leaves
 pub record ConvertedC (file before : List ℕ) (outcome : Outcome) (after : List ℕ) : Type 0 where

@@ -1,4 +1,4 @@
--- The bytes of entries and records, and their number.
+-- The bytes of entries, records and counts, and their number.
 -- Assumes nothing.
 use mathlib.Core.Path.{_≡_, refl, sym, ap, _∙_}
 use mathlib.Core.Bool.{cond}
@@ -13,11 +13,16 @@ use Rattle.routine.specs.declared.action.Action.{Action}
 use Rattle.routine.specs.declared.action.Action.the-variants.{Nothing, Reference, Remap, Unknown}
 use Rattle.state.specs.States.{State}
 use Rattle.words.specs.Tables.{rows}
+use Rattle.words.specs.Words.{bytes16}
 use Rattle.words.proofs.Tables.{rows-length, rows-same}
 
 -- eight bytes an array
 pub entries-length : (state : ℕ → State) (m : ℕ) → length (rows (λ a. entryBytes (state a)) m) ≡ 8 * m
 entries-length state m = rows-length (λ a. entryBytes (state a)) 8 (λ a. refl) m
+
+-- two bytes a count
+pub counts-length : (count : ℕ → ℕ) (n : ℕ) → length (rows (λ i. bytes16 (count i)) n) ≡ 2 * n
+counts-length count n = rows-length (λ i. bytes16 (count i)) 2 (λ i. refl) n
 
 -- ---- records
 

@@ -1,8 +1,8 @@
--- Document 01, "Plan and report": the bytes of an array's entry and of a record.
+-- Document 01, "Plan and report": the bytes of an array's entry and of a record; document 02, request 8: those of counts.
 -- Assumes nothing.
 use mathlib.Core.List.{List, [], _∷_, _++_}
 use Prim.Native.Nat.{ℕ}
-use lib.ListN.{getD}
+use lib.ListN.{length, getD}
 use Rattle.report.specs.declared.record.Record.{Record}
 use Rattle.state.specs.Carrying.{bare}
 use Rattle.state.specs.States.{State}
@@ -30,3 +30,7 @@ recordBytes r = bytes16 (r .step) ++ (r .array ∷ r .version ∷ r .kind ∷ 0 
 abbrev pub recordsBytes : List Record → List ℕ
 recordsBytes [] = []
 recordsBytes (r ∷ rs) = recordBytes r ++ recordsBytes rs
+
+-- two bytes for each count
+abbrev pub countsOf : List ℕ → List ℕ
+countsOf counts = rows (λ i. bytes16 (getD counts i 0)) (length counts)

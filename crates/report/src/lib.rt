@@ -1,4 +1,5 @@
-// The report: the entries of the arrays, the records, and how many references a vertex has (document 01, "Plan and report").
+// The report: the entries of the arrays, the records, and how many references a vertex has (document 01, "Plan and report"); the counts of the
+// edges (document 02, request 8).
 pub mod record;
 
 use crate::record::Record;
@@ -17,14 +18,18 @@ ghost use Rattle.labels.specs.Events.{event};
 ghost use Rattle.labels.specs.Routines.{ReadAs};
 ghost use Rattle.routine.specs.Actions.{isReference};
 ghost use Rattle.routine.specs.Layout.{arrays, vertices};
-ghost use Rattle.report.specs.Bytes.{entryBytes, entriesOf, recordBytes, recordsBytes};
+ghost use Rattle.report.specs.Bytes.{entryBytes, entriesOf, recordBytes, recordsBytes, countsOf};
 ghost use Rattle.report.specs.Records.{recordOf, recordsAt};
 ghost use Rattle.report.specs.References.{referencesAt};
 ghost use Rattle.state.specs.Carrying.{bare};
 ghost use Rattle.words.specs.Tables.{table, wrote};
+ghost use Rattle.words.specs.Words.{bytes16};
 
 // Bytes of an array's entry.
 pub const ENTRY: usize = 8;
+
+// Bytes of an edge's count.
+pub const COUNT: usize = 2;
 
 // Whether vertex v refers to array a, 1 or 0.
 fn reference_at(file: &[u8], h: Header, a: usize, v: usize) -> usize
@@ -172,5 +177,29 @@ pub fn put(x: Action, step: usize, a: usize, version: u8, stamp: u16, out: &mut 
         }
         Action::Remap(_) => 0,
         Action::Unknown => 0,
+    }
+}
+
+// Writes a count at the front of what is lent.
+fn write_count(out: &mut [u8], count: u16)
+    requires { ⌜ 2 ≤ length (now out) ⌝ }
+    ensures { λ _. ⌜ now (out .exit) ≡ wrote (now (out .entry)) (bytes16 count) ⌝ }
+{
+    out[0] = (count % 256) as u8;
+    out[1] = (count / 256) as u8;
+}
+
+// Writes counts at the front of what is lent.
+pub fn write_counts(counts: &[u16], out: &mut [u8])
+    requires { ⌜ length (now counts) ≤ 65535 ⌝ }
+    requires { ⌜ 2 * length (now counts) ≤ length (now out) ⌝ }
+    ensures { λ _. ⌜ now (out .exit) ≡ wrote (now (out .entry)) (countsOf (now (counts .entry))) ⌝ }
+{
+    let n = counts.len();
+    let mut i = 0;
+    while i < n {
+        let at = COUNT * i;
+        write_count(&mut out[at..], counts[i]);
+        i += 1;
     }
 }

@@ -1,14 +1,15 @@
 -- The ways out of the call `run`: what the checks say, as the definition's answer.
 -- Assumes nothing.
-use mathlib.Core.Path.{_≡_, sym, ap, subst, _∙_}
+use mathlib.Core.Path.{_≡_, refl, sym, ap, subst, _∙_}
 use mathlib.Core.Bool.{true, false}
-use mathlib.Core.List.{List}
-use Prim.Native.Nat.{ℕ, _≤_, _<_}
+use mathlib.Core.List.{List, _∷_}
+use Prim.Native.Nat.{ℕ, zero, suc, _≤_, _<_}
 use native.Mathlib.Omega.{arith}
 use borrow.Author.Tests.{le-leb, lt-leb, leb-true}
 use lib.Dec.{leb}
-use lib.ListN.{length}
+use lib.ListN.{length, replicate, take}
 use Rattle.calls.proofs.Checks.{no-calls-routine, no-calls-check, calls-expanded, expandable-calls, calls-referring, calls-routine}
+use Rattle.calls.proofs.Calls.{routine-formed}
 use Rattle.calls.specs.Calls.{hasCalls}
 use Rattle.calls.specs.Checks.{callsCheck}
 use Rattle.calls.specs.Expanded.{expanded, routineOf}
@@ -28,10 +29,11 @@ use Rattle.refusal.specs.declared.Verdict.the-variants.{Passed, Failed}
 use Rattle.refusal.proofs.Checks.{written-passed, passed-left, passed-right, holds-true}
 use Rattle.returns.proofs.Returns.{demand3-calls, return-named}
 use Rattle.returns.specs.Returns.{ReturnsNamed}
-use Rattle.run.specs.Calls.{runCheck, runOf, DemandMet, runInto, Ran, runnerCheck, RanRead}
+use Rattle.run.specs.Calls.{runCheck, runOf, DemandMet, CountsMet, runInto, Ran, runnerCheck, RanRead}
+use Rattle.path.proofs.Passes.{path-counts}
+use Rattle.path.specs.Passes.{Counts}
 use Rattle.path.specs.Paths.{pathCheck}
 use Rattle.walk.specs.Report.{reportBytes, reportLength}
-use Rattle.walk.proofs.Bytes.{report-length}
 use Rattle.words.specs.Tables.{wrote}
 
 module _ (file path : List ℕ) (size : ℕ) {v : Verdict} (is : v ≡ programmerCheck file) where
@@ -54,6 +56,17 @@ module _ (file path : List ℕ) (size : ℕ) {v : Verdict} (is : v ≡ programme
     pub run-written : w ≡ Passed → reportLength file path ≤ size → Written (reportLength file path) ≡ written (runnerCheck file path size) (reportLength file path)
     unfolding runnerCheck
     run-written e h = rw (← is, p, ← follows, e, le-leb (reportLength file path) size h)
+
+-- what is written is as long as is said
+written-size : (v : Verdict) (m : ℕ) {n : ℕ} → written v m ≡ Written n → n ≡ m
+written-size Passed m e = cc
+written-size (Failed r) m e = absurd (let z : _≡_ {A = ℕ} 0 1 = cc in omega arith)
+
+-- the first of many zeros
+pub few-zeros : (n m : ℕ) → n ≤ m → take n (replicate m 0) ≡ replicate {A = ℕ} n 0
+few-zeros zero m h = refl
+few-zeros (suc n) zero h = absurd (omega arith)
+few-zeros (suc n) (suc m) h = ap (λ (l : List ℕ). 0 ∷ l) (few-zeros n m (omega arith))
 
 -- ---- a run of a routine that was read, from its reply
 
@@ -79,9 +92,13 @@ module _ (file path before : List ℕ) {reply : Reply} (is : reply ≡ written (
     pub run-follows : pathCheck file path ≡ Passed
     run-follows = passed-left (pathCheck file path) _ after-21
 
-    pub run-fits : length (reportBytes file path) ≤ length before
+    -- the report's length, and it fits
+    pub run-size : n ≡ reportLength file path
+    run-size = written-size (runnerCheck file path (length before)) (reportLength file path) (sym is ∙ e)
+
+    pub run-fits : n ≤ length before
     run-fits =
-        omega (arith, report-length file path, leb-true (reportLength file path) (length before) (holds-true _ _ (passed-right (pathCheck file path) _ after-21)))
+        omega (arith, run-size, leb-true (reportLength file path) (length before) (holds-true _ _ (passed-right (pathCheck file path) _ after-21)))
 
     pub written-ran : {after : List ℕ} → after ≡ wrote before (reportBytes file path) → RanRead file path before reply after
     written-ran w = record { answer = is; buffer = rw e w }
@@ -90,7 +107,7 @@ module _ (file path before : List ℕ) {reply : Reply} (is : reply ≡ written (
 
 module _ (file path before : List ℕ) where
   -- a run that is made
-  made : runCheck file path (length before) ≡ Passed → Demand3 (routineOf file) path × ReturnsNamed file path
+  made : runCheck file path (length before) ≡ Passed → Demand3 (routineOf file) path × ReturnsNamed file path × Counts (routineOf file) path
   unfolding runCheck programmerCheck
   made all =
       let read = passed-left (readCheck file) _ all in
@@ -101,15 +118,21 @@ module _ (file path before : List ℕ) where
       let both = calls-referring file read calls in (
         demand3-calls file can follows (passed-left (check20 (referring file)) (check21 (referring file)) both),
         return-named file can follows (passed-right (check20 (referring file)) (check21 (referring file)) both),
+        path-counts path (routine-formed file can) follows,
       )
 
   demand : (reply : Reply) → reply ≡ runOf file path (length before) → DemandMet reply file path
   unfolding runOf
-  demand (Written n) e = made (written-passed (runCheck file path (length before)) (reportLength (routineOf file) path) (sym e))
+  demand (Written n) e = let m = made (written-passed (runCheck file path (length before)) (reportLength (routineOf file) path) (sym e)) in (m .0, m .1)
   demand (Denied r) e = tt
 
+  counts : (reply : Reply) → reply ≡ runOf file path (length before) → CountsMet reply file path
+  unfolding runOf
+  counts (Written n) e = made (written-passed (runCheck file path (length before)) (reportLength (routineOf file) path) (sym e)) .2
+  counts (Denied r) e = tt
+
   ran : {reply : Reply} {after : List ℕ} → reply ≡ runOf file path (length before) → after ≡ runInto reply file path before → Ran file path before reply after
-  ran {reply} e b = record { answer = e; outcome = ap replyOutcome e; buffer = b; demand = demand reply e }
+  ran {reply} e b = record { answer = e; outcome = ap replyOutcome e; buffer = b; demand = demand reply e; counts = counts reply e }
 
   -- a refusal that is handed on
   denied : {reply : Reply} {r : Refusal} → runCheck file path (length before) ≡ Failed r → reply ≡ Denied r → Ran file path before reply before

@@ -1,4 +1,6 @@
 // The call `run` of document 01: a path through a routine, checked and run, and its report.
+pub mod edges;
+
 use calls::scan;
 use passes::tables;
 use refusal::Refusal;
@@ -10,16 +12,17 @@ use routine::reader::Answer;
 use sets::Set;
 ghost use mathlib.Core.Path.{_≡_};
 ghost use Prim.Native.Nat.{_*_, _≤_};
-ghost use lib.ListN.{length};
+ghost use lib.ListN.{length, replicate};
 ghost use Rattle.calls.specs.Checks.{CallsRead};
 ghost use Rattle.labels.specs.Checks.{programmerCheck};
 ghost use Rattle.labels.specs.Routines.{ReadAs};
 ghost use Rattle.routine.specs.Layout.{vertices, edges};
 ghost use Rattle.refusal.specs.Replies.{written};
-ghost use Rattle.run.specs.Calls.{runnerCheck, RanRead, Ran};
+ghost use Rattle.run.specs.Calls.{Ran, runnerCheck, Taken, RanRead};
 ghost use Rattle.walk.specs.Report.{reportLength};
 
-// The reply, with a buffer of `size` bytes: 20 and 21 as they were answered, then 30 to 32, then 2. `counts` is a work slice.
+// The reply, with a buffer of `size` bytes: 20 and 21 as they were answered, then 30 to 32, then 2. `counts` is a work slice. `taken`, which
+// holds a zero for each edge, is left with how often the path passes it if nothing is refused.
 fn reply(
     file: &[u8],
     h: Header,
@@ -27,16 +30,19 @@ fn reply(
     size: usize,
     checked: Verdict,
     counts: &mut [u8],
+    taken: &mut [u16],
 ) -> Reply
     requires { ⌜ ReadAs (now file) h ⌝ }
     requires { ⌜ checked ≡ programmerCheck (now file) ⌝ }
     requires { ⌜ length (now counts) ≡ vertices (now file) ⌝ }
+    requires { ⌜ now taken ≡ replicate (edges (now file)) 0 ⌝ }
     ensures { λ r. ⌜ r ≡ written (runnerCheck (now (file .entry)) (now (path .entry)) size) (reportLength (now (file .entry)) (now (path .entry))) ⌝ }
+    ensures { λ r. ⌜ Taken r (now (file .entry)) (now (path .entry)) (now (taken .exit)) ⌝ }
 {
     if let Verdict::Failed(r) = checked {
         return Reply::Denied(r);
     }
-    let followed = path::check(file, h, path);
+    let followed = path::check(file, h, path, taken);
     if let Verdict::Failed(r) = followed {
         return Reply::Denied(r);
     }
@@ -47,8 +53,8 @@ fn reply(
     Reply::Written(needed)
 }
 
-// Runs a path through a routine that was read. `order` holds an entry for each edge, `counts` one for each vertex, the other tables eight for
-// each vertex.
+// Runs a path through a routine that was read. `order` and `taken` hold an entry for each edge, `counts` one for each vertex, the other tables
+// eight for each vertex.
 fn run_with(
     file: &[u8],
     h: Header,
@@ -62,6 +68,7 @@ fn run_with(
     counts: &mut [u8],
     gives: &mut [Set],
     passes: &mut [Set],
+    taken: &mut [u16],
 ) -> Reply
     requires { ⌜ ReadAs (now file) h ⌝ }
     requires { ⌜ length (now order) ≡ edges (now file) ⌝ }
@@ -72,17 +79,18 @@ fn run_with(
     requires { ⌜ length (now counts) ≡ vertices (now file) ⌝ }
     requires { ⌜ length (now gives) ≡ 8 * vertices (now file) ⌝ }
     requires { ⌜ length (now passes) ≡ 8 * vertices (now file) ⌝ }
+    requires { ⌜ now taken ≡ replicate (edges (now file)) 0 ⌝ }
     ensures { λ r. ⌜ RanRead (now (file .entry)) (now (path .entry)) (now (out .entry)) r (now (out .exit)) ⌝ }
 {
     // here `kept` holds the reaching sets
     let checked = checks::prepare(file, h, order, versions, uses, letters, kept, gives, passes);
     let verdict = checked.verdict;
-    let reply = reply(file, h, path, out.len(), verdict, counts);
-    if let Reply::Denied(_) = reply {
+    let reply = reply(file, h, path, out.len(), verdict, counts, taken);
+    let Reply::Written(size) = reply else {
         return reply;
-    }
+    };
     tables::kept(file, h, order, versions, letters, kept, gives, passes);
-    walk::write(file, h, path, letters, kept, out);
+    walk::write(file, h, path, letters, kept, taken, size, out);
     reply
 }
 
@@ -100,6 +108,7 @@ fn run_within(
     counts: &mut [u8],
     gives: &mut [Set],
     passes: &mut [Set],
+    taken: &mut [u16],
 ) -> Reply
     requires { ⌜ ReadAs (now file) h ⌝ }
     requires { ⌜ edges (now file) ≤ length (now order) ⌝ }
@@ -110,6 +119,8 @@ fn run_within(
     requires { ⌜ vertices (now file) ≤ length (now counts) ⌝ }
     requires { ⌜ 8 * vertices (now file) ≤ length (now gives) ⌝ }
     requires { ⌜ 8 * vertices (now file) ≤ length (now passes) ⌝ }
+    requires { ⌜ edges (now file) ≤ length (now taken) ⌝ }
+    requires { ⌜ now taken ≡ replicate (length (now taken)) 0 ⌝ }
     ensures { λ r. ⌜ RanRead (now (file .entry)) (now (path .entry)) (now (out .entry)) r (now (out .exit)) ⌝ }
 {
     let e = h.edges;
@@ -128,6 +139,7 @@ fn run_within(
         &mut counts[..n],
         &mut gives[..all],
         &mut passes[..all],
+        &mut taken[..e],
     )
 }
 
@@ -144,6 +156,7 @@ fn run_large(file: &[u8], h: Header, path: &[u8], out: &mut [u8]) -> Reply
     let mut counts = [0u8; 256];
     let mut gives = [0 as Set; 2048];
     let mut passes = [0 as Set; 2048];
+    let mut taken = [0u16; flow::MAX_EDGES];
     run_within(
         file,
         h,
@@ -157,6 +170,7 @@ fn run_large(file: &[u8], h: Header, path: &[u8], out: &mut [u8]) -> Reply
         &mut counts,
         &mut gives,
         &mut passes,
+        &mut taken,
     )
 }
 
@@ -174,6 +188,7 @@ fn run_small(file: &[u8], h: Header, path: &[u8], out: &mut [u8]) -> Reply
     let mut counts = [0u8; 32];
     let mut gives = [0 as Set; 256];
     let mut passes = [0 as Set; 256];
+    let mut taken = [0u16; 128];
     run_within(
         file,
         h,
@@ -187,6 +202,7 @@ fn run_small(file: &[u8], h: Header, path: &[u8], out: &mut [u8]) -> Reply
         &mut counts,
         &mut gives,
         &mut passes,
+        &mut taken,
     )
 }
 

@@ -4,6 +4,7 @@
 use libc::STDERR_FILENO;
 use libc::STDOUT_FILENO;
 use refusal::Reply;
+use run::edges;
 ghost use Prim.Native.Nat.{_≤_};
 ghost use Rattle.io.specs.Counts.{Counts};
 
@@ -13,8 +14,8 @@ const ROUTINE: usize = 6195;
 // 513 vertices: as many are too long.
 const PATH: usize = 1026;
 
-// The longest report of 512 vertices: 8 arrays, and 8 references at each vertex but the entry.
-const REPORT: usize = 40944;
+// The longest report of 512 vertices: 8 arrays, 8 references at each vertex but the entry, and 1,192 edges.
+const REPORT: usize = 43328;
 
 // The number of bytes read; a file that cannot be opened counts as empty. If it cannot be opened, `unopened` goes to standard error; if a read
 // fails, `unread`.
@@ -51,6 +52,15 @@ fn print_record(report: &[u8], at: usize) -> bool
     io::write_all(STDOUT_FILENO, &line[..n])
 }
 
+// The count of an edge as a line.
+fn print_count(report: &[u8], at: usize) -> bool
+    requires { ⌜ at ≤ 2000000 ⌝ }
+{
+    let mut line = [0u8; listing::ROOM];
+    let n = listing::count(&mut line, report, at);
+    io::write_all(STDOUT_FILENO, &line[..n])
+}
+
 fn print_entries(report: &[u8], arrays: u64) -> bool
     requires { ⌜ arrays ≤ 65535 ⌝ }
 {
@@ -64,16 +74,30 @@ fn print_entries(report: &[u8], arrays: u64) -> bool
     true
 }
 
-// The records from `at` on, up to the report's end.
-fn print_records(report: &[u8], from: usize, length: usize) -> bool
-    requires { ⌜ length ≤ 1000000 ⌝ }
+// The records from `from` on, up to where the counts start.
+fn print_records(report: &[u8], from: usize, end: usize) -> bool
+    requires { ⌜ end ≤ 1000000 ⌝ }
 {
     let mut at = from;
-    while at < length {
+    while at < end {
         if !print_record(report, at) {
             return false;
         }
         at += 10;
+    }
+    true
+}
+
+// The counts from `from` on, up to the report's end.
+fn print_counts(report: &[u8], from: usize, length: usize) -> bool
+    requires { ⌜ length ≤ 1000000 ⌝ }
+{
+    let mut at = from;
+    while at < length {
+        if !print_count(report, at) {
+            return false;
+        }
+        at += 2;
     }
     true
 }
@@ -83,11 +107,19 @@ fn print_report(file: &[u8], report: &[u8], length: usize) -> bool {
     if !print_entries(report, arrays) {
         return false;
     }
-    // No report is longer than its buffer; the loop's numbers ask for a bound.
+    // No report is longer than its buffer, or shorter than its counts; the loops' numbers ask for bounds.
+    let n = edges::of(file);
     if length > REPORT {
         return true;
     }
-    print_records(report, 8 * (arrays as usize), length)
+    if n > length / 2 {
+        return true;
+    }
+    let counts = length - 2 * n;
+    if !print_records(report, 8 * (arrays as usize), counts) {
+        return false;
+    }
+    print_counts(report, counts, length)
 }
 
 // A refusal, on standard error and then on standard output.

@@ -1,28 +1,30 @@
--- The report's bytes, entry by entry and record by record, and their number; references on a path.
+-- The report's bytes, entry by entry, record by record and count by count, and their number; references on a path.
 -- Assumes nothing.
-use mathlib.Core.Path.{_≡_, sym, ap}
+use mathlib.Core.Path.{_≡_, sym, ap, _∙_}
 use mathlib.Core.Bool.{cond}
 use mathlib.Core.List.{List}
 use Prim.Native.Nat.{ℕ, _+_, _*_, _≤_, _<_}
 use native.Mathlib.Omega.{arith}
-use lib.ListN.{length, length-append}
+use lib.ListN.{length, getD, length-append}
 use Rattle.demand.specs.Run.{stateAfter, runRecords}
 use Rattle.labels.specs.Events.{event}
+use Rattle.path.specs.Passes.{passesOf}
 use Rattle.path.specs.Paths.{steps, vertexAt}
-use Rattle.report.specs.Bytes.{entryBytes, carriedOf, entriesOf, recordsBytes}
+use Rattle.report.specs.Bytes.{entryBytes, carriedOf, entriesOf, recordsBytes, countsOf}
 use Rattle.report.specs.Records.{recordsAt}
 use Rattle.report.specs.References.{referencesAt}
-use Rattle.report.proofs.Bytes.{entries-length, byStep-bytes, ten}
+use Rattle.report.proofs.Bytes.{entries-length, counts-length, byStep-bytes, ten}
 use Rattle.routine.specs.Actions.{isReference}
-use Rattle.routine.specs.Layout.{arrays}
+use Rattle.routine.specs.Layout.{arrays, edges}
 use Rattle.state.specs.Carrying.{bare}
 use Rattle.state.specs.States.{stampOf}
 use Rattle.state.specs.declared.Carried.{Carried}
-use Rattle.walk.specs.Report.{entries, reportBytes, referencesOn, reportLength}
+use Rattle.walk.specs.Report.{entries, counts, reportBytes, referencesOn, reportLength}
 use Rattle.walk.specs.Walks.{Reported}
-use Rattle.words.specs.Tables.{rows}
+use Rattle.words.specs.Tables.{rows, table}
+use Rattle.words.specs.Words.{bytes16}
 use Rattle.words.proofs.Sums.{total-none, total-more, total-few, count-few, rows-total}
-use Rattle.words.proofs.Tables.{rows-same}
+use Rattle.words.proofs.Tables.{rows-same, table-length, table-at}
 
 -- ---- entries
 
@@ -80,13 +82,32 @@ module _ (file path : List ℕ) where
       (λ i. omega (arith, few, count-few (λ a. isReference (event file a (vertexAt path i))) (arrays file)))
       n
 
+  pub records-length : length (recordsBytes (runRecords file path)) ≡ 10 * referencesOn file path (steps path)
+  records-length = omega (arith, ap length (records-bytes file path), on-path (steps path))
+
+  pub edge-counts-length : length (counts file path) ≡ 2 * edges file
+  unfolding counts
+  edge-counts-length = counts-length (passesOf file path) (edges file)
+
   pub report-length : length (reportBytes file path) ≡ reportLength file path
   unfolding reportBytes entries reportLength
   report-length =
-      rw length-append
-      (omega (arith, entries-length (λ a. stateAfter file path a (steps path)) (arrays file), ap length (records-bytes file path), on-path (steps path)))
+      simp length-append
+      (omega (arith, entries-length (λ a. stateAfter file path a (steps path)) (arrays file), records-length, edge-counts-length))
 
-  -- eight bytes an array, and then the records
-  pub report-parts : length (reportBytes file path) ≡ 8 * arrays file + length (recordsBytes (runRecords file path))
-  unfolding reportBytes entries
-  report-parts = rw length-append (omega (arith, entries-length (λ a. stateAfter file path a (steps path)) (arrays file)))
+  -- eight bytes an array, and then the records and the counts
+  pub report-parts : reportLength file path ≡ 8 * arrays file + (length (recordsBytes (runRecords file path)) + 2 * edges file)
+  unfolding reportLength
+  report-parts = omega (arith, records-length)
+
+-- ---- counts
+
+pub taken-length : (file path : List ℕ) {taken : List ℕ} → taken ≡ table (passesOf file path) (edges file) → length taken ≡ edges file
+taken-length file path e = ap length e ∙ table-length (passesOf file path) (edges file)
+
+pub counts-of : (file path : List ℕ) {taken : List ℕ} → taken ≡ table (passesOf file path) (edges file) → countsOf taken ≡ counts file path
+unfolding counts
+counts-of file path {taken} e =
+    ap (rows (λ n. bytes16 (getD taken n 0))) (taken-length file path e)
+    ∙ rows-same (λ n. bytes16 (getD taken n 0)) (λ n. bytes16 (passesOf file path n)) (edges file)
+    (λ n h. ap bytes16 (ap (λ (t : List ℕ). getD t n 0) e ∙ table-at (passesOf file path) (edges file) n h))

@@ -10,22 +10,24 @@ use sets::Set;
 use sets::WIDTH;
 use state::Carried;
 ghost use mathlib.Core.Path.{_≡_};
-ghost use Prim.Native.Nat.{ℕ, _*_, _≤_, _<_};
+ghost use mathlib.Core.List.{_++_};
+ghost use Prim.Native.Nat.{ℕ, _+_, _*_, _≤_, _<_};
 ghost use lib.ListN.{length, getD, replicate};
 ghost use Rattle.labels.specs.Events.{event};
 ghost use Rattle.labels.specs.Routines.{ReadAs};
 ghost use Rattle.passes.specs.Tables.{LettersAndKept};
 ghost use Rattle.routine.specs.Arrays.{arrayOf};
-ghost use Rattle.routine.specs.Layout.{arrays, vertices};
+ghost use Rattle.routine.specs.Layout.{arrays, vertices, edges};
 ghost use Rattle.routine.specs.Reader.{WellFormed};
 ghost use Rattle.refusal.specs.declared.Verdict.the-variants.{Passed};
 ghost use Rattle.sets.specs.Sets.{width};
 ghost use Rattle.state.specs.Carrying.{carrying, Visits};
 ghost use Rattle.state.specs.Start.{started};
+ghost use Rattle.path.specs.Passes.{passesOf};
 ghost use Rattle.path.specs.Paths.{steps, pathCheck};
 ghost use Rattle.report.specs.Bytes.{carriedOf, recordsBytes};
 ghost use Rattle.report.specs.References.{referencesAt};
-ghost use Rattle.walk.specs.Report.{reportBytes, referencesOn, reportLength};
+ghost use Rattle.walk.specs.Report.{counts, reportBytes, referencesOn, reportLength};
 ghost use Rattle.demand.specs.Run.{stateAfter, runRecords};
 ghost use Rattle.walk.specs.Walks.{Held, Reported, rowBytes, Referred, OneSort, Unlabelled, Labels, RelabelledAt};
 ghost use Rattle.words.specs.Tables.{table, replaced, wrote};
@@ -56,7 +58,8 @@ pub fn length(file: &[u8], h: Header, path: &[u8], counts: &mut [u8]) -> usize
     ensures { λ r. ⌜ r ≡ reportLength (now (file .entry)) (now (path .entry)) ⌝ }
 {
     report::fill(file, h, counts);
-    report::ENTRY * h.arrays + Record::SIZE * references_on(file, path, counts)
+    let records = Record::SIZE * references_on(file, path, counts);
+    report::ENTRY * h.arrays + records + report::COUNT * h.edges
 }
 
 // The states before the first step, with the current versions and their stamps. In the table beside them every stamp is 0.
@@ -271,15 +274,51 @@ fn follow(
     settle_all(states, m, stamps)
 }
 
-// Writes the report.
-pub fn write(file: &[u8], h: Header, path: &[u8], letters: &[u8], kept: &[Set], out: &mut [u8])
+// Writes the records, `records` bytes, and then the counts of the edges at the front of what is lent; returns the last states.
+fn write_behind(
+    file: &[u8],
+    h: Header,
+    path: &[u8],
+    letters: &[u8],
+    kept: &[Set],
+    taken: &[u16],
+    records: usize,
+    out: &mut [u8],
+) -> [Carried; ArrayRecord::MAX]
     requires { ⌜ ReadAs (now file) h ⌝ }
     requires { ⌜ pathCheck (now file) (now path) ≡ Passed ⌝ }
     requires { ⌜ LettersAndKept (now file) (now letters) (now kept) ⌝ }
-    requires { ⌜ length (reportBytes (now file) (now path)) ≤ length (now out) ⌝ }
+    requires { ⌜ now taken ≡ table (passesOf (now file) (now path)) (edges (now file)) ⌝ }
+    requires { ⌜ records ≡ length (recordsBytes (runRecords (now file) (now path))) ⌝ }
+    requires { ⌜ records + 2 * edges (now file) ≤ length (now out) ⌝ }
+    ensures { λ r. ⌜ ((a : ℕ) → a < arrays (now (file .entry)) → Reported (stateAfter (now (file .entry)) (now (path .entry)) a (steps (now (path .entry)))) (carriedOf r a)) ⌝ }
+    ensures { λ _. ⌜ now (out .exit) ≡ wrote (now (out .entry)) (recordsBytes (runRecords (now (file .entry)) (now (path .entry))) ++ counts (now (file .entry)) (now (path .entry))) ⌝ }
+{
+    report::write_counts(taken, &mut out[records..]);
+    follow(file, h, path, letters, kept, out)
+}
+
+// Writes the report, `size` bytes. `taken` holds how often each edge is passed.
+pub fn write(
+    file: &[u8],
+    h: Header,
+    path: &[u8],
+    letters: &[u8],
+    kept: &[Set],
+    taken: &[u16],
+    size: usize,
+    out: &mut [u8],
+)
+    requires { ⌜ ReadAs (now file) h ⌝ }
+    requires { ⌜ pathCheck (now file) (now path) ≡ Passed ⌝ }
+    requires { ⌜ LettersAndKept (now file) (now letters) (now kept) ⌝ }
+    requires { ⌜ now taken ≡ table (passesOf (now file) (now path)) (edges (now file)) ⌝ }
+    requires { ⌜ size ≡ reportLength (now file) (now path) ⌝ }
+    requires { ⌜ size ≤ length (now out) ⌝ }
     ensures { λ _. ⌜ now (out .exit) ≡ wrote (now (out .entry)) (reportBytes (now (file .entry)) (now (path .entry))) ⌝ }
 {
     let at = report::ENTRY * h.arrays;
-    let states = follow(file, h, path, letters, kept, &mut out[at..]);
+    let records = size - at - report::COUNT * h.edges;
+    let states = write_behind(file, h, path, letters, kept, taken, records, &mut out[at..]);
     report::write_entries(states, h.arrays, out);
 }

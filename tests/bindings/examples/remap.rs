@@ -1,7 +1,7 @@
 //! Plans routine P, runs case 2 (docs/CASES.md), and prints what the plan's flags and the report
 //! show. Then plans routine K, which has a call.
 
-use hpf_remap::{LARGEST_PLAN, Outcome};
+use hpf_remap::{LARGEST_PLAN, Outcome, report_parts};
 use std::process::ExitCode;
 
 #[rustfmt::skip]
@@ -91,10 +91,9 @@ fn print_plan(plan: &[u8]) {
     }
 }
 
-fn print_report(report: &[u8]) {
-    let arrays = word(&ROUTINE, 8);
-    let (heads, records) = report.split_at(8 * arrays);
-    for (array, head) in heads.chunks_exact(8).enumerate() {
+fn print_report(report: &[u8]) -> Result<(), String> {
+    let parts = report_parts(&ROUTINE, report).ok_or("the report has other parts")?;
+    for (array, head) in parts.arrays.chunks_exact(8).enumerate() {
         let copies = match word(head, 0) {
             1 => String::from("1 copy"),
             more => format!("{more} copies"),
@@ -102,17 +101,24 @@ fn print_report(report: &[u8]) {
         let (live, current) = (set(head, 2), head[6]);
         println!("array {array}: {copies}, live {live:08x}, current {current}");
     }
-    for record in records.chunks_exact(10) {
+    for record in parts.records.chunks_exact(10) {
         let (step, version, kind) = (word(record, 0), record[3], record[4]);
         let (seen, new) = (word(record, 6), word(record, 8));
         println!("step {step}: version {version}, kind {kind}, sees {seen}, gives {new}");
     }
+    // Without calls the edges are those of the file.
+    let edges = ROUTINE[word(&ROUTINE, 14)..].chunks_exact(4);
+    for (edge, count) in edges.zip(parts.counts.chunks_exact(2)) {
+        let (from, to, passed) = (word(edge, 0), word(edge, 2), word(count, 0));
+        println!("edge {from}-{to}: passed {passed}");
+    }
+    Ok(())
 }
 
 /// The call of K is three vertices of its plan: 1, 2 and 3.
 fn show() -> Result<(), String> {
     print_plan(&planned(&ROUTINE)?);
-    print_report(&ran()?);
+    print_report(&ran()?)?;
     print_plan(&planned(&WITH_CALL)?);
     Ok(())
 }

@@ -19,13 +19,17 @@
 //! routine.extend([0x00, 0x20, 0x41, 0x80, 0x10, 0x00]); // 1 define, 2 remap to 1, 3 kill, 4 read
 //! routine.extend([0, 0, 1, 0, 1, 0, 2, 0, 2, 0, 3, 0, 3, 0, 4, 0, 4, 0, 5, 0]); // edges 0-1 to 4-5
 //! let path = [0, 0, 1, 0, 2, 0, 3, 0, 4, 0];
-//! let mut report = [0; 38];
+//! let mut report = [0; 48];
 //! let answer = hpf_remap::run(&routine, &path, &mut report);
-//! assert_eq!((answer.number, answer.first), (0, 38));
+//! assert_eq!((answer.number, answer.first), (0, 48));
 //! assert_eq!(report[..8], [0, 0, 2, 0, 0, 0, 1, 0]); // no copy, version 1 is live and current
 //! assert_eq!(report[18..28], [4, 0, 0, 1, 4, 0, 0, 0, 0, 0]); // step 4 kills version 1
 //! assert_eq!(report[28..38], [5, 0, 0, 1, 1, 0, 0, 0, 0, 0]); // step 5 reads it and sees 0
+//! assert_eq!(report[38..48], [1, 0, 1, 0, 1, 0, 1, 0, 0, 0]); // each edge is passed once, 4-5 never
 //! ```
+//!
+//! A report ends with a count for each edge of the expanded routine: [`report_parts`] tells its parts
+//! by the routine's file, which says how many edges that has.
 //!
 //! [`convert`] makes a routine of a directive file, which says `distribute`, `align`,
 //! `redistribute` and `realign` in place of version numbers; docs/DIRECTIVES.md tells its format.
@@ -75,7 +79,7 @@ pub const LARGEST_DIRECTIVES: usize = 9334;
 pub const LARGEST_PLAN: usize = 25_608;
 
 /// So many bytes suffice for any report.
-pub const LARGEST_REPORT: usize = 327_664;
+pub const LARGEST_REPORT: usize = 330_048;
 
 /// So many bytes suffice for the rounds of any routine.
 pub const LARGEST_ROUNDS: usize = 12;
@@ -193,6 +197,54 @@ pub fn run(routine: &[u8], path: &[u8], out: &mut [u8]) -> Outcome {
             out.len(),
         )
     }
+}
+
+/// The parts of a report.
+#[derive(Clone, Copy, Debug, PartialEq, Eq)]
+pub struct ReportParts<'a> {
+    /// 8 bytes for each array.
+    pub arrays: &'a [u8],
+    /// 10 bytes for each reference on the path.
+    pub records: &'a [u8],
+    /// 2 bytes for each edge of the expanded routine: how often the path passes it.
+    pub counts: &'a [u8],
+}
+
+/// The parts of a report that [`run`] wrote for a routine, told apart by the number of edges: of the
+/// routine's, and two more for each vertex with calls. None if it is no report of that routine.
+///
+/// ```
+/// let mut routine = b"HPFR\x01\0\x12\0\x01\0\x16\0\x03\0\x19\0\x02\0".to_vec();
+/// routine.extend([3, 2, 0, 0]); // an inout argument of two versions
+/// routine.extend([0x00, 0xc1, 0x00]); // 1 passes it in version 1 as inout: vertices 1, 2 and 3
+/// routine.extend([0, 0, 1, 0, 1, 0, 2, 0]); // edges 0-1, 1-2: expanded 0-1, 1-2, 2-3, 3-4
+/// let path = [0, 0, 1, 0, 2, 0];
+/// let mut report = [0; 26];
+/// assert_eq!(hpf_remap::run(&routine, &path, &mut report).first, 26);
+/// let parts = hpf_remap::report_parts(&routine, &report).unwrap();
+/// assert_eq!(parts.arrays, [1, 0, 2, 0, 0, 0, 1, 0]); // one copy, version 1 live and current
+/// assert_eq!(parts.records, [3, 0, 0, 1, 3, 0, 255, 255, 3, 0]); // step 3 modifies it
+/// assert_eq!(parts.counts, [1, 0, 1, 0, 0, 0, 0, 0]); // the path ends inside the call
+/// ```
+pub fn report_parts<'a>(routine: &[u8], report: &'a [u8]) -> Option<ReportParts<'a>> {
+    let word = |at: usize| {
+        let bytes = routine.get(at..at + 2)?;
+        Some(usize::from(u16::from_le_bytes([bytes[0], bytes[1]])))
+    };
+    let (arrays, vertices, edges) = (word(8)?, word(12)?, word(16)?);
+    let rows = routine.get(18 + 4 * arrays..18 + 4 * arrays + arrays * vertices)?;
+    // In a row of calls each byte is 0 or a call, which has two of the bits 5, 6 and 7.
+    let is_call = |byte: &u8| (byte >> 5).count_ones() == 2;
+    let calls = rows.chunks_exact(arrays.max(1));
+    let calls = calls.filter(|row| row.iter().any(is_call)).count();
+    let (entries, rest) = report.split_at_checked(8 * arrays)?;
+    let records = rest.len().checked_sub(2 * (edges + 2 * calls))?;
+    let (records, counts) = rest.split_at(records);
+    records.len().is_multiple_of(10).then_some(ReportParts {
+        arrays: entries,
+        records,
+        counts,
+    })
 }
 
 /// Converts a directive file: writes the routine over the front of `out`, and leaves the rest of

@@ -5,7 +5,11 @@
 mod stack;
 
 use compare::{VERIFIED, verified_by_pointers};
-use harness::drive::{Mismatch, Options, compare, compare_part};
+use harness::drive::{Mismatch, Options, compare, compare_part, named};
+use oracle::builder::path_bytes;
+use oracle::generate::limits;
+use oracle::routine::Routine;
+use oracle::run::{LONGEST_REPORT, Parts};
 use std::env;
 use std::process::ExitCode;
 use std::time::Instant;
@@ -33,6 +37,34 @@ fn options() -> Option<Options> {
     Some(options)
 }
 
+/// The bindings tell the parts of reports as the oracle does: of the routines with a name, and of that
+/// with the most edges.
+fn hold_parts() -> Result<(), String> {
+    let longest = (limits::longest_report(), vec![limits::longest_stay()]);
+    let mut told = 0;
+    for (draft, paths) in named().into_iter().chain([longest]) {
+        let file = draft.bytes();
+        for path in paths {
+            let mut report = vec![0; LONGEST_REPORT];
+            let answer = hpf_remap::run(&file, &path_bytes(&path), &mut report);
+            let Some(routine) = Routine::parse(&file).ok().filter(|_| answer.number == 0) else {
+                continue;
+            };
+            report.truncate(answer.first as usize);
+            let found = hpf_remap::report_parts(&file, &report)
+                .map(|parts| (parts.arrays, parts.records, parts.counts));
+            let due = Parts::of(&report, &routine)
+                .map(|parts| (parts.entries, parts.records, parts.counts));
+            if found.is_none() || found != due {
+                return Err(format!("parts of a report: {found:?}, due {due:?}\n"));
+            }
+            told += 1;
+        }
+    }
+    println!("{told} reports have the same parts");
+    Ok(())
+}
+
 /// Holds the library against the oracle and against its header; what differs, in words.
 fn hold(options: Options) -> Result<(), String> {
     let in_words = |mismatch: Box<Mismatch>| mismatch.to_string();
@@ -55,6 +87,7 @@ fn hold(options: Options) -> Result<(), String> {
     let tally = compare_part(&verified_by_pointers(), part).map_err(in_words)?;
     let inputs = tally.inputs();
     println!("{inputs} inputs agree and stay as they were, null pointers for what is empty");
+    hold_parts()?;
     let most = stack::most(options.seed);
     println!("{most}");
     if most.bytes() > stack::LIMIT {

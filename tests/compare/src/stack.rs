@@ -14,7 +14,7 @@ use std::fmt;
 use std::ptr::null_mut;
 
 /// What include/hpf_remap.h says.
-pub const LIMIT: usize = 65 * 1024;
+pub const LIMIT: usize = 64 * 1024;
 
 const SIZE: usize = 256 * 1024;
 const PAINT: u8 = 0xa5;
@@ -118,6 +118,7 @@ pub fn most(seed: u64) -> Most {
     }
     most.take(&limits::largest_report(), &limits::longest_path());
     most.take(&limits::ring_of_labels(), &limits::round_the_ring());
+    most.take(&limits::longest_report(), &limits::longest_stay());
     let mut rng = Rng::new(seed);
     for draft in limits::at_limits(&mut rng) {
         let path = paths::walk(&mut rng, &draft, MAX_PATH);

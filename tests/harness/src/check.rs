@@ -9,7 +9,7 @@ use oracle::outcome::Outcome;
 use oracle::plan::LONGEST_PLAN;
 use oracle::rounds::LONGEST_ROUNDS;
 use oracle::routine::{LONGEST_FILE, Routine};
-use oracle::{builder, demand3, rounds};
+use oracle::{builder, demand3, passes, rounds};
 use std::sync::LazyLock;
 
 /// Bytes before and after a lent buffer that no call may touch.
@@ -25,6 +25,8 @@ pub enum Difference {
     Outside,
     /// Demand 3 of the library's own report, whatever the oracle's says.
     Demand3(String),
+    /// The counts of edges in that report, against the path.
+    Passes(String),
     /// The mappings of the versions in that report, against the directives.
     Mappings(String),
     /// Numbers of rounds that no pass takes, whatever the order of the edges.
@@ -72,7 +74,7 @@ pub struct Checked {
     /// The number that each call answered.
     pub numbers: Vec<u64>,
     pub form: Form,
-    /// Whether demand 3 was judged.
+    /// Whether demand 3 and the counts of edges were judged.
     pub judged: bool,
     /// At so many references mappings were judged.
     pub references: usize,
@@ -175,8 +177,8 @@ fn lengths(oracle: &Library, input: &Input) -> Vec<usize> {
     }
 }
 
-/// Demand 3 of the library's report, and for a directive file the mappings in it: at how many
-/// references. It says nothing where file, path or buffer is refused.
+/// Demand 3 of the library's report and its counts of edges, and for a directive file the mappings in
+/// it: at how many references. It says nothing where file, path or buffer is refused.
 fn judge(input: &Input, expected: &Called, found: &Called) -> Option<Result<usize, Difference>> {
     let path = input.path()?;
     let due = expected.outcome.number == 0 && found.outcome.number == 0;
@@ -185,7 +187,7 @@ fn judge(input: &Input, expected: &Called, found: &Called) -> Option<Result<usiz
     }
     let report = found.written();
     let Input::ConvertAndRun { directives, .. } = input else {
-        let demanded = demand3(input.file(), path, report);
+        let demanded = demanded(input.file(), path, report);
         return Some(demanded.map(|()| 0));
     };
     let program = file::parse(directives).ok()?;
@@ -193,17 +195,19 @@ fn judge(input: &Input, expected: &Called, found: &Called) -> Option<Result<usiz
     let routine = conversion.routine(&program).bytes();
     let mapped = demand4::of_report(&program, &conversion.versions, path, report);
     let demanded = mapped.map_err(Difference::Mappings).and_then(|references| {
-        demand3(&routine, path, report)?;
+        self::demanded(&routine, path, report)?;
         Ok(references)
     });
     Some(demanded)
 }
 
-fn demand3(routine: &[u8], path: &[u8], report: &[u8]) -> Result<(), Difference> {
+/// Demand 3 and the counts of edges.
+fn demanded(routine: &[u8], path: &[u8], report: &[u8]) -> Result<(), Difference> {
     let mut room = Room::EMPTY;
     let file = Routine::parse(routine).expect("an accepted routine is well formed");
     let routine = fixpoint::expanded(&file, &mut room);
-    demand3::of_report(&routine, path, report).map_err(Difference::Demand3)
+    demand3::of_report(&routine, path, report).map_err(Difference::Demand3)?;
+    passes::of_report(&routine, path, report).map_err(Difference::Passes)
 }
 
 /// The numbers of rounds that the documents tell, of routines without calls.

@@ -11,17 +11,17 @@ use oracle::outcome::Outcome;
 use oracle::plan::LABEL;
 use oracle::record::RECORD;
 use oracle::routine::{HEAD, Kind, MAX_ARRAYS, MAX_VERSIONS, Routine, Set};
-use oracle::run::{ENTRY, vertices};
+use oracle::run::{ENTRY, Parts, vertices};
 use std::fmt;
 
 /// The shares that are counted, and the least that each must be in percent.
-const SHARES: [(&str, u64); 67] = [
+const SHARES: [(&str, u64); 72] = [
     ("plans drawn: accepted", 40),
     ("plans drawn: with calls", 50),
     ("plans drawn: two arrays of each kind", 10),
     ("plans drawn: refused by 22", 1),
     ("plans refused by 20: at a call", 20),
-    ("plans refused by 20: at a kill", 10),
+    ("plans refused by 20: at a kill", 5),
     ("plans refused by 19: beside a kill", 10),
     ("plans refused by 18: a kill", 5),
     ("plans refused by 21: at a call", 20),
@@ -59,6 +59,11 @@ const SHARES: [(&str, u64); 67] = [
     ("accepted runs: a record in a version above 15", 10),
     ("  one live", 10),
     ("  one current, with a copy", 5),
+    ("accepted runs: an edge passed more than once", 30),
+    ("  one passed more than 63 times", 1),
+    ("  one not passed", 40),
+    ("  a call's inner edges passed, not all", 20),
+    ("  passes, and no record", 4),
     ("accepted runs: to the exit, in argument", 30),
     ("  its last label not home", 20),
     ("  with a copy of it", 15),
@@ -269,7 +274,11 @@ impl Drawn {
     }
 
     fn count_run(&mut self, routine: &Routine, path: &[usize], report: &[u8]) {
-        let (heads, records) = report.split_at(ENTRY * routine.array_count());
+        let Parts {
+            entries: heads,
+            records,
+            counts,
+        } = Parts::of(report, routine).expect("an accepted run has a report");
         let each = heads
             .chunks_exact(ENTRY)
             .map(|head| usize::from(u16::from_le_bytes([head[0], head[1]])));
@@ -285,6 +294,7 @@ impl Drawn {
         self.one("accepted runs: with a record", !records.is_empty());
         self.one("accepted runs: without record", records.is_empty());
         self.count_kill_records(records);
+        self.count_passes(records, counts);
         let mut records = records.chunks_exact(RECORD);
         let above = |version: u8| (16..MAX_VERSIONS as u8).contains(&version);
         let used = records.any(|record| above(record[3]));
@@ -328,12 +338,32 @@ impl Drawn {
         self.one("  and after a copy of that", copied);
     }
 
+    /// How often the edges are passed.
+    fn count_passes(&mut self, records: &[u8], counts: &[u8]) {
+        let counts: Vec<u16> = (counts.as_chunks::<2>().0.iter())
+            .map(|&count| u16::from_le_bytes(count))
+            .collect();
+        let some = |test: &dyn Fn(u16) -> bool| counts.iter().any(|&count| test(count));
+        let twice = some(&|count| count > 1);
+        self.one("accepted runs: an edge passed more than once", twice);
+        let often = some(&|count| count > 63);
+        self.one("  one passed more than 63 times", often);
+        self.one("  one not passed", some(&|count| count == 0));
+        let alone = records.is_empty() && some(&|count| count > 0);
+        self.one("  passes, and no record", alone);
+    }
+
     /// The calls that a path takes, and whether it ends inside one.
     fn count_call_steps(&mut self, places: &[Place], path: &[usize]) {
         let part = |vertex: &usize| places[*vertex].part;
         let ends = |wanted| path.last().map(part) == Some(wanted);
         let through = path.iter().any(|vertex| part(vertex) == Part::After);
         self.one("accepted runs: through a call", through);
+        let is_missed =
+            |vertex: usize| places[vertex].part == Part::After && !path.contains(&vertex);
+        let some_missed = (0..places.len()).any(is_missed);
+        let name = "  a call's inner edges passed, not all";
+        self.one(name, through && some_missed);
         let first = "accepted runs: end at a call's first vertex";
         self.one(first, ends(Part::Before));
         let second = "accepted runs: end at a call's second vertex";

@@ -415,9 +415,13 @@ impl Driver<'_> {
             let inputs = paths.map(|path| Input::run(draft.bytes(), path));
             self.try_all(kind, inputs.into_iter())?;
         }
-        let path = path_bytes(&limits::round_the_ring());
-        let ring = Input::run(limits::ring_of_labels().bytes(), path);
-        self.try_all(kind, std::iter::once(ring))?;
+        for (draft, path) in [
+            (limits::ring_of_labels(), limits::round_the_ring()),
+            (limits::longest_report(), limits::longest_stay()),
+        ] {
+            let input = Input::run(draft.bytes(), path_bytes(&path));
+            self.try_all(kind, std::iter::once(input))?;
+        }
         let mut rng = Rng::new(self.options.seed);
         let drafts = limits::at_limits(&mut rng);
         let inputs = drafts.iter().map(|draft| {

@@ -141,6 +141,7 @@ impl fmt::Display for Mismatch {
             Difference::Refused(place) => format!("byte {place} is touched by a refusal"),
             Difference::Outside => String::from("a byte outside the buffer is touched"),
             Difference::Demand3(reason) => format!("demand 3: {reason}"),
+            Difference::Passes(reason) => format!("passes: {reason}"),
             Difference::Mappings(reason) => format!("mappings: {reason}"),
             Difference::Rounds(reason) => format!("rounds: {reason}"),
         };

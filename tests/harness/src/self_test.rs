@@ -4,6 +4,7 @@ mod calls;
 mod conversions;
 mod interfaces;
 mod kills;
+mod passes;
 mod plans;
 mod rounds;
 mod runs;
@@ -21,7 +22,9 @@ use oracle::generate::directives::{self, EXAMPLE};
 use oracle::labels::fixpoint;
 use oracle::outcome::Outcome;
 use oracle::routine::Routine;
+use oracle::run::{COUNT, ENTRY};
 use std::collections::BTreeMap;
+use std::ops::Range;
 
 const FEW: Options = Options {
     routines: 2000,
@@ -102,6 +105,13 @@ fn with_expanded<T>(file: &[u8], show: impl FnOnce(&Routine) -> T) -> T {
     show(&fixpoint::expanded(&routine, &mut room))
 }
 
+/// Where the records of a report on a file's routine stand.
+fn records_in(file: &[u8], length: u64) -> Range<usize> {
+    let routine = Routine::parse(file).unwrap();
+    let end = length as usize - COUNT * routine.expanded_edge_count();
+    ENTRY * routine.array_count()..end
+}
+
 fn outcome(number: u64, first: u64, second: u64) -> Outcome {
     Outcome {
         number,
@@ -161,7 +171,7 @@ fn the_oracle_agrees_with_itself() {
         ("plan, graph as drawn", 200),
         ("plan, graph made acceptable", 200),
         ("plan, in arguments", 200),
-        ("plan, limits", 57 + 11),
+        ("plan, limits", 58 + 11),
         ("plan, named", 16),
         ("plan, program as drawn", 400),
         ("plan, program made acceptable", 200),
@@ -176,7 +186,7 @@ fn the_oracle_agrees_with_itself() {
         ("run, every path length", paths + 11 * 8),
         ("run, far too long", 6),
         ("run, in arguments to the exit", 200),
-        ("run, limits", 10 + 57),
+        ("run, limits", 11 + 58),
         ("run, named", 38),
         ("run, path along edges", 300),
         ("run, path into a call", 100),
@@ -235,6 +245,9 @@ fn a_poor_generator() {
             "accepted runs: a record in a version above 15",
             "  one live",
             "  one current, with a copy",
+            "accepted runs: an edge passed more than once",
+            "  one passed more than 63 times",
+            "  a call's inner edges passed, not all",
             "accepted runs: to the exit, in argument",
             "  its last label not home",
             "  with a copy of it",

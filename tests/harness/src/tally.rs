@@ -34,7 +34,7 @@ pub struct Tally {
     /// Directive files that were expected by whole states, and by sets.
     states: u64,
     sets: u64,
-    /// Reports of the library on which demand 3 was judged.
+    /// Reports of the library on which demand 3 and the counts of edges were judged.
     judged: u64,
     /// References in them at which mappings were judged.
     references: u64,
@@ -88,7 +88,7 @@ impl Tally {
     }
 
     /// What was to be seen and was not: answers that no call gave (`plan 16`, `run 32`), a form of
-    /// the rules, demand 3 of each report, references in mappings, and shares of the drawn inputs.
+    /// the rules, demand 3 and the counts of each report, references in mappings, and shares of the drawn inputs.
     pub fn missing(&self) -> Vec<String> {
         let never = |call: &str, answers: &[u64], given: &Answers| {
             let missing = answers.iter().filter(|number| !given.contains_key(number));
@@ -112,7 +112,7 @@ impl Tally {
             ("labels by data flow", self.fixpoint > 0),
             ("conversions by whole states", self.states > 0),
             ("conversions by sets", self.sets > 0),
-            ("demand 3 of each report", self.judged == reports),
+            ("demand 3 and counts of each report", self.judged == reports),
             ("references in mappings", self.references > 0),
         ] {
             missing.extend((!seen).then(|| String::from(name)));
@@ -169,7 +169,10 @@ impl fmt::Display for Tally {
             f,
             "conversions expected by whole states on {states} inputs, by sets on {sets}"
         )?;
-        writeln!(f, "demand 3 judged on {judged} reports of the library")?;
+        writeln!(
+            f,
+            "demand 3 and counts of edges judged on {judged} reports of the library"
+        )?;
         writeln!(f, "mappings judged at {references} references in them")
     }
 }

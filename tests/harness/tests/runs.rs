@@ -1,20 +1,20 @@
-//! Demand 3 of the oracle's own runs, the last stamps included.
+//! Demand 3 of the oracle's own runs, the last stamps included, and their counts of edges.
 
 use harness::library::Input;
 use harness::shrink::demand;
 use oracle::builder::{self, Draft, path_bytes};
 use oracle::calls::Room;
-use oracle::demand3;
 use oracle::generate::rng::Rng;
 use oracle::generate::routines::{self, Size};
 use oracle::generate::{limits, paths};
 use oracle::labels::fixpoint::{self, Solved, Wide};
 use oracle::routine::Routine;
 use oracle::run::{ENTRY, LONGEST_REPORT, MAX_PATH, check_path, run};
+use oracle::{demand3, passes};
 
 const SEED: u64 = 2;
 
-/// Demand 3 of the run and of the report's bytes, where routine and path are well formed. A refused
+/// Demand 3 of the run and of the report's bytes, and the counts in these, where routine and path are well formed. A refused
 /// routine without calls is run too.
 fn holds(file: &[u8], path: &[u8]) -> Result<(), String> {
     let Ok(parsed) = Routine::parse(file) else {
@@ -38,7 +38,9 @@ fn holds(file: &[u8], path: &[u8]) -> Result<(), String> {
     if answer.number != 0 {
         return Err(format!("{answer:?}"));
     }
-    demand3::of_report(&routine, path, &report[..answer.first as usize])
+    let report = &report[..answer.first as usize];
+    demand3::of_report(&routine, path, report)?;
+    passes::of_report(&routine, path, report)
 }
 
 /// `name` says where routine and path come from.
@@ -108,6 +110,8 @@ fn the_longest_paths() {
     let (report, ring) = (limits::largest_report(), limits::ring_of_labels());
     demand_3("the largest report", &report, &limits::longest_path());
     demand_3("the ring", &ring, &limits::round_the_ring());
+    let (report, path) = (limits::longest_report(), limits::longest_stay());
+    demand_3("the longest report", &report, &path);
     let mut rng = Rng::new(SEED);
     let calls = limits::most_calls(&mut rng);
     let path = paths::walk(&mut rng, &calls, MAX_PATH);
@@ -121,9 +125,9 @@ fn the_most_copies() {
         limits::ring_of_labels().bytes(),
         path_bytes(&limits::round_the_ring()),
     );
-    let mut report = [0; 8 * ENTRY];
+    let mut report = [0; LONGEST_REPORT];
     assert_eq!(run(&file, &path, &mut report).number, 0);
-    for head in report.chunks_exact(ENTRY) {
+    for head in report[..8 * ENTRY].chunks_exact(ENTRY) {
         assert_eq!(u16::from_le_bytes([head[0], head[1]]), 4095);
     }
 }
@@ -135,7 +139,7 @@ fn invented_records_are_found() {
     let file = draft.bytes();
     let path = path_bytes(&[0, 1, 2, 3, 4]);
     let routine = Routine::parse(&file).unwrap();
-    let mut report = [0; 28];
+    let mut report = [0; 38];
     assert_eq!(run(&file, &path, &mut report).number, 0);
     assert_eq!(demand3::of_report(&routine, &path, &report), Ok(()));
     // Copies above the machine's count, a wrong version, kind, zero, stamps.
@@ -144,7 +148,28 @@ fn invented_records_are_found() {
         wrong[place] = byte;
         assert!(demand3::of_report(&routine, &path, &wrong).is_err());
     }
-    assert!(demand3::of_report(&routine, &path, &report[..18]).is_err());
+    assert!(demand3::of_report(&routine, &path, &report[..28]).is_err());
+}
+
+/// Counts that are not those of the path are found: of another edge, more or fewer, or missing.
+#[test]
+fn invented_counts_are_found() {
+    let file = builder::s().bytes();
+    let path = path_bytes(&[0, 1, 2, 3, 4]);
+    let routine = Routine::parse(&file).unwrap();
+    let mut report = [0; 38];
+    assert_eq!(run(&file, &path, &mut report).number, 0);
+    assert_eq!(report[28..], [1, 0, 1, 0, 1, 0, 1, 0, 0, 0]);
+    assert_eq!(passes::of_report(&routine, &path, &report), Ok(()));
+    for (place, byte) in [(28, 2), (28, 0), (29, 1), (34, 0), (36, 1), (37, 1)] {
+        let mut wrong = report;
+        wrong[place] = byte;
+        assert!(passes::of_report(&routine, &path, &wrong).is_err());
+    }
+    let mut moved = report;
+    moved[28..].rotate_right(2);
+    assert!(passes::of_report(&routine, &path, &moved).is_err());
+    assert!(passes::of_report(&routine, &path, &report[..28]).is_err());
 }
 
 /// A full path's report in which the caller's copy of an in argument is not live, not alone or not
@@ -154,7 +179,7 @@ fn a_lost_callers_copy_is_found() {
     let file = builder::read_only().bytes();
     let path = path_bytes(&[0, 1, 2, 3]);
     let routine = Routine::parse(&file).unwrap();
-    let mut report = [0; 18];
+    let mut report = [0; 24];
     assert_eq!(run(&file, &path, &mut report).number, 0);
     assert_eq!(report[..8], [1, 0, 1, 0, 0, 0, 0, 0]);
     assert_eq!(demand3::of_report(&routine, &path, &report), Ok(()));

@@ -6,7 +6,7 @@ use crate::labels::{Labels, refusal_20};
 use crate::machine;
 use crate::record::{RECORD, Record};
 use crate::routine::{Array, Event, Kind, Reference, Routine, Set};
-use crate::run::{self, Copies, ENTRY};
+use crate::run::{self, Copies, ENTRY, Parts};
 
 /// What a report shows of an array.
 struct Head {
@@ -153,17 +153,20 @@ fn last_label_version(routine: &Routine, path: &[usize], record: &Record) -> Opt
 
 /// Reads a report's bytes.
 fn read(routine: &Routine, report: &[u8]) -> Result<Shown, String> {
-    let heads = ENTRY * routine.array_count();
-    if report.len() < heads || !(report.len() - heads).is_multiple_of(RECORD) {
+    let Some(parts) = Parts::of(report, routine) else {
         return Err(format!("{} bytes are no report", report.len()));
-    }
-    let (heads, records) = report.split_at(heads);
-    let heads = heads.as_chunks::<ENTRY>().0.iter().map(|head| Head {
-        copied: usize::from(u16::from_le_bytes([head[0], head[1]])),
-        live: Set::from_le_bytes([head[2], head[3], head[4], head[5]]),
-        current: (head[6] != 255).then_some(head[6]),
-    });
-    let records = records.as_chunks::<RECORD>().0.iter().map(|bytes| {
+    };
+    let heads = parts
+        .entries
+        .as_chunks::<ENTRY>()
+        .0
+        .iter()
+        .map(|head| Head {
+            copied: usize::from(u16::from_le_bytes([head[0], head[1]])),
+            live: Set::from_le_bytes([head[2], head[3], head[4], head[5]]),
+            current: (head[6] != 255).then_some(head[6]),
+        });
+    let records = parts.records.as_chunks::<RECORD>().0.iter().map(|bytes| {
         let record = Record {
             step: u16::from_le_bytes([bytes[0], bytes[1]]),
             array: bytes[2],

@@ -1,4 +1,4 @@
-//! An implementation of document 01, the users' specification, with requests 1 to 7 of document
+//! An implementation of document 01, the users' specification, with requests 1 to 8 of document
 //! 02, in Rust, written from their words and from the readings in docs/DECISIONS.md, to hold the
 //! verified library against.
 //!
@@ -16,6 +16,7 @@ pub mod labels;
 pub mod listing;
 pub mod machine;
 pub mod outcome;
+pub mod passes;
 pub mod plan;
 pub mod record;
 pub mod rounds;

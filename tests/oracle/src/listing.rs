@@ -3,7 +3,7 @@
 use crate::outcome::Outcome;
 use crate::plan::LABEL;
 use crate::record::RECORD;
-use crate::run::ENTRY;
+use crate::run::{COUNT, ENTRY, Parts};
 
 fn word(bytes: &[u8], at: usize) -> usize {
     usize::from(u16::from_le_bytes([bytes[at], bytes[at + 1]]))
@@ -38,14 +38,14 @@ pub fn plan(plan: &[u8]) -> String {
     text
 }
 
-/// The run program's lines for a report on so many arrays.
-pub fn report(report: &[u8], arrays: usize) -> String {
-    let (heads, records) = report.split_at(ENTRY * arrays);
+/// The run program's lines for a report on so many arrays and expanded edges.
+pub fn report(report: &[u8], arrays: usize, edges: usize) -> String {
+    let parts = Parts::split(report, arrays, edges).expect("the report has its parts");
     let mut text = String::new();
-    for head in heads.chunks_exact(ENTRY) {
+    for head in parts.entries.chunks_exact(ENTRY) {
         text += &format!("{} {} {}\n", word(head, 0), set(head, 2), head[6]);
     }
-    for record in records.chunks_exact(RECORD) {
+    for record in parts.records.chunks_exact(RECORD) {
         text += &format!(
             "{} {} {} {} {} {}\n",
             word(record, 0),
@@ -55,6 +55,9 @@ pub fn report(report: &[u8], arrays: usize) -> String {
             word(record, 6),
             word(record, 8)
         );
+    }
+    for count in parts.counts.chunks_exact(COUNT) {
+        text += &format!("{}\n", word(count, 0));
     }
     text
 }

@@ -392,10 +392,20 @@ impl<'a> Routine<'a> {
         self.edges.len()
     }
 
+    /// The edges once the calls are expanded.
+    pub fn expanded_edge_count(&self) -> usize {
+        self.edge_count() + 2 * self.calls
+    }
+
     /// From and to of one edge.
     pub fn edge(&self, index: usize) -> (usize, usize) {
         let bytes = &self.edges[index];
         (word(bytes, 0), word(bytes, 2))
+    }
+
+    /// The bytes of all edges.
+    pub fn edge_bytes(&self) -> &'a [[u8; 4]] {
+        self.edges
     }
 
     pub fn edges(&self) -> impl Iterator<Item = (usize, usize)> {

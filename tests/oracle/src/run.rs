@@ -6,16 +6,52 @@ use crate::labels::{Label, Labels, Use, literal};
 use crate::outcome::{Outcome, Refusal};
 use crate::record::{RECORD, Record};
 use crate::routine::{
-    Array, Kind, MAX_ARRAYS, MAX_VERSIONS, MAX_VERTICES, Reference, Routine, Set,
+    Array, Kind, MAX_ARRAYS, MAX_EXPANDED_EDGES, MAX_VERSIONS, MAX_VERTICES, Reference, Routine,
+    Set,
 };
 
 pub const MAX_PATH: usize = 4096;
 
 /// The length of the longest report: every vertex of a path but the entry references every array.
-pub const LONGEST_REPORT: usize = ENTRY * MAX_ARRAYS + RECORD * MAX_ARRAYS * (MAX_PATH - 1);
+pub const LONGEST_REPORT: usize =
+    ENTRY * MAX_ARRAYS + RECORD * MAX_ARRAYS * (MAX_PATH - 1) + COUNT * MAX_EXPANDED_EDGES;
 
 /// The bytes of an array in a report.
 pub const ENTRY: usize = 8;
+
+/// The bytes of an edge's count in a report.
+pub const COUNT: usize = 2;
+
+/// The parts of a report.
+#[derive(Clone, Copy, Debug)]
+pub struct Parts<'a> {
+    /// Of each array.
+    pub entries: &'a [u8],
+    /// Of each reference.
+    pub records: &'a [u8],
+    /// Of each edge.
+    pub counts: &'a [u8],
+}
+
+impl<'a> Parts<'a> {
+    /// The parts of a report on a routine, whether its calls are expanded or not; none if there is
+    /// no such report of that length.
+    pub fn of(report: &'a [u8], routine: &Routine) -> Option<Parts<'a>> {
+        Parts::split(report, routine.array_count(), routine.expanded_edge_count())
+    }
+
+    /// The parts of a report on so many arrays and expanded edges.
+    pub fn split(report: &'a [u8], arrays: usize, edges: usize) -> Option<Parts<'a>> {
+        let (entries, rest) = report.split_at_checked(ENTRY * arrays)?;
+        let records = rest.len().checked_sub(COUNT * edges)?;
+        let (records, counts) = rest.split_at(records);
+        records.len().is_multiple_of(RECORD).then_some(Parts {
+            entries,
+            records,
+            counts,
+        })
+    }
+}
 
 /// The copies of one array.
 #[derive(Clone, Copy, Debug, PartialEq, Eq)]
@@ -134,8 +170,8 @@ pub fn vertices(path: &[u8]) -> impl ExactSizeIterator<Item = usize> + Clone {
         .map(|&word| usize::from(u16::from_le_bytes(word)))
 }
 
-/// Refusals 30 to 32.
-pub fn check_path(routine: &Routine, path: &[u8]) -> Result<(), Refusal> {
+/// How often a path passes each edge, or refusal 30, 31 or 32.
+pub fn check_path(routine: &Routine, path: &[u8]) -> Result<Vec<u16>, Refusal> {
     let length = vertices(path).len();
     if length == 0 || length > MAX_PATH {
         return Err(Refusal::at(30, length));
@@ -144,29 +180,51 @@ pub fn check_path(routine: &Routine, path: &[u8]) -> Result<(), Refusal> {
         return Err(Refusal::at(31, 0));
     }
     let edges = Edges::new(routine);
+    let mut counts = vec![0; routine.edge_count()];
     let steps = vertices(path).zip(vertices(path).skip(1));
     for (index, (from, to)) in steps.enumerate() {
-        if !edges.contain(from, to) {
-            return Err(Refusal::at(32, index + 1));
+        match edges.place(from, to) {
+            Some(place) => counts[place] += 1,
+            None => return Err(Refusal::at(32, index + 1)),
         }
     }
-    Ok(())
+    Ok(counts)
 }
 
-/// The edges as a square table of bits.
-struct Edges([[u64; MAX_VERTICES / 64]; MAX_VERTICES]);
+/// The edges, which rise by from, then to, and where those from each vertex begin.
+struct Edges<'a> {
+    bytes: &'a [[u8; 4]],
+    first: [u16; MAX_VERTICES + 1],
+}
 
-impl Edges {
-    fn new(routine: &Routine) -> Edges {
-        let mut table = [[0; MAX_VERTICES / 64]; MAX_VERTICES];
-        for (from, to) in routine.edges() {
-            table[from][to / 64] |= 1 << (to % 64);
+impl<'a> Edges<'a> {
+    fn new(routine: &Routine<'a>) -> Edges<'a> {
+        let mut first = [0; MAX_VERTICES + 1];
+        for (index, (from, _)) in routine.edges().enumerate() {
+            first[from + 1] = index as u16 + 1;
         }
-        Edges(table)
+        for vertex in 0..routine.vertex_count() {
+            first[vertex + 1] = first[vertex + 1].max(first[vertex]);
+        }
+        Edges {
+            bytes: routine.edge_bytes(),
+            first,
+        }
     }
 
-    fn contain(&self, from: usize, to: usize) -> bool {
-        to < MAX_VERTICES && self.0[from][to / 64] >> (to % 64) & 1 == 1
+    /// The place of an edge in the list: among those from its start one after the other where they
+    /// are few, else by halving.
+    fn place(&self, from: usize, to: usize) -> Option<usize> {
+        const FEW: usize = 8;
+        let end = |edge: &[u8; 4]| usize::from(u16::from_le_bytes([edge[2], edge[3]]));
+        let start = usize::from(self.first[from]);
+        let row = &self.bytes[start..usize::from(self.first[from + 1])];
+        let place = if row.len() <= FEW {
+            row.iter().position(|edge| end(edge) == to)
+        } else {
+            row.binary_search_by_key(&to, end).ok()
+        };
+        place.map(|place| start + place)
     }
 }
 
@@ -231,13 +289,18 @@ fn write(
     path: &[u8],
     out: &mut [u8],
 ) -> Result<usize, Refusal> {
-    check_path(routine, path)?;
+    let counts = check_path(routine, path)?;
     let arrays = routine.array_count();
-    let needed = ENTRY * arrays + RECORD * reference_count(routine, path);
+    let records = RECORD * reference_count(routine, path);
+    let needed = ENTRY * arrays + records + COUNT * counts.len();
     if out.len() < needed {
         return Err(Refusal::at(2, needed));
     }
-    let (heads, records) = out[..needed].split_at_mut(ENTRY * arrays);
+    let (heads, rest) = out[..needed].split_at_mut(ENTRY * arrays);
+    let (records, places) = rest.split_at_mut(records);
+    for (place, count) in places.as_chunks_mut::<COUNT>().0.iter_mut().zip(&counts) {
+        *place = count.to_le_bytes();
+    }
     let mut records = records.as_chunks_mut::<RECORD>().0.iter_mut();
     let states = walk(routine, labels, path, |record| {
         if let Some(place) = records.next() {

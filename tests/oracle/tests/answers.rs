@@ -308,9 +308,9 @@ fn paths_are_checked_in_order() {
     assert_eq!(answer(&[0, 1, 2, 4]), (32, 3, 0));
     assert_eq!(answer(&[0, 900]), (32, 1, 0));
     assert_eq!(answer(&[0, 257]), (32, 1, 0));
-    assert_eq!(answer(&[0]), (0, 8, 0));
+    assert_eq!(answer(&[0]), (0, 24, 0));
     assert_eq!(run_answer(&file, &[0]), (30, 0, 0));
-    assert_eq!(run_answer(&file, &[0, 0, 1, 0, 9]), (0, 18, 0));
+    assert_eq!(run_answer(&file, &[0, 0, 1, 0, 9]), (0, 34, 0));
     assert_eq!(run_answer(&builder::t().bytes(), &[]), (21, 2, 0));
 }
 
@@ -330,12 +330,12 @@ fn buffers() {
         }
         let mut out = vec![0x5a; length];
         let answer = run(&file, &path, &mut out);
-        if length < 28 {
-            assert_eq!((answer.number, answer.first, answer.second), (2, 28, 0));
+        if length < 44 {
+            assert_eq!((answer.number, answer.first, answer.second), (2, 44, 0));
             assert!(out.iter().all(|&byte| byte == 0x5a));
         } else {
-            assert_eq!(answer, Outcome::written(28));
-            assert!(out[28..].iter().all(|&byte| byte == 0x5a));
+            assert_eq!(answer, Outcome::written(44));
+            assert!(out[44..].iter().all(|&byte| byte == 0x5a));
         }
     }
 }
@@ -347,8 +347,15 @@ fn the_largest_file_plan_and_report() {
     assert_eq!(plan_answer(&limits::largest_plan().bytes()), (0, 25_608, 0));
     let path = limits::longest_path();
     assert_eq!(path.len(), 4096);
-    assert_eq!(run_answer(&file, &path_bytes(&path)), (0, 327_664, 0));
-    assert_eq!(run_answer(&file, &path_bytes(&path[..512])), (0, 40_944, 0));
+    let counts = 2 * 1024;
+    let answer = run_answer(&file, &path_bytes(&path));
+    assert_eq!(answer, (0, 327_664 + counts, 0));
+    let answer = run_answer(&file, &path_bytes(&path[..512]));
+    assert_eq!(answer, (0, 40_944 + counts, 0));
+    // With as many edges as there may be once calls are expanded.
+    let (file, path) = (limits::longest_report().bytes(), limits::longest_stay());
+    let answer = run_answer(&file, &path_bytes(&path));
+    assert_eq!(answer, (0, 330_048, 0));
 }
 
 #[test]

@@ -37,11 +37,15 @@ fn planned(draft: &Draft) -> String {
     listing::plan(&out[..answer.first as usize])
 }
 
+/// The lines of a report without the counts of edges.
 fn ran(draft: &Draft, path: &[u16]) -> String {
     let mut out = vec![0; LONGEST_REPORT];
     let answer = run(&draft.bytes(), &path_bytes(path), &mut out);
     assert_eq!(answer.number, 0, "{answer:?}");
-    listing::report(&out[..answer.first as usize], draft.arrays.len())
+    let edges = draft.expanded().edges.len();
+    let report = listing::report(&out[..answer.first as usize], draft.arrays.len(), edges);
+    let lines = report.lines().filter(|line| line.contains(' '));
+    lines.map(|line| format!("{line}\n")).collect()
 }
 
 /// The rows of the only array once the calls are expanded.
@@ -261,7 +265,10 @@ fn paths_name_expanded_vertices() {
         let steps = (0..length - 1).map(|step| 1 + step % 3);
         [0].into_iter().chain(steps).collect()
     };
-    assert_eq!(run_answer(&around, &path(4096)), (0, 8 + 10 * 1365, 0));
+    assert_eq!(
+        run_answer(&around, &path(4096)),
+        (0, 8 + 10 * 1365 + 2 * 5, 0)
+    );
     assert_eq!(run_answer(&around, &path(4097)), (30, 4097, 0));
 }
 

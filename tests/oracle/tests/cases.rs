@@ -40,6 +40,19 @@ fn ran(draft: &Draft, path: &[u16]) -> Vec<u8> {
     out
 }
 
+/// The run program's lines for an accepted path.
+fn shown(draft: &Draft, path: &[u16]) -> String {
+    let edges = draft.expanded().edges.len();
+    listing::report(&ran(draft, path), draft.arrays.len(), edges)
+}
+
+/// The same without the counts of edges.
+fn shown_without_counts(draft: &Draft, path: &[u16]) -> String {
+    let shown = shown(draft, path);
+    let lines = shown.lines().filter(|line| line.contains(' '));
+    lines.map(|line| format!("{line}\n")).collect()
+}
+
 /// The machine's count for the only array.
 fn machine_count(draft: &Draft, path: &[u16]) -> usize {
     let file = draft.bytes();
@@ -84,8 +97,8 @@ fn case_1_labels_of_p() {
 fn case_2_a_run_of_p() {
     let path = [0, 1, 2, 3, 4, 5, 6, 2, 3];
     assert_eq!(
-        listing::report(&ran(&builder::p(), &path), 1),
-        "1 3 1\n2 0 0 2 0 2\n4 0 1 1 2 0\n7 0 0 1 2 0\n9 0 1 1 2 0\n"
+        shown(&builder::p(), &path),
+        "1 3 1\n2 0 0 2 0 2\n4 0 1 1 2 0\n7 0 0 1 2 0\n9 0 1 1 2 0\n1\n1\n2\n1\n1\n1\n1\n0\n"
     );
     assert_eq!(machine_count(&builder::p(), &path), 4);
 }
@@ -106,8 +119,8 @@ fn case_3_labels_of_q() {
 fn case_4_q_without_the_define() {
     let path = [0, 1, 3, 4];
     assert_eq!(
-        listing::report(&ran(&builder::q(), &path), 1),
-        "2 1 0\n4 0 0 1 65535 0\n"
+        shown(&builder::q(), &path),
+        "2 1 0\n4 0 0 1 65535 0\n1\n0\n1\n0\n1\n0\n"
     );
     assert_eq!(machine_count(&builder::q(), &path), 2);
 }
@@ -116,8 +129,8 @@ fn case_4_q_without_the_define() {
 fn case_5_q_with_the_define() {
     let path = [0, 1, 2, 3, 4];
     assert_eq!(
-        listing::report(&ran(&builder::q(), &path), 1),
-        "2 1 0\n3 0 1 2 0 3\n5 0 0 1 3 0\n"
+        shown(&builder::q(), &path),
+        "2 1 0\n3 0 1 2 0 3\n5 0 0 1 3 0\n1\n1\n0\n1\n1\n0\n"
     );
     assert_eq!(machine_count(&builder::q(), &path), 2);
 }
@@ -127,14 +140,15 @@ fn case_6_a_run_of_s() {
     let path = [0, 1, 2, 3, 4];
     let report = ran(&builder::s(), &path);
     assert_eq!(
-        listing::report(&report, 1),
-        "1 4 2\n2 0 0 2 0 2\n5 0 2 1 2 0\n"
+        listing::report(&report, 1, 5),
+        "1 4 2\n2 0 0 2 0 2\n5 0 2 1 2 0\n1\n1\n1\n1\n0\n"
     );
     #[rustfmt::skip]
     let bytes = [
         1, 0, 4, 0, 0, 0, 2, 0,
         2, 0, 0, 0, 2, 0, 0, 0, 2, 0,
         5, 0, 0, 2, 1, 0, 2, 0, 0, 0,
+        1, 0, 1, 0, 1, 0, 1, 0, 0, 0,
     ];
     assert_eq!(report, bytes);
     assert_eq!(machine_count(&builder::s(), &path), 2);
@@ -176,10 +190,11 @@ fn lengths() {
     assert_eq!(plans.map(|draft| planned(&draft).len()), [88, 80, 68, 76]);
     let chain = [0, 1, 2, 3, 4];
     for (draft, path, length) in [
-        (builder::p(), &[0, 1, 2, 3, 4, 5, 6, 2, 3][..], 48),
-        (builder::q(), &[0, 1, 3, 4], 18),
-        (builder::q(), &chain, 28),
-        (builder::s(), &chain, 28),
+        (builder::p(), &[0, 1, 2, 3, 4, 5, 6, 2, 3][..], 64),
+        (builder::q(), &[0, 1, 3, 4], 30),
+        (builder::q(), &chain, 40),
+        (builder::s(), &chain, 38),
+        (builder::u(), &[0, 1, 2, 3, 4, 5, 6], 62),
     ] {
         assert_eq!(ran(&draft, path).len(), length);
     }
@@ -200,12 +215,38 @@ fn the_last_of_32_versions() {
     let report = ran(&draft, &[0, 1, 2]);
     assert_eq!(report[..8], [1, 0, 0, 0, 1, 0x80, 16, 0]);
     assert_eq!(
-        listing::report(&report, 1),
+        shown_without_counts(&draft, &[0, 1, 2]),
         "1 2147549184 16\n3 0 16 1 65535 0\n"
     );
     let all = listing::plan(&planned(&limits::most_versions()));
     let kept = all.lines().filter(|line| line.ends_with(" ffffffff"));
     assert_eq!(kept.count(), 33);
+}
+
+/// Counts stand where there are no records, and for a path of one vertex are all 0.
+#[test]
+fn counts_without_records() {
+    let draft = builder::t_without_read();
+    assert_eq!(shown(&draft, &[0]), "0 0 255\n0\n0\n0\n0\n");
+    assert_eq!(shown(&draft, &[0, 2, 3]), "0 0 255\n0\n1\n0\n1\n");
+    let short =
+        |path: &[u16], room: usize| run(&draft.bytes(), &path_bytes(path), &mut vec![0; room]);
+    assert_eq!(short(&[0], 15), outcome(2, 16, 0));
+    assert_eq!(short(&[0], 16), outcome(0, 16, 0));
+}
+
+/// Counts are those of the expanded routine, in its own order: inner edges of calls stand between
+/// those of the file.
+#[test]
+fn counts_of_expanded_edges() {
+    let draft = builder::calls_in_a_loop();
+    let path = [0, 1, 2, 3, 4, 5, 6, 7, 8, 9, 10, 5, 6, 7, 8, 9, 10, 11, 4];
+    let shown = shown(&draft, &path);
+    let counts: Vec<&str> = shown.lines().filter(|line| !line.contains(' ')).collect();
+    let due = [
+        "1", "1", "1", "1", "1", "2", "2", "2", "2", "2", "1", "1", "1", "0",
+    ];
+    assert_eq!(counts, due);
 }
 
 #[test]
@@ -226,7 +267,7 @@ fn case_9_paths() {
         path[0] = 0;
         path
     };
-    assert_eq!(ran(&round, &path(4096)).len(), 8 + 10 * 4095);
+    assert_eq!(ran(&round, &path(4096)).len(), 8 + 10 * 4095 + 4);
     assert_eq!(run_answer(&round, &path(4097)), outcome(30, 4097, 0));
     assert_eq!(run_answer(&round, &[]), outcome(30, 0, 0));
     assert_eq!(run_answer(&builder::p(), &[0, 2]), outcome(32, 1, 0));
@@ -248,8 +289,8 @@ fn routine_u() {
          5 0 R 0 00000002 00000001\n"
     );
     assert_eq!(
-        listing::report(&ran(&builder::u(), &[0, 1, 2, 3, 4, 5, 6]), 1),
-        "1 1 0\n2 0 0 2 0 2\n4 0 1 2 0 4\n5 0 1 1 4 0\n7 0 0 1 4 0\n"
+        shown(&builder::u(), &[0, 1, 2, 3, 4, 5, 6]),
+        "1 1 0\n2 0 0 2 0 2\n4 0 1 2 0 4\n5 0 1 1 4 0\n7 0 0 1 4 0\n1\n1\n1\n1\n1\n1\n0\n"
     );
 }
 
@@ -264,7 +305,7 @@ fn routine_z() {
     );
     let path = [0, 1, 2, 3, 4];
     assert_eq!(
-        listing::report(&ran(&builder::z(), &path), 1),
+        shown_without_counts(&builder::z(), &path),
         "0 2 1\n2 0 0 2 0 2\n4 0 1 4 0 0\n5 0 1 1 0 0\n"
     );
     assert_eq!(machine_count(&builder::z(), &path), 1);
@@ -278,7 +319,7 @@ fn what_a_kill_leaves() {
     let draft = Draft::chain(INOUT, 2, 0, &actions);
     let path: Vec<u16> = (0..9).collect();
     assert_eq!(
-        listing::report(&ran(&draft, &path), 1),
+        shown_without_counts(&draft, &path),
         "1 1 0\n2 0 0 1 65535 0\n3 0 0 4 0 0\n4 0 0 3 0 4\n5 0 0 4 0 0\n7 0 1 1 0 0\n9 0 0 1 0 0\n"
     );
     let mut defines = draft.clone();
@@ -299,7 +340,7 @@ fn read_only_argument() {
          0 0 N - 00000001 00000002\n\
          1 0 R 1 00000001 00000002\n"
     );
-    let report = |path: &[u16]| listing::report(&ran(&draft, path), 1);
+    let report = |path: &[u16]| shown_without_counts(&draft, path);
     assert_eq!(report(&[0, 1, 2]), "1 2 1\n3 0 1 1 65535 0\n");
     assert_eq!(report(&[0, 1, 2, 3]), "1 1 0\n3 0 1 1 65535 0\n");
     assert_eq!(machine_count(&draft, &[0, 1, 2, 3]), 1);
@@ -312,7 +353,7 @@ fn the_callers_copy() {
     let draft = |actions: &[u8]| Draft::chain(IN, 3, 1, actions);
     let head = |actions: &[u8], length: usize| {
         let path: Vec<u16> = (0..length as u16).collect();
-        let report = listing::report(&ran(&draft(actions), &path), 1);
+        let report = shown(&draft(actions), &path);
         String::from(report.lines().next().unwrap())
     };
     let dead = [remap(0), READ];
@@ -329,7 +370,7 @@ fn the_callers_copy() {
     let mut live = draft(&[remap(0), READ, remap(1), READ]);
     live.edges.push((2, 5));
     live.edges.sort_unstable();
-    let heads = |path: &[u16]| listing::report(&ran(&live, path), 1);
+    let heads = |path: &[u16]| shown_without_counts(&live, path);
     assert_eq!(heads(&[0, 1, 2]), "1 3 0\n3 0 0 1 65535 0\n");
     assert_eq!(heads(&[0, 1, 2, 5]), "1 2 1\n3 0 0 1 65535 0\n");
 }
@@ -350,9 +391,10 @@ fn case_10_a_call_in_a_loop() {
          5 0 W 0 00000001 00000001\n"
     );
     assert_eq!(
-        listing::report(&ran(&draft, &[0, 1, 2, 3, 4, 1, 2, 3, 4, 5]), 2),
+        shown(&draft, &[0, 1, 2, 3, 4, 1, 2, 3, 4, 5]),
         "3 1 0\n1 1 0\n\
          3 0 1 3 65535 3\n3 1 1 1 65535 0\n5 0 0 1 3 0\n5 1 0 1 65535 0\n\
-         7 0 1 3 3 7\n7 1 1 1 65535 0\n9 0 0 1 7 0\n9 1 0 1 65535 0\n"
+         7 0 1 3 3 7\n7 1 1 1 65535 0\n9 0 0 1 7 0\n9 1 0 1 65535 0\n\
+         1\n2\n2\n2\n1\n1\n"
     );
 }

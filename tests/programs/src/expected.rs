@@ -75,7 +75,10 @@ pub fn output(input: &Input) -> (Answer, Vec<u8>) {
     out.truncate(outcome.first as usize);
     let output = match (input, Routine::parse(input.file())) {
         (Input::Plan { .. }, _) => listing::plan(&out).into_bytes(),
-        (_, Ok(routine)) => listing::report(&out, routine.array_count()).into_bytes(),
+        (_, Ok(routine)) => {
+            let (arrays, edges) = (routine.array_count(), routine.expanded_edge_count());
+            listing::report(&out, arrays, edges).into_bytes()
+        }
         _ => out,
     };
     (Answer::Done, output)

@@ -1,8 +1,8 @@
--- `hpf_run` meets its contract: the answer of `run`, in numbers, and demand 3.
+-- `hpf_run` meets its contract: the answer of `run`, in numbers, demand 3, and the counts.
 -- Assumes nothing.
 use mathlib.Core.Path.{ap, subst, _∙_}
 use Rattle.refusal.specs.declared.Reply.{Reply}
-use Rattle.run.specs.Calls.{runInto, DemandMet}
+use Rattle.run.specs.Calls.{runInto, DemandMet, CountsMet}
 use borrow.Author.Needs.{needs}
 use Rattle.remap.proofs.hpf_run.Statement.{statement}
 use Rattle.remap.proofs.hpf_run.Tie as tie
@@ -24,6 +24,7 @@ returns c =
       answer = c .reply-outcome .ensures ∙ r .outcome;
       buffer = r .buffer ∙ ap (λ (r : Reply). runInto r (a .file .now) (a .path .now) (a .out .now)) (r .answer);
       demand = subst (λ (r : Reply). DemandMet r (a .file .now) (a .path .now)) (r .answer) (r .demand);
+      counts = subst (λ (r : Reply). CountsMet r (a .file .now) (a .path .now)) (r .answer) (r .counts);
     }
 
 pub hpf-run-spec : {M : Type 1} → statement M

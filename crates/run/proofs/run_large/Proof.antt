@@ -1,5 +1,6 @@
 -- `run_large` meets its contract: the work slices are arrays of the largest sizes.
 -- Assumes nothing.
+use mathlib.Core.Path.{refl}
 use native.Mathlib.Omega.{arith}
 use borrow.Author.Needs.{needs}
 use Rattle.run.proofs.run_large.Statement.{statement}
@@ -29,12 +30,15 @@ slice-aggregate-run-within-7 c = search needs
 slice-aggregate-run-within-8 : tie.Need-slice-aggregate-run-within-8
 slice-aggregate-run-within-8 c = search needs
 
+slice-aggregate-run-within-9 : tie.Need-slice-aggregate-run-within-9
+slice-aggregate-run-within-9 c = search needs
+
 run-within-requires : tie.Need-run-within-requires
 run-within-requires c κs =
-    let p = c .before .before .before .before .before .before .before .before .before .before .before .before .pre in
+    let p = c .before .before .before .before .before .before .before .before .before .before .before .before .before .pre in
     let v = p .well .laid .limits .few-vertices in
     let e = p .well .laid .limits .few-edges in
-    (p, (omega (arith, p .heads .vertices-are, p .heads .edges-are, v, e), (omega (arith, p .heads .vertices-are, p .heads .edges-are, v, e), (omega (arith, p .heads .vertices-are, p .heads .edges-are, v, e), (omega (arith, p .heads .vertices-are, p .heads .edges-are, v, e), (omega (arith, p .heads .vertices-are, p .heads .edges-are, v, e), (omega (arith, p .heads .vertices-are, p .heads .edges-are, v, e), (omega (arith, p .heads .vertices-are, p .heads .edges-are, v, e), omega (arith, p .heads .vertices-are, p .heads .edges-are, v, e)))))))))
+    (p, (omega (arith, p .heads .vertices-are, p .heads .edges-are, v, e), (omega (arith, p .heads .vertices-are, p .heads .edges-are, v, e), (omega (arith, p .heads .vertices-are, p .heads .edges-are, v, e), (omega (arith, p .heads .vertices-are, p .heads .edges-are, v, e), (omega (arith, p .heads .vertices-are, p .heads .edges-are, v, e), (omega (arith, p .heads .vertices-are, p .heads .edges-are, v, e), (omega (arith, p .heads .vertices-are, p .heads .edges-are, v, e), (omega (arith, p .heads .vertices-are, p .heads .edges-are, v, e), (omega (arith, p .heads .vertices-are, p .heads .edges-are, v, e), refl))))))))))
 
 same-length : tie.Need-same-length
 same-length c = search needs
@@ -54,6 +58,7 @@ run-large-spec =
     slice-aggregate-run-within-6
     slice-aggregate-run-within-7
     slice-aggregate-run-within-8
+    slice-aggregate-run-within-9
     run-within-requires
     same-length
     returns)

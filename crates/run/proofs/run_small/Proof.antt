@@ -1,5 +1,6 @@
 -- `run_small` meets its contract: the work slices are arrays of a small routine's sizes.
 -- Assumes nothing.
+use mathlib.Core.Path.{refl}
 use native.Mathlib.Omega.{arith}
 use borrow.Author.Needs.{needs}
 use Rattle.run.proofs.run_small.Statement.{statement}
@@ -29,12 +30,15 @@ slice-aggregate-run-within-7 c = search needs
 slice-aggregate-run-within-8 : tie.Need-slice-aggregate-run-within-8
 slice-aggregate-run-within-8 c = search needs
 
+slice-aggregate-run-within-9 : tie.Need-slice-aggregate-run-within-9
+slice-aggregate-run-within-9 c = search needs
+
 run-within-requires : tie.Need-run-within-requires
 run-within-requires c κs =
-    let p = c .before .before .before .before .before .before .before .before .before .before .before .before .pre in
+    let p = c .before .before .before .before .before .before .before .before .before .before .before .before .before .pre in
     let v = p .1 .0 in
     let e = p .1 .1 in
-    (p .0, (omega (arith, p .0 .heads .vertices-are, p .0 .heads .edges-are, v, e), (omega (arith, p .0 .heads .vertices-are, p .0 .heads .edges-are, v, e), (omega (arith, p .0 .heads .vertices-are, p .0 .heads .edges-are, v, e), (omega (arith, p .0 .heads .vertices-are, p .0 .heads .edges-are, v, e), (omega (arith, p .0 .heads .vertices-are, p .0 .heads .edges-are, v, e), (omega (arith, p .0 .heads .vertices-are, p .0 .heads .edges-are, v, e), (omega (arith, p .0 .heads .vertices-are, p .0 .heads .edges-are, v, e), omega (arith, p .0 .heads .vertices-are, p .0 .heads .edges-are, v, e)))))))))
+    (p .0, (omega (arith, p .0 .heads .vertices-are, p .0 .heads .edges-are, v, e), (omega (arith, p .0 .heads .vertices-are, p .0 .heads .edges-are, v, e), (omega (arith, p .0 .heads .vertices-are, p .0 .heads .edges-are, v, e), (omega (arith, p .0 .heads .vertices-are, p .0 .heads .edges-are, v, e), (omega (arith, p .0 .heads .vertices-are, p .0 .heads .edges-are, v, e), (omega (arith, p .0 .heads .vertices-are, p .0 .heads .edges-are, v, e), (omega (arith, p .0 .heads .vertices-are, p .0 .heads .edges-are, v, e), (omega (arith, p .0 .heads .vertices-are, p .0 .heads .edges-are, v, e), (omega (arith, p .0 .heads .vertices-are, p .0 .heads .edges-are, v, e), refl))))))))))
 
 same-length : tie.Need-same-length
 same-length c = search needs
@@ -54,6 +58,7 @@ run-small-spec =
     slice-aggregate-run-within-6
     slice-aggregate-run-within-7
     slice-aggregate-run-within-8
+    slice-aggregate-run-within-9
     run-within-requires
     same-length
     returns)

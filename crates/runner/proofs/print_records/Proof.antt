@@ -6,10 +6,10 @@ use Rattle.runner.proofs.print_records.Statement.{statement}
 use Rattle.runner.proofs.print_records.Tie as tie
 
 abbrev Inv-loop : tie.InvT-loop
-Inv-loop report from length at₀ at = at ≤ max from length + 10
+Inv-loop report from end at₀ at = at ≤ max from end + 10
 
 abbrev μ-loop : tie.MeasureT-loop
-μ-loop report from length at₀ at = length - at
+μ-loop report from end at₀ at = end - at
 
 loop-holds : tie.Need-loop-holds Inv-loop μ-loop
 loop-holds c = search needs

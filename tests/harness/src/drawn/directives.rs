@@ -6,7 +6,7 @@ use oracle::directives::{Program, Statement, file, sets};
 use oracle::outcome::Outcome;
 use oracle::record::RECORD;
 use oracle::routine::Action;
-use oracle::run::ENTRY;
+use oracle::run::Parts;
 
 /// In larger files not every statement is tried for what it matters.
 const FEW_VERTICES: usize = 16;
@@ -84,7 +84,9 @@ impl Drawn {
         if let Ok(program) = file::parse(file)
             && answer.number == 0
         {
-            let records = || report[ENTRY * program.arrays.len()..].chunks_exact(RECORD);
+            let parts = Parts::split(report, program.arrays.len(), program.edges.len());
+            let records = parts.expect("an accepted run has a report").records;
+            let records = || records.chunks_exact(RECORD);
             let other = records().any(|record| record[3] > 0);
             self.one("  a reference in another version than 0", other);
             let kill = records().any(|record| record[4] == 4);

@@ -1,6 +1,6 @@
 //! Faults of a converter.
 
-use super::{FEW, converter, outcome};
+use super::{FEW, converter, outcome, records_in};
 use crate::check::Difference;
 use crate::drive::compare_conversions;
 use crate::library::{Convert, Input, Library, ORACLE, converted};
@@ -11,7 +11,6 @@ use oracle::directives::{Alignment, Dimension, Mapping, Program, Statement, file
 use oracle::outcome::Outcome;
 use oracle::record::RECORD;
 use oracle::routine::Action;
-use oracle::run::ENTRY;
 
 /// So many states are followed by a faulty converter.
 const MOST: usize = 1000;
@@ -739,8 +738,8 @@ fn a_reference_in_another_mapping() {
         run: |file, path, out| {
             let answer = oracle::run::run(file, path, out);
             if answer.number == 0 {
-                let arrays = usize::from(file[8]);
-                for record in out[ENTRY * arrays..answer.first as usize].chunks_exact_mut(RECORD) {
+                let records = &mut out[records_in(file, answer.first)];
+                for record in records.chunks_exact_mut(RECORD) {
                     record[3] = 0;
                 }
             }

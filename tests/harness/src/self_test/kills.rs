@@ -1,6 +1,6 @@
 //! Faults about kills.
 
-use super::{converter, outcome, planner, runner};
+use super::{converter, outcome, planner, records_in, runner};
 use crate::check::Difference;
 use crate::library::{Convert, Plan, Run};
 use oracle::builder::{DEFINE, Draft, IN, KILL, MODIFY, READ};
@@ -9,7 +9,7 @@ use oracle::outcome::Outcome;
 use oracle::plan;
 use oracle::record::RECORD;
 use oracle::routine::Routine;
-use oracle::run::{self, ENTRY};
+use oracle::run;
 
 /// A file whose parts fit together, with another byte for each kill.
 fn with_byte(file: &[u8], byte: u8) -> Vec<u8> {
@@ -112,12 +112,12 @@ fn another_family() {
 fn ran_as<const BYTE: u8>(file: &[u8], path: &[u8], out: &mut [u8]) -> Outcome {
     let answer = run::run(&with_byte(file, BYTE), path, out);
     if answer.number == 0 {
-        let routine = Routine::parse(file).unwrap();
         let mut right = vec![0; answer.first as usize];
         run::run(file, path, &mut right);
-        let heads = ENTRY * routine.array_count();
-        let records = out[heads..].chunks_exact_mut(RECORD);
-        for (record, right) in records.zip(right[heads..].chunks_exact(RECORD)) {
+        let records = records_in(file, answer.first);
+        let right = right[records.clone()].chunks_exact(RECORD);
+        let records = out[records].chunks_exact_mut(RECORD);
+        for (record, right) in records.zip(right) {
             record[4] = right[4];
         }
     }
@@ -149,7 +149,7 @@ fn a_stamp_that_stays() {
         if answer.number == 0 {
             let arrays = Routine::parse(file).unwrap().array_count();
             let mut stamps = vec![None; arrays];
-            let records = &mut out[ENTRY * arrays..answer.first as usize];
+            let records = &mut out[records_in(file, answer.first)];
             for record in records.chunks_exact_mut(RECORD) {
                 let stamp = &mut stamps[usize::from(record[2])];
                 match record[4] {
@@ -180,8 +180,7 @@ fn another_kind() {
     fn as_define(file: &[u8], path: &[u8], out: &mut [u8]) -> Outcome {
         let answer = run::run(file, path, out);
         if answer.number == 0 {
-            let arrays = Routine::parse(file).unwrap().array_count();
-            let records = out[ENTRY * arrays..answer.first as usize].chunks_exact_mut(RECORD);
+            let records = out[records_in(file, answer.first)].chunks_exact_mut(RECORD);
             records
                 .filter(|record| record[4] == 4)
                 .for_each(|record| record[4] = 2);

@@ -1,6 +1,6 @@
 //! Faults of a runner.
 
-use super::{labelled_home, outcome, runner, with_expanded};
+use super::{labelled_home, outcome, records_in, runner, with_expanded};
 use crate::check::Difference;
 use crate::library::Run;
 use oracle::builder;
@@ -47,9 +47,8 @@ fn a_wrong_stamp() {
     fn faulty(file: &[u8], path: &[u8], out: &mut [u8]) -> Outcome {
         let answer = run::run(file, path, out);
         if answer.number == 0 {
-            let arrays = Routine::parse(file).unwrap().array_count();
             let copied = out[0] > 0;
-            let records = &mut out[ENTRY * arrays..answer.first as usize];
+            let records = &mut out[records_in(file, answer.first)];
             for record in records.chunks_exact_mut(RECORD) {
                 if copied && record[4] == 3 {
                     record[6] ^= 1;

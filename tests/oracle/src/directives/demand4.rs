@@ -5,15 +5,14 @@ use super::meaning::State;
 use super::{Mapping, Program, Statement};
 use crate::builder::REFERENCES;
 use crate::record::RECORD;
-use crate::run::{self, ENTRY};
+use crate::run::{self, Parts};
 
 /// A reference: its step, its array, and its byte in the row.
 type Found = (usize, usize, u8);
 
-/// The references that a report tells, and the version of each.
-fn told(report: &[u8], arrays: usize) -> impl Iterator<Item = (Found, u8)> {
-    let records = report[ENTRY * arrays..].chunks_exact(RECORD);
-    records.map(|record| {
+/// The references in the records of a report, and the version of each.
+fn told(records: &[u8]) -> impl Iterator<Item = (Found, u8)> {
+    records.chunks_exact(RECORD).map(|record| {
         let step = usize::from(u16::from_le_bytes([record[0], record[1]]));
         let byte = match record[4] {
             kind @ 1..=4 => REFERENCES[usize::from(kind) - 1],
@@ -31,7 +30,10 @@ pub fn of_report(
     path: &[u8],
     report: &[u8],
 ) -> Result<usize, String> {
-    let mut told = told(report, program.arrays.len());
+    let Some(parts) = Parts::split(report, program.arrays.len(), program.edges.len()) else {
+        return Err(format!("{} bytes are no report", report.len()));
+    };
+    let mut told = told(parts.records);
     let mut state = State::initial(program);
     let mut references = 0;
     for (before, vertex) in run::vertices(path).enumerate() {

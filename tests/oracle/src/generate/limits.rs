@@ -8,6 +8,7 @@ use crate::builder::{
 use crate::routine::{
     MAX_ARRAYS, MAX_CALLS, MAX_EDGES, MAX_EXPANDED_EDGES, MAX_VERSIONS, MAX_VERTICES,
 };
+use crate::run::MAX_PATH;
 
 /// Eight inout arrays, 256 vertices and 1,024 edges: each vertex has edges to the next
 /// three and to vertex 1, some to themselves.
@@ -241,6 +242,33 @@ pub fn most_calls(rng: &mut Rng) -> Draft {
     graph_of_calls(rng, MAX_VERTICES, MAX_CALLS, MAX_EXPANDED_EDGES)
 }
 
+/// The same counts, and a row of references with an edge to itself: `longest_stay` has the longest
+/// report.
+pub fn longest_report() -> Draft {
+    let vertices = MAX_VERTICES - 2 * MAX_CALLS;
+    let mut rows = vec![vec![0; MAX_ARRAYS]; vertices];
+    rows[1].fill(MODIFY);
+    for row in &mut rows[2..2 + MAX_CALLS] {
+        row.fill(call_in(1));
+    }
+    let mut edges = vec![(0, 1), (1, 1)];
+    let exit = vertices as u16 - 1;
+    let more = (2..exit).flat_map(|from| (1..=exit).map(move |to| (from, to)));
+    edges.extend(more.take(MAX_EDGES - edges.len()));
+    Draft {
+        arrays: vec![[INOUT, 2, 0, 0]; MAX_ARRAYS],
+        rows,
+        edges,
+    }
+}
+
+/// The longest path of `longest_report`, which passes one edge all the time.
+pub fn longest_stay() -> Vec<u16> {
+    let mut path = vec![1; MAX_PATH];
+    path[0] = 0;
+    path
+}
+
 /// Routines with calls that have a count at its limit, or about one where a smaller table may end,
 /// once the calls are expanded; each is well formed.
 fn calls_at_limits(rng: &mut Rng) -> Vec<Draft> {
@@ -313,6 +341,7 @@ pub fn at_limits(rng: &mut Rng) -> Vec<Draft> {
         chain_from_entry(),
         chain_both_ways(),
         ring_of_labels(),
+        longest_report(),
     ];
     drafts.extend(about_powers_of_two(rng));
     for versions in [16, MAX_VERSIONS] {
