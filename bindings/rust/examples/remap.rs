@@ -1,7 +1,7 @@
 //! Plans routine P, runs case 2 (docs/CASES.md), and prints what the plan's flags and the report
 //! show. Then plans routine K, which has a call.
 
-use hpf_remap::{LARGEST_PLAN, Outcome, report_parts};
+use hpf_remap::{Plan, Refusal, Report};
 use std::process::ExitCode;
 
 #[rustfmt::skip]
@@ -35,99 +35,58 @@ const WITH_CALL: [u8; 50] = [
     0, 0, 1, 0, 1, 0, 2, 0, 2, 0, 1, 0, 2, 0, 3, 0,
 ];
 
-fn word(bytes: &[u8], at: usize) -> usize {
-    usize::from(u16::from_le_bytes([bytes[at], bytes[at + 1]]))
-}
-
-/// A set of versions.
-fn set(bytes: &[u8], at: usize) -> u32 {
-    u32::from_le_bytes([bytes[at], bytes[at + 1], bytes[at + 2], bytes[at + 3]])
-}
-
-/// The bytes that a call wrote into a buffer, or its refusal in words.
-fn written(call: &str, answer: Outcome, mut out: Vec<u8>) -> Result<Vec<u8>, String> {
-    let Outcome {
-        number,
-        first,
-        second,
-    } = answer;
-    if number != 0 {
-        return Err(format!("{call}: {number} {first} {second}"));
-    }
-    out.truncate(first as usize);
-    Ok(out)
-}
-
-fn planned(routine: &[u8]) -> Result<Vec<u8>, String> {
-    let mut plan = vec![0; LARGEST_PLAN];
-    let answer = hpf_remap::plan(routine, &mut plan);
-    written("plan", answer, plan)
-}
-
-/// An empty buffer asks how long the report is.
-fn ran() -> Result<Vec<u8>, String> {
-    let asked = hpf_remap::run(&ROUTINE, &PATH, &mut []);
-    let needed = if asked.number == 2 { asked.first } else { 0 };
-    let mut report = vec![0; needed as usize];
-    let answer = hpf_remap::run(&ROUTINE, &PATH, &mut report);
-    written("run", answer, report)
-}
-
 fn print_plan(plan: &[u8]) {
-    let vertices = word(plan, 4);
-    let (contents, labels) = plan[8..].split_at(4 * vertices);
-    for (vertex, entry) in contents.chunks_exact(4).enumerate() {
-        let here = labels.chunks_exact(12).skip(word(entry, 0));
-        for label in here.take(word(entry, 2)) {
-            let (array, letter, leaving) = (label[0], char::from(label[1]), label[2]);
-            print!("vertex {vertex}: array {array} ");
-            if letter == 'N' {
-                println!("is not copied");
-            } else {
-                let kept = set(label, 8);
-                println!("leaves as version {leaving}, use {letter}, keep {kept:08x}");
+    for label in Plan::new(plan).iter().flat_map(Plan::labels) {
+        print!("vertex {}: array {} ", label.vertex, label.array);
+        match label.leaving {
+            None => println!("is not copied"),
+            Some(version) => {
+                let (letter, kept) = (label.letter, label.kept);
+                println!("leaves as version {version}, use {letter}, keep {kept:08x}");
             }
         }
     }
 }
 
-fn print_report(report: &[u8]) -> Result<(), String> {
-    let parts = report_parts(&ROUTINE, report).ok_or("the report has other parts")?;
-    for (array, head) in parts.arrays.chunks_exact(8).enumerate() {
-        let copies = match word(head, 0) {
+fn print_report(report: &Report) {
+    for (array, entry) in report.entries().enumerate() {
+        let copies = match entry.copies {
             1 => String::from("1 copy"),
             more => format!("{more} copies"),
         };
-        let (live, current) = (set(head, 2), head[6]);
+        let current = entry
+            .current
+            .map_or(String::from("none"), |version| version.to_string());
+        let live = entry.live;
         println!("array {array}: {copies}, live {live:08x}, current {current}");
     }
-    for record in parts.records.chunks_exact(10) {
-        let (step, version, kind) = (word(record, 0), record[3], record[4]);
-        let (seen, new) = (word(record, 6), word(record, 8));
-        println!("step {step}: version {version}, kind {kind}, sees {seen}, gives {new}");
+    for record in report.records() {
+        let (step, version, kind) = (record.step, record.version, record.reference.kind());
+        let (seen, given) = (record.seen, record.given);
+        println!("step {step}: version {version}, kind {kind}, sees {seen}, gives {given}");
     }
     // Without calls the edges are those of the file.
-    let edges = ROUTINE[word(&ROUTINE, 14)..].chunks_exact(4);
-    for (edge, count) in edges.zip(parts.counts.chunks_exact(2)) {
-        let (from, to, passed) = (word(edge, 0), word(edge, 2), word(count, 0));
-        println!("edge {from}-{to}: passed {passed}");
+    for (edge, passed) in ROUTINE[30..].chunks_exact(4).zip(report.counts()) {
+        println!("edge {}-{}: passed {passed}", edge[0], edge[2]);
     }
-    Ok(())
 }
 
 /// The call of K is three vertices of its plan: 1, 2 and 3.
-fn show() -> Result<(), String> {
-    print_plan(&planned(&ROUTINE)?);
-    print_report(&ran()?)?;
-    print_plan(&planned(&WITH_CALL)?);
+fn show() -> Result<(), Refusal> {
+    print_plan(&hpf_remap::planned(&ROUTINE)?);
+    let report = hpf_remap::ran(&ROUTINE, &PATH)?;
+    if let Some(report) = Report::new(&ROUTINE, &report) {
+        print_report(&report);
+    }
+    print_plan(&hpf_remap::planned(&WITH_CALL)?);
     Ok(())
 }
 
 fn main() -> ExitCode {
     match show() {
         Ok(()) => ExitCode::SUCCESS,
-        Err(words) => {
-            eprintln!("{words}");
+        Err(refusal) => {
+            eprintln!("refused: {refusal}");
             ExitCode::FAILURE
         }
     }

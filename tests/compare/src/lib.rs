@@ -2,7 +2,7 @@
 
 use harness::library::Library;
 use harness::raw::{self, Raw};
-use hpf_remap::ffi::{hpf_convert, hpf_plan, hpf_rounds, hpf_run};
+use hpf_remap::ffi::{self, hpf_convert, hpf_plan, hpf_rounds, hpf_run};
 use oracle::directives::file;
 use oracle::outcome::Outcome;
 use oracle::plan::LONGEST_PLAN;
@@ -22,14 +22,25 @@ const _: () = assert!(
 
 /// The verified library by its safe calls.
 pub const VERIFIED: Library = Library {
-    plan: |routine, out| answer(hpf_remap::plan(routine, out)),
-    run: |routine, path, out| answer(hpf_remap::run(routine, path, out)),
-    convert: |directives, out| answer(hpf_remap::convert(directives, out)),
-    rounds: |routine, out| answer(hpf_remap::rounds(routine, out)),
+    plan: |routine, out| reply(hpf_remap::plan(routine, out)),
+    run: |routine, path, out| reply(hpf_remap::run(routine, path, out)),
+    convert: |directives, out| reply(hpf_remap::convert(directives, out)),
+    rounds: |routine, out| reply(hpf_remap::rounds(routine, out)),
 };
 
-fn answer(outcome: hpf_remap::Outcome) -> Outcome {
-    let hpf_remap::Outcome {
+fn reply(result: Result<usize, hpf_remap::Refusal>) -> Outcome {
+    match result {
+        Ok(length) => Outcome::written(length),
+        Err(refusal) => Outcome {
+            number: refusal.number,
+            first: refusal.first,
+            second: refusal.second,
+        },
+    }
+}
+
+fn answer(outcome: ffi::Outcome) -> Outcome {
+    let ffi::Outcome {
         number,
         first,
         second,

@@ -6,6 +6,7 @@ mod stack;
 
 use compare::{VERIFIED, verified_by_pointers};
 use harness::drive::{Mismatch, Options, compare, compare_part, named};
+use hpf_remap::Report;
 use oracle::builder::path_bytes;
 use oracle::generate::limits;
 use oracle::routine::Routine;
@@ -47,14 +48,13 @@ fn hold_parts() -> Result<(), String> {
         for path in paths {
             let mut report = vec![0; LONGEST_REPORT];
             let answer = hpf_remap::run(&file, &path_bytes(&path), &mut report);
-            let Some(routine) = Routine::parse(&file).ok().filter(|_| answer.number == 0) else {
+            let (Ok(routine), Ok(length)) = (Routine::parse(&file), answer) else {
                 continue;
             };
-            report.truncate(answer.first as usize);
-            let found = hpf_remap::report_parts(&file, &report)
-                .map(|parts| (parts.arrays, parts.records, parts.counts));
+            report.truncate(length);
+            let found = Report::new(&file, &report).map(|report| report.parts());
             let due = Parts::of(&report, &routine)
-                .map(|parts| (parts.entries, parts.records, parts.counts));
+                .map(|parts| [parts.entries, parts.records, parts.counts]);
             if found.is_none() || found != due {
                 return Err(format!("parts of a report: {found:?}, due {due:?}\n"));
             }
