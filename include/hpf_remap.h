@@ -92,6 +92,83 @@ typedef struct {
 #define HPF_LARGEST_ROUNDS 12       /* 2 * 6 */
 #define HPF_LONGEST_PATH 4096
 
+/* The version of this header, and as a number: 0.8.0 is 800. The second number is that of the last request that the
+ * library answers; as long as the first is 0, each of them may change the formats. */
+#define HPF_VERSION_TEXT "0.8.0"
+#define HPF_VERSION 800
+
+/* The numbers in the formats. To the four actions below the line the version is added. */
+enum {
+    HPF_LOCAL = 0, /* kinds of arrays */
+    HPF_IN = 1,
+    HPF_OUT = 2,
+    HPF_INOUT = 3,
+
+    HPF_NOTHING = 0x00, /* actions */
+    HPF_READ = 0x10,
+    HPF_DEFINE = 0x20,
+    HPF_MODIFY = 0x30,
+    HPF_KILL = 0x80,
+    /* ---- */
+    HPF_REMAP_TO = 0x40,
+    HPF_CALL_IN = 0x60,
+    HPF_CALL_OUT = 0xa0,
+    HPF_CALL_INOUT = 0xc0,
+
+    HPF_LETTER_N = 'N', /* uses of labels */
+    HPF_LETTER_D = 'D',
+    HPF_LETTER_R = 'R',
+    HPF_LETTER_W = 'W',
+
+    HPF_KIND_READ = 1, /* kinds of references in a report */
+    HPF_KIND_DEFINE = 2,
+    HPF_KIND_MODIFY = 3,
+    HPF_KIND_KILL = 4,
+
+    HPF_NONE = 255, /* no version: of a dropped label, or of an array without a current copy */
+    HPF_NEVER_GIVEN = 0, /* stamps */
+    HPF_CALLERS_STAMP = 65535
+};
+
+/* Every refusal: its name, its number, and what it says. */
+#define HPF_REFUSALS(refusal) \
+    refusal(HPF_SHORT_BUFFER, 1, "the buffer is too short") \
+    refusal(HPF_SHORT_REPORT, 2, "the buffer of the report is too short") \
+    refusal(HPF_WRONG_MARK, 10, "the routine is too short, or its mark is wrong") \
+    refusal(HPF_WRONG_EDITION, 11, "the edition is not known") \
+    refusal(HPF_WRONG_COUNT, 12, "a count is outside its limits") \
+    refusal(HPF_WRONG_OFFSET, 13, "an offset or the length is wrong") \
+    refusal(HPF_WRONG_ARRAY, 14, "a byte of an array is wrong") \
+    refusal(HPF_UNKNOWN_ACTION, 15, "an action is unknown") \
+    refusal(HPF_WRONG_EDGE, 16, "an edge is wrong") \
+    refusal(HPF_VERSION_TOO_LARGE, 17, "a version is not below the number of its array's versions") \
+    refusal(HPF_ACTION_AT_END, 18, "entry or exit has an action") \
+    refusal(HPF_MIXED_ACTIONS, 19, "a vertex has two of references, remappings and calls") \
+    refusal(HPF_WRITES_IN_ARGUMENT, 20, "an in argument is written or killed, or passed to be written") \
+    refusal(HPF_AMBIGUOUS, 21, "a reference or a call is ambiguous") \
+    refusal(HPF_TOO_MANY_VERTICES, 22, "there are too many vertices once calls are expanded") \
+    refusal(HPF_WRONG_PATH_LENGTH, 30, "the path has no vertex, or too many of them") \
+    refusal(HPF_WRONG_START, 31, "the path does not start at the entry") \
+    refusal(HPF_NO_SUCH_EDGE, 32, "a step of the path is no edge") \
+    refusal(HPF_MALFORMED_DIRECTIVES, 40, "the directive file is malformed") \
+    refusal(HPF_TOO_MANY_MAPPINGS, 41, "an array has too many mappings") \
+    refusal(HPF_TWO_MAPPINGS, 42, "a directive can leave an array in two mappings")
+
+enum {
+#define HPF_REFUSAL_NUMBER(name, number, text) name = number,
+    HPF_REFUSALS(HPF_REFUSAL_NUMBER)
+#undef HPF_REFUSAL_NUMBER
+    HPF_DONE = 0
+};
+
+/* Two words about the library, from bindings/c/words.c: `make install` adds them to the library that it installs. The
+ * archive that the kit writes has only what is proved, and so neither of them.
+ *
+ *   hpf_version  the version of the library that the program runs with, as HPF_VERSION is that of the header.
+ *   hpf_text     what the number of a refusal says, without its places; null for any other number. */
+uint32_t hpf_version(void);
+const char *hpf_text(uint64_t number);
+
 /* Plans a routine.
  *
  *   routine        bytes  of A arrays, V vertices and E edges
