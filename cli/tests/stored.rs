@@ -113,3 +113,20 @@ fn plans_of_the_figures() {
         assert_eq!(text(&found), text(&due));
     }
 }
+
+/// The README opens with what is printed for P, and shows what is explained of T.
+#[test]
+fn the_readme() {
+    let readme = fs::read_to_string(root().join("README.md")).expect("the README");
+    for words in [
+        &[
+            "watch",
+            "examples/routines/p.hpf",
+            "examples/routines/p.path",
+        ][..],
+        &["explain", "examples/routines/t.hpf"],
+    ] {
+        let printed = text(&fed(words, &[]).stdout);
+        assert!(readme.contains(&format!("\n{printed}```\n")), "{printed}");
+    }
+}
