@@ -340,7 +340,8 @@ hpf_outcome hpf_convert(const uint8_t *directives, size_t directives_len, uint8_
  *
  * A pass finds a set for each vertex and array. A round takes every edge once that could alter a set, and hands on what
  * is known at its one end to the other; the pass ends with the first round that alters no set. That round counts too:
- * every earlier one altered a set. So a pass that is made has at least 1, and at most its vertices and one more.
+ * every earlier one altered a set. So a pass that is made has at least 1, and at most its vertices and one more. Where
+ * each vertex but the entry is entered from an earlier one all are reached: no pass looks for them, its number is 0.
  *
  *   rounds         bytes  of a routine without calls
  *   -------------  -----  ----------------------------------------------------------------------------------------
@@ -348,9 +349,7 @@ hpf_outcome hpf_convert(const uint8_t *directives, size_t directives_len, uint8_
  *
  *   rounds         bytes  of a routine with calls
  *   -------------  -----  ----------------------------------------------------------------------------------------
- *   0              2      reached vertices, of the file; 0 where each vertex but the entry is entered from an earlier
- *                         one, so that all are reached and no pass is made
- *   2              2      versions that arrive at the calls, of the file
+ *   0, 2           2 each reached vertices and versions that arrive at the calls, of the file
  *   4, 6, 8, 10    2 each letters, reached vertices, reaching sets and kept sets, of the expanded routine
  *
  * This is the order in which the passes are made. In which order a round takes the edges is the library's own: the

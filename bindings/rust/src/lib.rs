@@ -60,7 +60,8 @@
 //! assert_eq!(hpf_remap::rounds(&routine, &mut rounds), Ok(8)); // no calls: four passes
 //! let number = |pass: usize| u16::from_le_bytes([rounds[2 * pass], rounds[2 * pass + 1]]);
 //! let [letters, reached, reaching, kept] = [0, 1, 2, 3].map(number);
-//! assert_eq!((letters, reached, reaching), (2, 2, 2)); // one round that finds all, and one more
+//! assert_eq!((letters, reaching), (2, 2)); // one round that finds all, and one more
+//! assert_eq!(reached, 0); // no pass: each vertex but the entry is entered from an earlier one
 //! assert_eq!(kept, 1); // no label lies ahead of any vertex, so that even the first finds nothing
 //! ```
 //!
@@ -226,9 +227,10 @@ pub fn convert(directives: &[u8], out: &mut [u8]) -> Result<usize, Refusal> {
 /// Plans a routine, and writes the rounds of each pass over the edges over the front of `out`, 16
 /// bits each, low byte first, in the order in which the passes are made; leaves the rest of it.
 ///
-/// Without calls these are four: letters, reached vertices, reaching sets, kept sets. With calls
-/// two come first, of the file: reached vertices, 0 where each vertex is entered from an earlier one
-/// and no pass is made, and the versions that arrive at calls; the four are of the expanded routine.
+/// Without calls these are four: letters, reached vertices, reaching sets, kept sets. With calls two
+/// come first, of the file: reached vertices, and the versions that arrive at calls; the four are of
+/// the expanded routine. Where each vertex but the entry is entered from an earlier one all are
+/// reached: no pass is made for it, and its number is 0.
 ///
 /// A refusal, which is as that of [`plan`], writes nothing. Number 1 says that `out` is too short,
 /// and `first` the length that is needed; [`LARGEST_ROUNDS`] bytes always suffice.

@@ -12,7 +12,7 @@ use Rattle.labels.specs.Events.{event}
 use Rattle.labels.specs.Reaching.{reachingOf}
 use Rattle.routine.specs.Actions.{isReference}
 use Rattle.routine.specs.Arrays.{kind, isIn}
-use Rattle.passes.specs.Counted.{LettersStop, ReachedStops, ReachingStops, BroughtStops, ReachedFirst}
+use Rattle.passes.specs.Counted.{LettersStop, ReachingStops, BroughtStops, ReachedFirst}
 use Rattle.passes.specs.Tables.{Cells, Letters}
 use Rattle.refusal.specs.declared.Verdict.the-variants.{Passed}
 use Rattle.routine.specs.Layout.{arrays, vertices}
@@ -35,7 +35,7 @@ pub record Checked (file : List ℕ) (answer : Prepared) (letters reaching : Lis
   pub letters-are : answer .verdict ≡ Passed → Letters file letters
   pub reaching-are : answer .verdict ≡ Passed → Cells file (reachingOf file) reaching
   pub letters-stop : answer .verdict ≡ Passed → LettersStop file (answer .letters)
-  pub reached-stops : answer .verdict ≡ Passed → ReachedStops file (answer .reached)
+  pub reached-first : answer .verdict ≡ Passed → ReachedFirst file (answer .reached)
   pub reaching-stops : answer .verdict ≡ Passed → ReachingStops file (answer .reaching)
 
 -- the answer; where it passes, the table of the versions that paths bring, and the numbers of rounds

@@ -25,8 +25,8 @@ ghost use Rattle.routine.specs.Layout.{arrays, vertices, edges};
 ghost use Rattle.refusal.specs.declared.Refusal.the-variants.{WritesInArgument, AmbiguousReference};
 ghost use Rattle.sets.specs.Sets.{has, several};
 
-// What `prepare` answers, and the rounds of the passes that it made: those for the letters, the vertices that are reached and the reaching
-// sets. All are 0 where 20 refuses, since none is made.
+// What `prepare` answers, and the rounds of the passes that it made: those for the letters, the vertices that are reached (0 if it was not
+// needed) and the reaching sets. All are 0 where 20 refuses, since none is made.
 pub struct Prepared {
     pub verdict: Verdict,
     pub letters: usize,

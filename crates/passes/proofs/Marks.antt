@@ -1,13 +1,14 @@
 -- Vertices that are entered from earlier ones: each is reached.
 -- Assumes nothing.
-use mathlib.Core.Path.{_≡_}
+use mathlib.Core.Path.{_≡_, _∙_}
 use mathlib.Core.Bool.{false}
-use mathlib.Core.List.{List}
-use Prim.Native.Nat.{ℕ, zero, suc, _≤_, _<_}
+use mathlib.Core.List.{List, _++_}
+use Prim.Native.Nat.{ℕ, zero, suc, _+_, _≤_, _<_}
 use native.Mathlib.Omega.{arith}
 use borrow.Author.Tests.{eqb-false}
 use lib.Dec.{T, eqb}
-use lib.ListN.{length, getD, set, replicate}
+use lib.ListN.{length, getD, set, replicate, take, drop, length-append, length-drop}
+use lib.Seq.{length-take-le}
 use Rattle.labels.proofs.Rules.Arrivals.{reached-next}
 use Rattle.labels.proofs.Rules.Proper.{edge-count, edge-from, edge-to, ends-within}
 use Rattle.labels.specs.Reaching.{isReachedOver, isReached}
@@ -18,6 +19,12 @@ use Rattle.routine.specs.Reader.{WellFormed}
 use Rattle.words.proofs.Sums.{each-fails}
 use Rattle.words.proofs.Tables.{at-set, zeros-at}
 use Rattle.words.specs.Sums.{anyBelow}
+
+-- marks take the first n entries of a work slice
+pub marks-back : (n : ℕ) (slice marks : List ℕ) → n ≤ length slice → length marks ≡ length (take n slice) → length (marks ++ drop n slice) ≡ length slice
+marks-back n slice marks room e =
+    let sum : length marks + length (drop n slice) ≡ length slice = omega (arith, e, length-take-le n slice room, length-drop n slice, room) in
+    length-append marks (drop n slice) ∙ sum
 
 module _ (file : List ℕ) where
   -- what a mark says

@@ -212,19 +212,37 @@ module _ {file : List ℕ} (well : WellFormed file) where
         ap (λ (i : ℕ). cond (not (isN (useOfByte (getD letters i 0))) || isInOrInout (kind file a)) (2 ^ initial file a) 0) place
         ∙ ap (λ (u : Use). cond (not (isN u) || isInOrInout (kind file a)) (2 ^ initial file a) 0) (use-at a entry in-a (omega (arith, well .laid .limits .two-vertices)))
 
-    pub reach-gives : {reached mid s : List ℕ} → Reached file reached → mid ≡ table (λ i. cond (reachedCell i (getD reached i 0)) (leaving i) 0) (length versions)
+    -- a table of what kept labels give where they are reached, then the entry's own row
+    reach-row : {mid s : List ℕ} → CellsAlone file (λ a v. cond (isReached file v && isKept file a v) (2 ^ version file a v) 0) mid
         → s ≡ withRow mid entry (λ a. cond (not (isN (useOfByte (getD letters a 0))) || isInOrInout (kind file a)) (2 ^ initial file a) 0) (arrays file)
         → CellsAlone file (reachGives file) s
-    reach-gives {reached} {mid} {s} h e f =
-        let first : CellsAlone file (λ a v. cond (isReached file v && isKept file a v) (2 ^ version file a v) 0) mid =
-        alone-table well (λ i. cond (reachedCell i (getD reached i 0)) (leaving i) 0) (vs .size) e
-        (λ a v in-a in-v.
-        ap₂ (λ (b : Bool) (x : ℕ). cond b x 0) (reached-at h a v in-a in-v) (leaving-at a v in-a in-v)
-        ∙ cond-and (isReached file v) (isKept file a v) (2 ^ version file a v))
-        (λ a v out col in-v. none-given (reachedCell (8 * v + a) (getD reached (8 * v + a) 0)) (leaving-beyond a v out col in-v)) in
+    reach-row first f =
         subst (CellsAlone file (reachGives file)) (sym f)
         (alone-row well (λ a. cond (not (isN (useOfByte (getD letters a 0))) || isInOrInout (kind file a)) (2 ^ initial file a) 0) entry
         (omega (arith, well .laid .limits .two-vertices)) first (λ a in-a. reach-entry a in-a) (λ a v in-a away. reach-elsewhere a v away))
+
+    pub reach-gives : {reached mid s : List ℕ} → Reached file reached → mid ≡ table (λ i. cond (reachedCell i (getD reached i 0)) (leaving i) 0) (length versions)
+        → s ≡ withRow mid entry (λ a. cond (not (isN (useOfByte (getD letters a 0))) || isInOrInout (kind file a)) (2 ^ initial file a) 0) (arrays file)
+        → CellsAlone file (reachGives file) s
+    reach-gives {reached} h e =
+        reach-row
+        (alone-table well (λ i. cond (reachedCell i (getD reached i 0)) (leaving i) 0) (vs .size) e
+        (λ a v in-a in-v.
+        ap₂ (λ (b : Bool) (x : ℕ). cond b x 0) (reached-at h a v in-a in-v) (leaving-at a v in-a in-v)
+        ∙ cond-and (isReached file v) (isKept file a v) (2 ^ version file a v))
+        (λ a v out col in-v. none-given (reachedCell (8 * v + a) (getD reached (8 * v + a) 0)) (leaving-beyond a v out col in-v)))
+
+    -- every vertex is reached
+    pub reach-versions : {mid s : List ℕ} → AllReached file → mid ≡ table leaving (length versions)
+        → s ≡ withRow mid entry (λ a. cond (not (isN (useOfByte (getD letters a 0))) || isInOrInout (kind file a)) (2 ^ initial file a) 0) (arrays file)
+        → CellsAlone file (reachGives file) s
+    reach-versions all e =
+        reach-row
+        (alone-table well leaving (vs .size) e
+        (λ a v in-a in-v.
+        leaving-at a v in-a in-v
+        ∙ sym (ap (λ (b : Bool). cond (b && isKept file a v) (2 ^ version file a v) 0) (is-true (isReached file v) (all .reached v in-v))))
+        leaving-beyond)
 
     pub reach-passes : {s : List ℕ} → s ≡ table (λ i. cond (eqb (leaving i) 0) everyVersion 0) (length versions) → Cells file (reachPasses file) s
     unfolding reachPasses

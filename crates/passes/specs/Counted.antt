@@ -40,6 +40,6 @@ KeptStops file r = Stops file true (leavingSet file) (λ a v. cond (passesKept f
 abbrev pub BroughtStops : List ℕ → ℕ → Type 0
 BroughtStops file r = Stops file false (broughtGives file) (broughtPasses file) r
 
--- the vertices that are reached are found before it: by a pass, or by none and r is 0, since all of them are
+-- the vertices that are reached are found first: by their pass, or by none and r is 0, since all of them are
 abbrev pub ReachedFirst : List ℕ → ℕ → Type 0
 ReachedFirst file r = ReachedStops file r ⊎ ((r ≡ 0) × AllReached file)

@@ -121,6 +121,27 @@ pub fn fill(
     }
 }
 
+// The same where every vertex is reached: each kept label gives its version.
+pub fn fill_everywhere(versions: &[Set], letters: &[u8], gives: &mut [Set], passes: &mut [Set])
+    requires { ⌜ length (now letters) ≡ length (now versions) ⌝ }
+    requires { ⌜ length (now gives) ≡ length (now versions) ⌝ }
+    requires { ⌜ length (now passes) ≡ length (now versions) ⌝ }
+    ensures { λ _. ⌜ now (gives .exit)
+        ≡ table (λ i. cond (not (isN (useOfByte (getD (now (letters .entry)) i 0)))) (getD (now (versions .entry)) i 0) 0) (length (now (versions .entry))) ⌝ }
+    ensures { λ _. ⌜ now (passes .exit)
+        ≡ table (λ i. cond (eqb (cond (not (isN (useOfByte (getD (now (letters .entry)) i 0)))) (getD (now (versions .entry)) i 0) 0) 0) everyVersion 0)
+        (length (now (versions .entry))) ⌝ }
+{
+    let n = versions.len();
+    let mut i = 0;
+    while i < n {
+        let given = event::set_if(letter::leaves(letters[i]), versions[i]);
+        gives[i] = given;
+        passes[i] = event::every_if(given == 0);
+        i += 1;
+    }
+}
+
 // The entry's row of what is given: the initial version of an array that comes with it, or whose entry label is kept.
 pub fn enter_gives(file: &[u8], h: Header, letters: &[u8], gives: &mut [Set])
     requires { ⌜ ReadAs (now file) h ⌝ }

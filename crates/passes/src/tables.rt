@@ -158,8 +158,8 @@ pub fn letters(
     rounds
 }
 
-// The reaching sets, and the rounds of both passes. `sets` first holds the table of reached vertices.
-pub fn reaching(
+// The reaching sets, where a pass is to find the vertices that are reached. `sets` first holds their table.
+fn reaching_after_pass(
     file: &[u8],
     h: Header,
     order: &[u16],
@@ -189,6 +189,69 @@ pub fn reaching(
         reached,
         sets: rounds,
     }
+}
+
+// The reaching sets, where every vertex is reached. Returns the number of rounds of their pass.
+fn reaching_everywhere(
+    file: &[u8],
+    h: Header,
+    order: &[u16],
+    versions: &[Set],
+    letters: &[u8],
+    sets: &mut [Set],
+    gives: &mut [Set],
+    passes: &mut [Set],
+) -> usize
+    requires { ⌜ ReadAs (now file) h ⌝ }
+    requires { ⌜ AllReached (now file) ⌝ }
+    requires { ⌜ EdgeOrder (now file) (now order) ⌝ }
+    requires { ⌜ Versions (now file) (now versions) ⌝ }
+    requires { ⌜ Letters (now file) (now letters) ⌝ }
+    requires { ⌜ length (now sets) ≡ 8 * vertices (now file) ⌝ }
+    requires { ⌜ length (now gives) ≡ 8 * vertices (now file) ⌝ }
+    requires { ⌜ length (now passes) ≡ 8 * vertices (now file) ⌝ }
+    ensures { λ _. ⌜ Cells (now (file .entry)) (reachingOf (now (file .entry))) (now (sets .exit)) ⌝ }
+    ensures { λ r. ⌜ ReachingStops (now (file .entry)) r ⌝ }
+{
+    reaching::fill_everywhere(versions, letters, gives, passes);
+    reaching::enter_gives(file, h, letters, gives);
+    let rounds = pass::solve(file, h, order, false, gives, passes, sets);
+    reaching::enter(file, h, sets);
+    rounds
+}
+
+// The reaching sets, and the rounds of both passes.
+pub fn reaching(
+    file: &[u8],
+    h: Header,
+    order: &[u16],
+    versions: &[Set],
+    letters: &[u8],
+    sets: &mut [Set],
+    gives: &mut [Set],
+    passes: &mut [Set],
+) -> Rounds
+    requires { ⌜ ReadAs (now file) h ⌝ }
+    requires { ⌜ EdgeOrder (now file) (now order) ⌝ }
+    requires { ⌜ Versions (now file) (now versions) ⌝ }
+    requires { ⌜ Letters (now file) (now letters) ⌝ }
+    requires { ⌜ length (now sets) ≡ 8 * vertices (now file) ⌝ }
+    requires { ⌜ length (now gives) ≡ 8 * vertices (now file) ⌝ }
+    requires { ⌜ length (now passes) ≡ 8 * vertices (now file) ⌝ }
+    ensures { λ _. ⌜ Cells (now (file .entry)) (reachingOf (now (file .entry))) (now (sets .exit)) ⌝ }
+    ensures { λ r. ⌜ ReachedFirst (now (file .entry)) (r .reached) ⌝ }
+    ensures { λ r. ⌜ ReachingStops (now (file .entry)) (r .sets) ⌝ }
+{
+    let n = h.vertices;
+    let everywhere = entered::all(file, h, &mut gives[..n]);
+    if everywhere {
+        let rounds = reaching_everywhere(file, h, order, versions, letters, sets, gives, passes);
+        return Rounds {
+            reached: 0,
+            sets: rounds,
+        };
+    }
+    reaching_after_pass(file, h, order, versions, letters, sets, gives, passes)
 }
 
 // The kept sets. Returns the number of rounds of their pass.

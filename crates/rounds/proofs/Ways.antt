@@ -44,7 +44,7 @@ pub counted-none : {routine : List ℕ} {p : Passes} {r : Refusal} → p .verdic
 counted-none is e = record {
   answers = is;
   letters-stop = not-passed e;
-  reached-stops = not-passed e;
+  reached-first = not-passed e;
   reaching-stops = not-passed e;
   kept-stops = not-passed e;
 }
@@ -56,7 +56,7 @@ four {p} c e = record {
   reaching = p .reaching;
   kept = p .kept;
   letters-stop = c .letters-stop e;
-  reached-stops = c .reached-stops e;
+  reached-first = c .reached-first e;
   reaching-stops = c .reaching-stops e;
   kept-stops = c .kept-stops e;
   are = refl;

@@ -12,7 +12,7 @@ use Rattle.calls.specs.Checks.{callsCheck}
 use Rattle.calls.specs.Expanded.{expanded}
 use Rattle.calls.specs.Referring.{referring}
 use Rattle.labels.specs.Checks.{programmerCheck}
-use Rattle.passes.specs.Counted.{LettersStop, ReachedStops, ReachingStops, KeptStops, BroughtStops, ReachedFirst}
+use Rattle.passes.specs.Counted.{LettersStop, ReachingStops, KeptStops, BroughtStops, ReachedFirst}
 use Rattle.refusal.specs.Checks.{_andThen_, holds}
 use Rattle.refusal.specs.Replies.{written, replyOutcome}
 use Rattle.refusal.specs.declared.Outcome.{Outcome}
@@ -39,7 +39,7 @@ pub record FourPasses (routine bytes : List ℕ) : Type 0 where
   pub reaching : ℕ
   pub kept : ℕ
   pub letters-stop : LettersStop routine letters
-  pub reached-stops : ReachedStops routine reached
+  pub reached-first : ReachedFirst routine reached
   pub reaching-stops : ReachingStops routine reaching
   pub kept-stops : KeptStops routine kept
   pub are : bytes ≡ fourBytes letters reached reaching kept
@@ -92,6 +92,6 @@ pub record Rounded (file before : List ℕ) (reply : Reply) (after : List ℕ) :
 pub record Counted (routine : List ℕ) (p : Passes) : Type 0 where
   pub answers : p .verdict ≡ programmerCheck routine
   pub letters-stop : p .verdict ≡ Passed → LettersStop routine (p .letters)
-  pub reached-stops : p .verdict ≡ Passed → ReachedStops routine (p .reached)
+  pub reached-first : p .verdict ≡ Passed → ReachedFirst routine (p .reached)
   pub reaching-stops : p .verdict ≡ Passed → ReachingStops routine (p .reaching)
   pub kept-stops : p .verdict ≡ Passed → KeptStops routine (p .kept)

@@ -28,7 +28,7 @@ const FOUR: usize = 8;
 
 const SIX: usize = 12;
 
-// Refusals 20 and 21, and the rounds of the four passes, 0 where 20 or 21 refuses.
+// Refusals 20 and 21, and the rounds of the four passes, 0 where 20 or 21 refuses; that of the reached vertices also if it was not needed.
 pub struct Passes {
     pub verdict: Verdict,
     pub letters: usize,

@@ -213,8 +213,8 @@ fn demanded(routine: &[u8], path: &[u8], report: &[u8]) -> Result<(), Difference
 /// The numbers of rounds that the documents tell, of routines without calls.
 static TOLD: LazyLock<[(Vec<u8>, [u16; 4]); 2]> = LazyLock::new(|| {
     [
-        (builder::p().bytes(), [2, 2, 2, 3]),
-        (limits::chain_both_ways().bytes(), [2, 2, 2, 255]),
+        (builder::p().bytes(), [2, 0, 2, 3]),
+        (limits::chain_both_ways().bytes(), [2, 0, 2, 255]),
     ]
 });
 

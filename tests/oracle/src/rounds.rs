@@ -250,10 +250,9 @@ impl Pass {
 fn passes(file: &Routine, routine: &Routine, labels: &impl Labels) -> Vec<Pass> {
     let mut passes = Vec::new();
     if file.call_count() > 0 {
-        let mut reached = reached("reached vertices of the file", file);
-        passes.push(arriving(file, &reached));
-        reached.made = !entered_from_earlier(file);
-        passes.insert(0, reached);
+        let reached = reached("reached vertices of the file", file);
+        let arriving = arriving(file, &reached);
+        passes.extend([reached, arriving]);
     }
     let mut at = vec![vec![None; routine.array_count()]; routine.vertex_count()];
     for (vertex, row) in at.iter_mut().enumerate() {
@@ -288,16 +287,19 @@ fn letters(routine: &Routine) -> Pass {
     })
 }
 
-/// Whether a path from the entry gets to a vertex.
+/// Whether a path from the entry gets to a vertex. Where each vertex but the entry is entered from
+/// an earlier one, no pass is made, and its number is 0.
 fn reached(name: &'static str, routine: &Routine) -> Pass {
-    Pass::along(name, routine, |vertex, _| (Set::from(vertex == 0), 1))
+    let pass = Pass::along(name, routine, |vertex, _| (Set::from(vertex == 0), 1));
+    let made = !entered_from_earlier(routine);
+    Pass { made, ..pass }
 }
 
 /// Whether each vertex but the entry is entered from one with a lower number.
-fn entered_from_earlier(file: &Routine) -> bool {
-    let mut entered = vec![false; file.vertex_count()];
+fn entered_from_earlier(routine: &Routine) -> bool {
+    let mut entered = vec![false; routine.vertex_count()];
     entered[0] = true;
-    for (from, to) in file.edges() {
+    for (from, to) in routine.edges() {
         entered[to] |= from < to;
     }
     entered.iter().all(|&entered| entered)

@@ -27,8 +27,8 @@ fn wrong(draft: &Draft, numbers: &[u16]) -> Option<String> {
 
 #[test]
 fn numbers_that_are_told() {
-    assert_eq!(numbers(&builder::p()), [2, 2, 2, 3]);
-    assert_eq!(numbers(&limits::chain_both_ways()), [2, 2, 2, 255]);
+    assert_eq!(numbers(&builder::p()), [2, 0, 2, 3]);
+    assert_eq!(numbers(&limits::chain_both_ways()), [2, 0, 2, 255]);
 }
 
 #[test]
@@ -41,26 +41,34 @@ fn both_forms_give_the_same() {
     }
 }
 
-/// A file with calls has six; its first pass is made only where a vertex needs it.
+/// A file with calls has six; the passes for reached vertices, of the file and of what it expands to,
+/// are made only where a vertex needs it.
 #[test]
 fn six_numbers_with_calls() {
-    assert_eq!(numbers(&builder::call()).len(), 6);
-    assert_eq!(numbers(&builder::call())[0], 0);
+    let reached = |draft: &Draft| match numbers(draft)[..] {
+        [of_file, _, _, of_expanded, _, _] => (of_file, of_expanded),
+        _ => panic!("six passes"),
+    };
+    assert_eq!(reached(&builder::call()), (0, 0));
     let unreached = builder::unreached_call(builder::call_in);
-    assert_eq!(numbers(&unreached)[0], 2);
+    assert_eq!(reached(&unreached), (2, 2));
 }
 
-/// 1 exactly if nothing is handed on; no more than if facts moved by one vertex a round; and, where
+/// 0 where no pass is made; else 1 exactly if nothing is handed on; no more than if facts moved by one vertex a round; and, where
 /// few edges matter, only what an order of them gives.
 #[test]
 fn numbers_that_no_order_gives() {
     let p = builder::p();
-    assert_eq!(wrong(&p, &[2, 2, 2, 2]), None);
+    assert_eq!(wrong(&p, &[2, 0, 2, 2]), None);
     assert_eq!(
-        wrong(&p, &[1, 2, 2, 3]).unwrap(),
+        wrong(&p, &[1, 0, 2, 3]).unwrap(),
         "letters: 1 rounds, any order takes 2 to 2"
     );
-    assert!(wrong(&p, &[2, 10, 2, 3]).is_some());
+    assert_eq!(
+        wrong(&p, &[2, 2, 2, 3]).unwrap(),
+        "reached vertices: 2 rounds, each vertex is entered from an earlier one"
+    );
+    assert!(wrong(&p, &[2, 0, 10, 3]).is_some());
     // Two vertices, and no edge: nothing is handed on.
     let still = Draft {
         arrays: vec![[builder::LOCAL, 1, 0, 0]],
@@ -72,10 +80,11 @@ fn numbers_that_no_order_gives() {
 }
 
 /// A chain of n vertices takes at most n rounds to be reached, whatever the order: those of the
-/// n - 1 edges, and the last.
+/// n - 1 edges, and the last. It is numbered backwards between its ends, so that the pass is made.
 #[test]
 fn a_chain_in_every_order() {
-    let chain = Draft::chain(builder::LOCAL, 1, 0, &[0; 4]);
+    let edges = [(0, 4), (1, 5), (2, 1), (3, 2), (4, 3)];
+    let chain = Draft::one_array(builder::LOCAL, 1, 0, &[0; 4], &edges);
     assert_eq!(chain.rows.len(), 6);
     let [letters, _, reaching, kept] = numbers(&chain)[..] else {
         panic!("four passes");

@@ -39,7 +39,7 @@ returns c =
         letters-are = not-passed f;
         reaching-are = not-passed f;
         letters-stop = not-passed f;
-        reached-stops = not-passed f;
+        reached-first = not-passed f;
         reaching-stops = not-passed f;
       },
     )
@@ -99,7 +99,7 @@ returns-2 c =
         letters-are = λ _. l .letters .ensures .0;
         reaching-are = λ _. r .reaching2 .ensures .0;
         letters-stop = λ _. l .letters .ensures .1;
-        reached-stops = λ _. r .reaching2 .ensures .1 .0;
+        reached-first = λ _. r .reaching2 .ensures .1 .0;
         reaching-stops = λ _. r .reaching2 .ensures .1 .1;
       },
     )

@@ -93,7 +93,7 @@ returns-2 c =
     record {
       answers = k .answers;
       letters-stop = k .letters-stop;
-      reached-stops = k .reached-stops;
+      reached-first = k .reached-first;
       reaching-stops = k .reaching-stops;
       kept-stops = λ _. t .kept .ensures .1;
     }

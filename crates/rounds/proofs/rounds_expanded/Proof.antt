@@ -135,7 +135,7 @@ write-six-requires c κs =
       omega (arith, ended q .before .if1 .left),
       (
         (few-first (referring file) m (x .reached-first passed), few (referring file) m (x .arriving-stops passed)),
-        (few (expanded file) n (p .letters-stop y), few (expanded file) n (p .reached-stops y), few (expanded file) n (p .reaching-stops y), few (expanded file) n (p .kept-stops y)),
+        (few (expanded file) n (p .letters-stop y), few-first (expanded file) n (p .reached-first y), few (expanded file) n (p .reaching-stops y), few (expanded file) n (p .kept-stops y)),
       ),
     )
 

@@ -1,7 +1,7 @@
 -- `rounds_plain` meets its contract: 20 and 21 are handed on, then comes the buffer's length, then the numbers.
 -- Assumes nothing.
 use native.Mathlib.Omega.{arith}
-use Rattle.rounds.proofs.Ways.{few, plain-denied, plain-short, plain-rounded}
+use Rattle.rounds.proofs.Ways.{few, few-first, plain-denied, plain-short, plain-rounded}
 use borrow.Author.Needs.{needs}
 use Rattle.rounds.proofs.rounds_plain.Statement.{statement}
 use Rattle.rounds.proofs.rounds_plain.Tie as tie
@@ -39,7 +39,7 @@ write-four-requires c κs =
     let n = s .pre .0 .well .laid .limits .few-vertices in
     let p = k .count .ensures in
     let y = e .enum-told .given .1 in
-    (omega (arith, c .before .if1 .left), (few file n (p .letters-stop y), few file n (p .reached-stops y), few file n (p .reaching-stops y), few file n (p .kept-stops y)))
+    (omega (arith, c .before .if1 .left), (few file n (p .letters-stop y), few-first file n (p .reached-first y), few file n (p .reaching-stops y), few file n (p .kept-stops y)))
 
 same-length : tie.Need-same-length
 same-length c = search needs

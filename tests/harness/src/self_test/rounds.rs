@@ -77,7 +77,7 @@ fn the_idle_round_not_counted() {
     fn faulty<const PASS: usize>(file: &[u8], out: &mut [u8]) -> Outcome {
         changed(file, out, |numbers| {
             let first = numbers.len() - 4;
-            numbers[first + PASS] -= 1;
+            numbers[first + PASS] = numbers[first + PASS].saturating_sub(1);
         })
     }
     for faulty in [faulty::<0>, faulty::<1>, faulty::<2>, faulty::<3>] {
@@ -124,7 +124,7 @@ fn more_than_the_vertices() {
 fn another_number_of_p() {
     fn faulty(file: &[u8], out: &mut [u8]) -> Outcome {
         changed(file, out, |numbers| {
-            if numbers == [2, 2, 2, 3] {
+            if numbers == [2, 0, 2, 3] {
                 numbers[3] = 2;
             }
         })
@@ -136,21 +136,29 @@ fn another_number_of_p() {
     assert!(is_wrong_number(&mismatch.fault.difference), "{mismatch}");
 }
 
-/// The first pass of a file with calls is made, and counted, where it need not be; or is not made
-/// where it must be.
+/// The pass for reached vertices, of a file with calls or of the routine that is planned, is made,
+/// and counted, where it need not be; or is not made where it must be.
 #[test]
-fn the_first_pass_of_calls() {
-    fn faulty<const MADE: bool>(file: &[u8], out: &mut [u8]) -> Outcome {
+fn the_pass_for_reached_vertices() {
+    fn faulty<const CALLS: bool, const MADE: bool>(file: &[u8], out: &mut [u8]) -> Outcome {
         changed(file, out, |numbers| {
-            if numbers.len() == 6 && (numbers[0] == 0) == MADE {
-                numbers[0] = if MADE { 2 } else { 0 };
+            let at = if CALLS { 0 } else { numbers.len() - 3 };
+            if (numbers.len() == 6 || !CALLS) && (numbers[at] == 0) == MADE {
+                numbers[at] = if MADE { 2 } else { 0 };
             }
         })
     }
-    for faulty in [faulty::<true>, faulty::<false>] {
+    for faulty in [
+        faulty::<true, true>,
+        faulty::<true, false>,
+        faulty::<false, true>,
+        faulty::<false, false>,
+    ] {
         let (mismatch, draft) = counter(faulty);
         assert!(is_wrong_number(&mismatch.fault.difference), "{mismatch}");
-        assert_eq!(draft.unwrap().rows.len(), 3, "{mismatch}");
+        let rows = draft.unwrap().rows;
+        let calls = rows.iter().any(|row| is_call(row));
+        assert_eq!(rows.len(), if calls { 3 } else { 2 }, "{mismatch}");
     }
 }
 

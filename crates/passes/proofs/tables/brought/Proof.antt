@@ -3,11 +3,12 @@
 use mathlib.Core.Path.{_≡_, refl, sym, _∙_}
 use mathlib.Core.List.{List, _++_}
 use mathlib.Core.Logic.{inl, inr}
-use Prim.Native.Nat.{ℕ, _+_, _≤_}
+use Prim.Native.Nat.{ℕ, _≤_}
 use native.Mathlib.Omega.{arith}
 use borrow.Author.Needs.{needs}
-use lib.ListN.{length, take, drop, length-append, length-drop}
+use lib.ListN.{length, take, drop}
 use lib.Seq.{length-take-le}
+use Rattle.passes.proofs.Marks.{marks-back}
 use Rattle.passes.proofs.tables.brought.Statement.{statement}
 use Rattle.passes.proofs.tables.brought.Tie as tie
 
@@ -21,11 +22,7 @@ part s = length-take-le (s .args .h .vertices) (s .args .gives .now) (room s)
 
 left : (s : tie.Start) (marks : List ℕ) → length marks ≡ length (take (s .args .h .vertices) (s .args .gives .now))
     → length (marks ++ drop (s .args .h .vertices) (s .args .gives .now)) ≡ length (s .args .gives .now)
-left s marks e =
-    let n = s .args .h .vertices in
-    let gives = s .args .gives .now in
-    let sum : length marks + length (drop n gives) ≡ length gives = omega (arith, e, part s, length-drop n gives, room s) in
-    length-append marks (drop n gives) ∙ sum
+left s marks e = marks-back (s .args .h .vertices) (s .args .gives .now) marks (room s) e
 
 slice-relend-prefix-all : tie.Need-slice-relend-prefix-all
 slice-relend-prefix-all c = search needs

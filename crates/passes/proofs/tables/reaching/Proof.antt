@@ -1,100 +1,114 @@
--- `tables::reaching` meets its contract: the reached vertices are found, both tables are filled and solved, and the entry has its own row in each.
+-- `tables::reaching` meets its contract, either way.
 -- Assumes nothing.
-use mathlib.Core.Path.{sym, _∙_}
+use mathlib.Core.Path.{_≡_, refl, sym, _∙_}
+use mathlib.Core.List.{_++_}
+use mathlib.Core.Logic.{inl, inr}
+use Prim.Native.Nat.{_≤_}
 use native.Mathlib.Omega.{arith}
-use Rattle.passes.proofs.Steps.{pass-stops, reach-gives, reach-passes, reaching-sets}
+use borrow.Author.Needs.{needs}
+use lib.ListN.{length, take, drop}
+use lib.Seq.{length-take-le}
+use Rattle.passes.proofs.Marks.{marks-back}
 use Rattle.passes.proofs.tables.reaching.Statement.{statement}
 use Rattle.passes.proofs.tables.reaching.Tie as tie
 
 -- from each call to the one before
-abbrev start : tie.After-reached → tie.Start
-start x = x .before .before .before .before .before .before .before .before .before .before .before
+abbrev start : tie.After-all → tie.Start
+start m = m .before .before .before .before .before .before .before .before .before
 
-abbrev reached : tie.After-fill → tie.After-reached
-reached f = f .before .before .before .before .before .before .before .before .before .before
+abbrev marked : tie.After-reaching-everywhere → tie.After-all
+marked r = r .before .before .before .before .before .before .before
 
-abbrev filled : tie.After-enter-gives → tie.After-fill
-filled g = g .before .before .before .before .before .before
+abbrev unmarked : tie.After-reaching-after-pass → tie.After-all
+unmarked r = r .before .before .before .before .before .before .before
 
-abbrev given : tie.After-solve → tie.After-enter-gives
-given v = v .before .before .before .before .before .before
+-- ---- the part of `gives` that the marks take
 
-reached-requires : tie.Need-reached-requires
-reached-requires c κs =
-    let p = c .before .before .before .before .before .before .before .before .before .before .pre in
-    (p .0, (p .1 .0, p .1 .1 .1 .1))
+room : (s : tie.Start) → s .args .h .vertices ≤ length (s .args .gives .now)
+room s = omega (arith, s .pre .0 .heads .vertices-are, s .pre .1 .1 .1 .1 .1 .0)
 
-fill-requires : tie.Need-fill-requires
-fill-requires c κs =
-    let x = c .before .before .before .before .before .before .before .before .before in
-    let q = start x .pre .1 .1 in
-    let all = sym (q .0 .size) in
-    (x .reached .ensures .0 .size ∙ all, (q .1 .0 .size ∙ all, (x .reached .kept .1 .1 .1 .1 .0 ∙ q .1 .1 .1 .0 ∙ all, x .reached .kept .1 .1 .1 .1 .1 .0 ∙ q .1 .1 .1 .1 ∙ all)))
+part : (s : tie.Start) → length (take (s .args .h .vertices) (s .args .gives .now)) ≡ s .args .h .vertices
+part s = length-take-le (s .args .h .vertices) (s .args .gives .now) (room s)
 
-enter-gives-requires : tie.Need-enter-gives-requires
-enter-gives-requires c κs =
-    let f = c .before .before .before .before .before in
-    let x = reached f in
-    let p = start x .pre in
-    let two = p .0 .well .laid .limits .two-vertices in
-    (p .0, (omega (arith, p .1 .1 .1 .0 .size, two), omega (arith, f .fill .kept .1 .1 .1 .0 ∙ x .reached .kept .1 .1 .1 .1 .0 ∙ p .1 .1 .1 .1 .1 .0, two)))
+left : (m : tie.After-all) → length (m .all .last .1 .1 .0 ++ drop (start m .args .h .vertices) (start m .args .gives .now)) ≡ length (start m .args .gives .now)
+left m =
+    let a = start m .args in
+    marks-back (a .h .vertices) (a .gives .now) (m .all .last .1 .1 .0) (room (start m)) (m .all .kept .1 .1 .0)
 
-solve-requires : tie.Need-solve-requires
-solve-requires c κs =
-    let g = c .before .before .before .before .before in
-    let f = filled g in
-    let x = reached f in
-    let p = start x .pre in
-    let q = p .1 .1 in
-    let well = p .0 .well in (
-      p .0,
-      (p .1 .0, (reach-gives well (q .0) (q .1 .0) (x .reached .ensures .0) (f .fill .ensures .0) (g .enter-gives .ensures) .size, (reach-passes well (q .0) (q .1 .0) (f .fill .ensures .1) .size, x .reached .ensures .0 .size))),
-    )
+slice-relend-prefix-all : tie.Need-slice-relend-prefix-all
+slice-relend-prefix-all c = search needs
 
-enter-requires : tie.Need-enter-requires
-enter-requires c κs =
-    let v = c .before .before .before in
-    let p = start (reached (filled (given v))) .pre in
-    (p .0, omega (arith, v .solve .ensures .0 .size, p .0 .well .laid .limits .two-vertices))
+slice-aggregate-all : tie.Need-slice-aggregate-all
+slice-aggregate-all c = sym (part (c .before .before .before .before .before .before .before .before))
+
+all-requires : tie.Need-all-requires
+all-requires c κs =
+    let s = c .before .before .before .before .before .before .before .before in
+    (s .pre .0, part s ∙ s .pre .0 .heads .vertices-are)
+
+-- ---- every vertex is reached
+
+reaching-everywhere-requires : tie.Need-reaching-everywhere-requires
+reaching-everywhere-requires c κs =
+    let m = c .before .before .before .before .before .before in
+    let p = start m .pre in
+    (p .0, (m .all .ensures (c .before .before .before .if1 .taken), (p .1 .0, (p .1 .1 .0, (p .1 .1 .1 .0, (p .1 .1 .1 .1 .0, (left m ∙ p .1 .1 .1 .1 .1 .0, p .1 .1 .1 .1 .1 .1)))))))
 
 same-length : tie.Need-same-length
-same-length c =
-    let v = c .before .before .before .before .before .before in
-    c .before .before .enter .kept .1 .1 .0 ∙ v .solve .kept .1 .1 .1 .1 .1 .1 .0 ∙ reached (filled (given v)) .reached .kept .1 .1 .1 .0
+same-length c = c .before .before .before .before .before .before .reaching-everywhere .kept .1 .1 .1 .1 .1 .0
 
 same-length-2 : tie.Need-same-length-2
 same-length-2 c =
-    let g = given (c .before .before .before .before .before .before) in
-    g .enter-gives .kept .1 .1 .1 .0 ∙ filled g .fill .kept .1 .1 .1 .0 ∙ reached (filled g) .reached .kept .1 .1 .1 .1 .0
+    let r = c .before .before .before .before .before .before in
+    r .reaching-everywhere .kept .1 .1 .1 .1 .1 .1 .0 ∙ left (marked r)
 
 same-length-3 : tie.Need-same-length-3
-same-length-3 c =
-    let f = filled (given (c .before .before .before .before .before .before)) in
-    f .fill .kept .1 .1 .1 .1 .0 ∙ reached f .reached .kept .1 .1 .1 .1 .1 .0
+same-length-3 c = c .before .before .before .before .before .before .reaching-everywhere .kept .1 .1 .1 .1 .1 .1 .1 .0
 
 returns : tie.Need-returns
 returns c =
-    let v = c .before .before .before .before .before .before in
-    let g = given v in
-    let f = filled g in
-    let x = reached f in
-    let p = start x .pre in
-    let q = p .1 .1 in
-    let well = p .0 .well in
-    let gives = reach-gives well (q .0) (q .1 .0) (x .reached .ensures .0) (f .fill .ensures .0) (g .enter-gives .ensures) in
-    let passes = reach-passes well (q .0) (q .1 .0) (f .fill .ensures .1) in
-    (reaching-sets well gives passes (v .solve .ensures .0) (c .before .before .enter .ensures), (x .reached .ensures .1, pass-stops well (p .1 .0) gives passes (v .solve .ensures .1)))
+    let r = c .before .before .before .before .before .before in
+    let e = r .reaching-everywhere .ensures in
+    (e .0, (inr (refl, marked r .all .ensures (r .before .before .before .before .if1 .taken)), e .1))
+
+-- ---- a pass is to find it
+
+reaching-after-pass-requires : tie.Need-reaching-after-pass-requires
+reaching-after-pass-requires c κs =
+    let m = c .before .before .before .before .before .before in
+    let p = start m .pre in
+    (p .0, (p .1 .0, (p .1 .1 .0, (p .1 .1 .1 .0, (p .1 .1 .1 .1 .0, (left m ∙ p .1 .1 .1 .1 .1 .0, p .1 .1 .1 .1 .1 .1))))))
+
+same-length-4 : tie.Need-same-length-4
+same-length-4 c = c .before .before .before .before .before .before .reaching-after-pass .kept .1 .1 .1 .1 .1 .0
+
+same-length-5 : tie.Need-same-length-5
+same-length-5 c =
+    let r = c .before .before .before .before .before .before in
+    r .reaching-after-pass .kept .1 .1 .1 .1 .1 .1 .0 ∙ left (unmarked r)
+
+same-length-6 : tie.Need-same-length-6
+same-length-6 c = c .before .before .before .before .before .before .reaching-after-pass .kept .1 .1 .1 .1 .1 .1 .1 .0
+
+returns-2 : tie.Need-returns-2
+returns-2 c =
+    let e = c .before .before .before .before .before .before .reaching-after-pass .ensures in
+    (e .0, (inl (e .1 .0), e .1 .1))
 
 pub reaching-spec : {M : Type 1} → statement M
 reaching-spec =
     tie.close
     (tie.spec
-    reached-requires
-    fill-requires
-    enter-gives-requires
-    solve-requires
-    enter-requires
+    slice-relend-prefix-all
+    slice-aggregate-all
+    all-requires
+    reaching-everywhere-requires
     same-length
     same-length-2
     same-length-3
-    returns)
+    returns
+    reaching-after-pass-requires
+    same-length-4
+    same-length-5
+    same-length-6
+    returns-2)

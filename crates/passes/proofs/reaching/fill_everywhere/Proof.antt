@@ -1,0 +1,104 @@
+-- `reaching::fill_everywhere` meets its contract: two tables are filled.
+-- Assumes nothing.
+use mathlib.Core.Path.{ap, _∙_}
+use mathlib.Core.Bool.{Bool, cond, not}
+use Prim.Native.Nat.{ℕ, _-_}
+use lib.Dec.{eqb}
+use lib.ListN.{getD}
+use Rattle.labels.specs.Letters.{useOfByte}
+use Rattle.labels.specs.Uses.{isN}
+use Rattle.words.proofs.Filling.{Filling, fill-begin, fill-next, fill-end}
+use native.Mathlib.Omega.{arith}
+use borrow.Author.Needs.{needs}
+use Rattle.passes.proofs.reaching.fill_everywhere.Statement.{statement}
+use Rattle.passes.proofs.reaching.fill_everywhere.Tie as tie
+use Rattle.sets.specs.Sets.{everyVersion}
+
+abbrev Inv-loop : tie.InvT-loop
+Inv-loop versions letters gives₀ passes₀ n i₀ gives passes i =
+    Filling (λ i. cond (not (isN (useOfByte (getD letters i 0)))) (getD versions i 0) 0) n gives₀ gives i
+    × Filling (λ i. cond (eqb (cond (not (isN (useOfByte (getD letters i 0)))) (getD versions i 0) 0) 0) everyVersion 0) n passes₀ passes i
+
+abbrev μ-loop : tie.MeasureT-loop
+μ-loop versions letters gives₀ passes₀ n i₀ gives passes i = n - i
+
+loop-holds : tie.Need-loop-holds Inv-loop μ-loop
+loop-holds c = (fill-begin _ (c .before .before .before .before .pre .1 .0), fill-begin _ (c .before .before .before .before .pre .1 .1))
+
+shared-slice-read-leaves : tie.Need-shared-slice-read-leaves Inv-loop μ-loop
+shared-slice-read-leaves c = omega arith
+
+leaves-requires : tie.Need-leaves-requires Inv-loop μ-loop
+leaves-requires c κs = search needs
+
+mul-set-if : tie.Need-mul-set-if Inv-loop μ-loop
+mul-set-if c = omega arith
+
+shared-slice-read-set-if : tie.Need-shared-slice-read-set-if Inv-loop μ-loop
+shared-slice-read-set-if c = omega arith
+
+set-if-requires : tie.Need-set-if-requires Inv-loop μ-loop
+set-if-requires c κs = search needs
+
+mul-gives : tie.Need-mul-gives Inv-loop μ-loop
+mul-gives c = omega arith
+
+slice-write-gives : tie.Need-slice-write-gives Inv-loop μ-loop
+slice-write-gives c = omega arith
+
+every-if-requires : tie.Need-every-if-requires Inv-loop μ-loop
+every-if-requires c κs = search needs
+
+mul-passes : tie.Need-mul-passes Inv-loop μ-loop
+mul-passes c = omega arith
+
+slice-write-passes : tie.Need-slice-write-passes Inv-loop μ-loop
+slice-write-passes c = omega arith
+
+add-i : tie.Need-add-i Inv-loop μ-loop
+add-i c = omega arith
+
+loop-less : tie.Need-loop-less Inv-loop μ-loop
+loop-less c = omega arith
+
+loop-again : tie.Need-loop-again Inv-loop μ-loop
+loop-again c =
+    let l = c .before .before .before .before .before .before in
+    let version = getD (l .before .before .before .before .before .args .versions .now) (l .loop .i) 0 in
+    let given = c .before .set-if .ensures ∙ ap (λ (b : Bool). cond b version 0) (c .before .before .before .leaves .ensures) in (
+      fill-next (l .loop .inv .0) (c .before .before .before .before .before .loop-test .taken) given,
+      fill-next (l .loop .inv .1) (c .before .before .before .before .before .loop-test .taken) (c .every-if .ensures ∙ ap (λ (x : ℕ). cond (eqb x 0) everyVersion 0) given),
+    )
+
+same-length : tie.Need-same-length Inv-loop μ-loop
+same-length c = omega arith
+
+same-length-2 : tie.Need-same-length-2 Inv-loop μ-loop
+same-length-2 c = omega arith
+
+returns : tie.Need-returns Inv-loop μ-loop
+returns c = (fill-end (c .before .loop .inv .0) (c .loop-test .left), fill-end (c .before .loop .inv .1) (c .loop-test .left))
+
+pub fill-everywhere-spec : {M : Type 1} → statement M
+fill-everywhere-spec =
+    tie.close
+    (tie.spec
+    Inv-loop
+    μ-loop
+    loop-holds
+    shared-slice-read-leaves
+    leaves-requires
+    mul-set-if
+    shared-slice-read-set-if
+    set-if-requires
+    mul-gives
+    slice-write-gives
+    every-if-requires
+    mul-passes
+    slice-write-passes
+    add-i
+    loop-less
+    loop-again
+    same-length
+    same-length-2
+    returns)
