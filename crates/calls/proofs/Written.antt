@@ -30,10 +30,10 @@ use Rattle.calls.specs.Interfaces.{Expandable}
 use Rattle.calls.specs.Parts.{expandedVertices, firstOf, lastOf}
 use Rattle.calls.specs.Writing.{Leaves, edgesUpTo, Placed, Onward, countBytes, headBytes}
 use Rattle.calls.specs.declared.edges.Place.{Place}
-use Rattle.calls.proofs.Bytes.{edges-size, arrays-are, vertices-are, edges-are}
+use Rattle.calls.proofs.Bytes.{edges-size, arrays-are, vertices-are, edges-are, ends-there}
 use Rattle.calls.proofs.Formed.{expanded-formed}
 use Rattle.calls.proofs.Joins.{from-rises, edges-count}
-use Rattle.calls.proofs.Parts.{first-next, call-last, plain-last, size-is, first-rises}
+use Rattle.calls.proofs.Parts.{first-next, call-last, plain-last, size-is, size-count, first-rises}
 use Rattle.calls.proofs.Referring.{entry-no-call}
 
 -- ---- bytes and lengths
@@ -264,6 +264,20 @@ module _ {file : List ℕ} (can : Expandable file) where
       let laid = can .well .laid in
       let e : arrays (expanded file) ≡ arrays file = arrays-are file laid in
       rw (e, vertices-are file laid, edges-are file laid)
+
+  pub expanded-size : length (expanded file) ≡ 18 + 4 * arrays file + expandedVertices file * arrays file + 4 * length (expandedEdges file)
+  expanded-size =
+      let laid = can .well .laid in
+      omega (arith, ends-there file laid, arrays-are file laid, ap₂ _*_ (vertices-are file laid) (arrays-are file laid), edges-are file laid)
+
+  -- each call has two vertices and two edges more
+  pub more-edges : length (expandedEdges file) + vertices file ≡ edges file + expandedVertices file
+  more-edges = omega (arith, edges-count file (can .well), size-is file, size-count file (vertices file))
+
+  pub no-shorter : length file ≤ length (expanded file)
+  no-shorter =
+      let more : vertices file ≤ expandedVertices file = omega (arith, size-is file, size-count file (vertices file)) in
+      omega (arith, can .well .laid .ends, expanded-size, more-edges, mul-le-mul-right (arrays file) more)
 
   -- at most 18 + 4 * 8 + 256 * 8 + 4 * 1,192 bytes
   pub size-few : 18 + 4 * arrays file + expandedVertices file * arrays file + 4 * length (expandedEdges file) ≤ 6866

@@ -66,7 +66,7 @@ pub fn write(
     requires { ⌜ vertices ≡ expandedVertices (now file) ⌝ }
     requires { ⌜ Firsts (now file) (now firsts) ⌝ }
     requires { ⌜ Arrivals (now file) (now arrivals) ⌝ }
-    requires { ⌜ 6866 ≤ length (now out) ⌝ }
+    requires { ⌜ length (expanded (now file)) ≤ length (now out) ⌝ }
     ensures { λ r. ⌜ r ≡ headerOf (expanded (now (file .entry))) ⌝ }
     ensures { λ _. ⌜ now (out .exit) ≡ wrote (now (out .entry)) (expanded (now (file .entry))) ⌝ }
 {

@@ -3,12 +3,13 @@
 -- Assumes nothing.
 use mathlib.Core.Path.{_≡_, sym, ap, _∙_}
 use mathlib.Core.List.{List}
-use Prim.Native.Nat.{ℕ, _≤_, _<_}
+use Prim.Native.Nat.{ℕ, _+_, _≤_, _<_}
 use native.Mathlib.Nat.{mul-le-mul-right}
 use native.Mathlib.Omega.{arith}
 use borrow.Author.Tests.{le-leb, lt-leb}
 use lib.ListN.{length}
 use Rattle.calls.proofs.Referring.{same-arrays, same-vertices, same-count, referring-formed}
+use Rattle.calls.proofs.Written.{expanded-size, more-edges, size-few}
 use Rattle.calls.specs.Checks.{check22, callsCheck}
 use Rattle.calls.specs.Expanded.{expanded}
 use Rattle.calls.specs.Interfaces.{Interfaces, Expandable}
@@ -26,7 +27,7 @@ use Rattle.passes.specs.Tables.{Cells}
 use Rattle.refusal.specs.declared.Refusal.{Refusal}
 use Rattle.refusal.specs.declared.Refusal.the-variants.{TooManyVertices}
 use Rattle.refusal.specs.declared.Verdict.the-variants.{Passed, Failed}
-use Rattle.routine.specs.Layout.{arrays, headerOf}
+use Rattle.routine.specs.Layout.{arrays, vertices, edges, headerOf}
 use Rattle.routine.specs.declared.header.Header.{Header}
 use Rattle.routine.specs.declared.reader.Answer.the-variants.{Routine, Refused}
 use Rattle.words.specs.Tables.{wrote}
@@ -65,12 +66,16 @@ module _ {file : List ℕ} {h : Header} (read : ReadAs file h) (interfaces : Int
     arriving-stops = j .brought-stops;
   }
 
--- ---- the buffer holds a file
+-- ---- the buffer
 
-pub file-fits : {file : List ℕ} → Expandable file → length file ≤ 6866
-file-fits {file} can =
-    let laid = can .well .laid in
-    omega (arith, laid .ends, laid .limits, can .few-edges, mul-le-mul-right (arrays file) (laid .limits .few-vertices))
+module _ {file : List ℕ} (can : Expandable file) where
+  -- for any file
+  pub fits : length (expanded file) ≤ 6866
+  fits = omega (arith, expanded-size can, size-few can)
+
+  -- at most 32 vertices and 128 edges
+  pub small-fits : expandedVertices file ≤ 32 → edges file + expandedVertices file ≤ 128 + vertices file → length (expanded file) ≤ 818
+  small-fits v e = omega (arith, expanded-size can, more-edges can, can .well .laid .limits .few-arrays, mul-le-mul-right (arrays file) v)
 
 -- ---- the answer
 

@@ -12,6 +12,7 @@ use sets::Set;
 ghost use mathlib.Core.Path.{_≡_};
 ghost use Prim.Native.Nat.{_*_, _≤_, _<_};
 ghost use lib.ListN.{length};
+ghost use Rattle.calls.specs.Expanded.{expanded};
 ghost use Rattle.calls.specs.Interfaces.{Interfaces, Expandable};
 ghost use Rattle.calls.specs.Parts.{expandedVertices};
 ghost use Rattle.calls.specs.Writing.{Firsts};
@@ -73,7 +74,7 @@ fn expand_with(
     requires { ⌜ Expandable (now file) ⌝ }
     requires { ⌜ Firsts (now file) (now firsts) ⌝ }
     requires { ⌜ count ≡ expandedVertices (now file) ⌝ }
-    requires { ⌜ length (now out) ≡ 6866 ⌝ }
+    requires { ⌜ length (expanded (now file)) ≤ length (now out) ⌝ }
     requires { ⌜ length (now order) ≡ edges (now file) ⌝ }
     requires { ⌜ length (now versions) ≡ 8 * vertices (now file) ⌝ }
     requires { ⌜ length (now uses) ≡ 8 * vertices (now file) ⌝ }
@@ -111,7 +112,7 @@ fn expand_with(
 }
 
 // The same with work slices that are large enough.
-fn expand_within(
+pub fn expand_within(
     file: &[u8],
     h: Header,
     firsts: &[u16],
@@ -128,7 +129,7 @@ fn expand_within(
     requires { ⌜ Expandable (now file) ⌝ }
     requires { ⌜ Firsts (now file) (now firsts) ⌝ }
     requires { ⌜ count ≡ expandedVertices (now file) ⌝ }
-    requires { ⌜ length (now out) ≡ 6866 ⌝ }
+    requires { ⌜ length (expanded (now file)) ≤ length (now out) ⌝ }
     requires { ⌜ edges (now file) ≤ length (now order) ⌝ }
     requires { ⌜ 8 * vertices (now file) ≤ length (now versions) ⌝ }
     requires { ⌜ 8 * vertices (now file) ≤ length (now uses) ⌝ }

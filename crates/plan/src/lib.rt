@@ -8,9 +8,12 @@ use routine::reader;
 use routine::reader::Answer;
 use sets::Set;
 ghost use mathlib.Core.Path.{_≡_};
-ghost use Prim.Native.Nat.{_*_, _≤_, _<_};
+ghost use Prim.Native.Nat.{_+_, _*_, _≤_, _<_};
 ghost use lib.ListN.{length};
 ghost use Rattle.calls.specs.Checks.{CallsRead};
+ghost use Rattle.calls.specs.Expanded.{expandedEdges, expanded};
+ghost use Rattle.calls.specs.Parts.{expandedVertices};
+ghost use Rattle.calls.specs.Writing.{Firsts};
 ghost use Rattle.labels.specs.Routines.{ReadAs};
 ghost use Rattle.planned.specs.Calls.{PlannedRead, Planned};
 ghost use Rattle.routine.specs.Layout.{vertices, edges};
@@ -191,12 +194,145 @@ fn plan_expanded(file: &[u8], h: Header, out: &mut [u8], work: &mut [u8]) -> Rep
 }
 
 // The same with bytes for any expanded routine.
-fn plan_calls(file: &[u8], h: Header, out: &mut [u8]) -> Reply
+fn plan_calls_large(file: &[u8], h: Header, out: &mut [u8]) -> Reply
     requires { ⌜ CallsRead (now file) h ⌝ }
     ensures { λ r. ⌜ Planned (now (file .entry)) (now (out .entry)) r (now (out .exit)) ⌝ }
 {
     let mut work = [0u8; 6866];
     plan_expanded(file, h, out, &mut work)
+}
+
+// Plans a file with calls in tables that are large enough for its expanded routine, which has `count` vertices: they serve the expansion
+// first.
+fn plan_calls_within(
+    file: &[u8],
+    h: Header,
+    count: usize,
+    out: &mut [u8],
+    work: &mut [u8],
+    order: &mut [u16],
+    versions: &mut [Set],
+    uses: &mut [Set],
+    letters: &mut [u8],
+    reaching: &mut [Set],
+    firsts: &mut [u16],
+    gives: &mut [Set],
+    passes: &mut [Set],
+) -> Reply
+    requires { ⌜ CallsRead (now file) h ⌝ }
+    requires { ⌜ Firsts (now file) (now firsts) ⌝ }
+    requires { ⌜ count ≡ expandedVertices (now file) ⌝ }
+    requires { ⌜ expandedVertices (now file) ≤ 256 ⌝ }
+    requires { ⌜ length (expanded (now file)) ≤ length (now work) ⌝ }
+    requires { ⌜ length (expandedEdges (now file)) ≤ length (now order) ⌝ }
+    requires { ⌜ 8 * expandedVertices (now file) ≤ length (now versions) ⌝ }
+    requires { ⌜ 8 * expandedVertices (now file) ≤ length (now uses) ⌝ }
+    requires { ⌜ 8 * expandedVertices (now file) ≤ length (now letters) ⌝ }
+    requires { ⌜ 8 * expandedVertices (now file) ≤ length (now reaching) ⌝ }
+    requires { ⌜ expandedVertices (now file) < length (now firsts) ⌝ }
+    requires { ⌜ 8 * expandedVertices (now file) ≤ length (now gives) ⌝ }
+    requires { ⌜ 8 * expandedVertices (now file) ≤ length (now passes) ⌝ }
+    ensures { λ r. ⌜ Planned (now (file .entry)) (now (out .entry)) r (now (out .exit)) ⌝ }
+{
+    let expanded = expansion::expand_within(
+        file,
+        h,
+        firsts,
+        count,
+        work,
+        order,
+        versions,
+        uses,
+        reaching,
+        gives,
+        passes,
+    );
+    let answer = expanded.answer;
+    let Answer::Routine(e) = answer else {
+        return reader::denied(answer);
+    };
+    let n = e.end_at();
+    plan_within(
+        &work[..n],
+        e,
+        out,
+        order,
+        versions,
+        uses,
+        letters,
+        reaching,
+        firsts,
+        gives,
+        passes,
+    )
+}
+
+// With tables for an expanded routine of at most 32 vertices and 128 edges.
+fn plan_calls_small(
+    file: &[u8],
+    h: Header,
+    count: usize,
+    firsts: &mut [u16],
+    out: &mut [u8],
+) -> Reply
+    requires { ⌜ CallsRead (now file) h ⌝ }
+    requires { ⌜ Firsts (now file) (now firsts) ⌝ }
+    requires { ⌜ count ≡ expandedVertices (now file) ⌝ }
+    requires { ⌜ length (now firsts) ≡ 33 ⌝ }
+    requires { ⌜ (count ≤ 32) × (h .edges + count ≤ 128 + h .vertices) ⌝ }
+    ensures { λ r. ⌜ Planned (now (file .entry)) (now (out .entry)) r (now (out .exit)) ⌝ }
+{
+    let mut work = [0u8; 818];
+    let mut order = [0u16; 128];
+    let mut versions = [0 as Set; 256];
+    let mut uses = [0 as Set; 256];
+    let mut letters = [0u8; 256];
+    let mut reaching = [0 as Set; 256];
+    let mut gives = [0 as Set; 256];
+    let mut passes = [0 as Set; 256];
+    plan_calls_within(
+        file,
+        h,
+        count,
+        out,
+        &mut work,
+        &mut order,
+        &mut versions,
+        &mut uses,
+        &mut letters,
+        &mut reaching,
+        firsts,
+        &mut gives,
+        &mut passes,
+    )
+}
+
+// A file of at most 32 vertices, with tables by what it expands to: each call has two vertices and two edges more.
+fn plan_calls_counted(file: &[u8], h: Header, firsts: &mut [u16], out: &mut [u8]) -> Reply
+    requires { ⌜ CallsRead (now file) h ⌝ }
+    requires { ⌜ h .vertices ≤ 32 ⌝ }
+    requires { ⌜ length (now firsts) ≡ 33 ⌝ }
+    ensures { λ r. ⌜ Planned (now (file .entry)) (now (out .entry)) r (now (out .exit)) ⌝ }
+{
+    let count = scan::fill_firsts(file, h, firsts);
+    if count > 32 {
+        return plan_calls_large(file, h, out);
+    }
+    if h.edges + count > 128 + h.vertices {
+        return plan_calls_large(file, h, out);
+    }
+    plan_calls_small(file, h, count, firsts, out)
+}
+
+fn plan_calls(file: &[u8], h: Header, out: &mut [u8]) -> Reply
+    requires { ⌜ CallsRead (now file) h ⌝ }
+    ensures { λ r. ⌜ Planned (now (file .entry)) (now (out .entry)) r (now (out .exit)) ⌝ }
+{
+    if h.vertices <= 32 {
+        let mut firsts = [0u16; 33];
+        return plan_calls_counted(file, h, &mut firsts, out);
+    }
+    plan_calls_large(file, h, out)
 }
 
 // Plans the routine in `file` into `out`.

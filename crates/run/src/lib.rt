@@ -11,9 +11,12 @@ use routine::reader;
 use routine::reader::Answer;
 use sets::Set;
 ghost use mathlib.Core.Path.{_≡_};
-ghost use Prim.Native.Nat.{_*_, _≤_};
+ghost use Prim.Native.Nat.{_+_, _*_, _≤_};
 ghost use lib.ListN.{length, replicate};
 ghost use Rattle.calls.specs.Checks.{CallsRead};
+ghost use Rattle.calls.specs.Expanded.{expandedEdges, expanded};
+ghost use Rattle.calls.specs.Parts.{expandedVertices};
+ghost use Rattle.calls.specs.Writing.{Firsts};
 ghost use Rattle.labels.specs.Checks.{programmerCheck};
 ghost use Rattle.labels.specs.Routines.{ReadAs};
 ghost use Rattle.routine.specs.Layout.{vertices, edges};
@@ -235,12 +238,164 @@ fn run_expanded(file: &[u8], h: Header, path: &[u8], out: &mut [u8], work: &mut 
 }
 
 // The same with bytes for any expanded routine.
-fn run_calls(file: &[u8], h: Header, path: &[u8], out: &mut [u8]) -> Reply
+fn run_calls_large(file: &[u8], h: Header, path: &[u8], out: &mut [u8]) -> Reply
     requires { ⌜ CallsRead (now file) h ⌝ }
     ensures { λ r. ⌜ Ran (now (file .entry)) (now (path .entry)) (now (out .entry)) r (now (out .exit)) ⌝ }
 {
     let mut work = [0u8; 6866];
     run_expanded(file, h, path, out, &mut work)
+}
+
+// Runs a path through what a file with calls expands to, which has `count` vertices, in tables that are large enough for it: they serve the
+// expansion first.
+fn run_calls_within(
+    file: &[u8],
+    h: Header,
+    firsts: &[u16],
+    count: usize,
+    path: &[u8],
+    out: &mut [u8],
+    work: &mut [u8],
+    order: &mut [u16],
+    versions: &mut [Set],
+    uses: &mut [Set],
+    letters: &mut [u8],
+    kept: &mut [Set],
+    counts: &mut [u8],
+    gives: &mut [Set],
+    passes: &mut [Set],
+    taken: &mut [u16],
+) -> Reply
+    requires { ⌜ CallsRead (now file) h ⌝ }
+    requires { ⌜ Firsts (now file) (now firsts) ⌝ }
+    requires { ⌜ count ≡ expandedVertices (now file) ⌝ }
+    requires { ⌜ expandedVertices (now file) ≤ 256 ⌝ }
+    requires { ⌜ length (expanded (now file)) ≤ length (now work) ⌝ }
+    requires { ⌜ length (expandedEdges (now file)) ≤ length (now order) ⌝ }
+    requires { ⌜ 8 * expandedVertices (now file) ≤ length (now versions) ⌝ }
+    requires { ⌜ 8 * expandedVertices (now file) ≤ length (now uses) ⌝ }
+    requires { ⌜ 8 * expandedVertices (now file) ≤ length (now letters) ⌝ }
+    requires { ⌜ 8 * expandedVertices (now file) ≤ length (now kept) ⌝ }
+    requires { ⌜ expandedVertices (now file) ≤ length (now counts) ⌝ }
+    requires { ⌜ 8 * expandedVertices (now file) ≤ length (now gives) ⌝ }
+    requires { ⌜ 8 * expandedVertices (now file) ≤ length (now passes) ⌝ }
+    requires { ⌜ length (expandedEdges (now file)) ≤ length (now taken) ⌝ }
+    requires { ⌜ now taken ≡ replicate (length (now taken)) 0 ⌝ }
+    ensures { λ r. ⌜ Ran (now (file .entry)) (now (path .entry)) (now (out .entry)) r (now (out .exit)) ⌝ }
+{
+    // here `kept` holds the versions that arrive
+    let expanded = expansion::expand_within(
+        file,
+        h,
+        firsts,
+        count,
+        work,
+        order,
+        versions,
+        uses,
+        kept,
+        gives,
+        passes,
+    );
+    let answer = expanded.answer;
+    let Answer::Routine(e) = answer else {
+        return reader::denied(answer);
+    };
+    let n = e.end_at();
+    run_within(
+        &work[..n],
+        e,
+        path,
+        out,
+        order,
+        versions,
+        uses,
+        letters,
+        kept,
+        counts,
+        gives,
+        passes,
+        taken,
+    )
+}
+
+// With tables for an expanded routine of at most 32 vertices and 128 edges.
+fn run_calls_small(
+    file: &[u8],
+    h: Header,
+    firsts: &[u16],
+    count: usize,
+    path: &[u8],
+    out: &mut [u8],
+) -> Reply
+    requires { ⌜ CallsRead (now file) h ⌝ }
+    requires { ⌜ Firsts (now file) (now firsts) ⌝ }
+    requires { ⌜ count ≡ expandedVertices (now file) ⌝ }
+    requires { ⌜ (count ≤ 32) × (h .edges + count ≤ 128 + h .vertices) ⌝ }
+    ensures { λ r. ⌜ Ran (now (file .entry)) (now (path .entry)) (now (out .entry)) r (now (out .exit)) ⌝ }
+{
+    let mut work = [0u8; 818];
+    let mut order = [0u16; 128];
+    let mut versions = [0 as Set; 256];
+    let mut uses = [0 as Set; 256];
+    let mut letters = [0u8; 256];
+    let mut kept = [0 as Set; 256];
+    let mut counts = [0u8; 32];
+    let mut gives = [0 as Set; 256];
+    let mut passes = [0 as Set; 256];
+    let mut taken = [0u16; 128];
+    run_calls_within(
+        file,
+        h,
+        firsts,
+        count,
+        path,
+        out,
+        &mut work,
+        &mut order,
+        &mut versions,
+        &mut uses,
+        &mut letters,
+        &mut kept,
+        &mut counts,
+        &mut gives,
+        &mut passes,
+        &mut taken,
+    )
+}
+
+// A file of at most 32 vertices, with tables by what it expands to: each call has two vertices and two edges more.
+fn run_calls_counted(
+    file: &[u8],
+    h: Header,
+    firsts: &mut [u16],
+    path: &[u8],
+    out: &mut [u8],
+) -> Reply
+    requires { ⌜ CallsRead (now file) h ⌝ }
+    requires { ⌜ h .vertices ≤ 32 ⌝ }
+    requires { ⌜ length (now firsts) ≡ 33 ⌝ }
+    ensures { λ r. ⌜ Ran (now (file .entry)) (now (path .entry)) (now (out .entry)) r (now (out .exit)) ⌝ }
+{
+    let count = scan::fill_firsts(file, h, firsts);
+    if count > 32 {
+        return run_calls_large(file, h, path, out);
+    }
+    if h.edges + count > 128 + h.vertices {
+        return run_calls_large(file, h, path, out);
+    }
+    run_calls_small(file, h, firsts, count, path, out)
+}
+
+fn run_calls(file: &[u8], h: Header, path: &[u8], out: &mut [u8]) -> Reply
+    requires { ⌜ CallsRead (now file) h ⌝ }
+    ensures { λ r. ⌜ Ran (now (file .entry)) (now (path .entry)) (now (out .entry)) r (now (out .exit)) ⌝ }
+{
+    if h.vertices <= 32 {
+        let mut firsts = [0u16; 33];
+        return run_calls_counted(file, h, &mut firsts, path, out);
+    }
+    run_calls_large(file, h, path, out)
 }
 
 // Runs `path` through the routine in `file`, and writes the report into `out`.

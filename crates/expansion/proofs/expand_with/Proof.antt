@@ -6,7 +6,8 @@ use native.Mathlib.Omega.{arith}
 use lib.ListN.{length, drop}
 use lib.Seq.{length-take-le, length-front}
 use borrow.Author.Needs.{needs}
-use Rattle.expansion.proofs.Ways.{file-fits, calls-refused, calls-expanded}
+use Rattle.calls.proofs.Written.{no-shorter}
+use Rattle.expansion.proofs.Ways.{calls-refused, calls-expanded}
 use Rattle.expansion.proofs.expand_with.Statement.{statement}
 use Rattle.expansion.proofs.expand_with.Tie as tie
 
@@ -15,15 +16,15 @@ start j = j .before .before .before .before .before .before .before .before .bef
 
 -- the file fits into the buffer
 slice-relend-prefix-judge : tie.Need-slice-relend-prefix-judge
-slice-relend-prefix-judge c = let s = c .before .before .before .before .before .before .before .before .before in omega (arith, file-fits (s .pre .1 .0), s .pre .1 .1 .1 .1 .0)
+slice-relend-prefix-judge c = let s = c .before .before .before .before .before .before .before .before .before in omega (arith, no-shorter (s .pre .1 .0), s .pre .1 .1 .1 .1 .0)
 
 slice-aggregate-judge : tie.Need-slice-aggregate-judge
-slice-aggregate-judge c = let s = c .before .before .before .before .before .before .before .before .before .before in sym (length-take-le (length (s .args .file .now)) (s .args .out .now) (omega (arith, file-fits (s .pre .1 .0), s .pre .1 .1 .1 .1 .0)))
+slice-aggregate-judge c = let s = c .before .before .before .before .before .before .before .before .before .before in sym (length-take-le (length (s .args .file .now)) (s .args .out .now) (omega (arith, no-shorter (s .pre .1 .0), s .pre .1 .1 .1 .1 .0)))
 
 judge-requires : tie.Need-judge-requires
 judge-requires c κs =
     let s = c .before .before .before .before .before .before .before .before .before .before .before .before .before .before .before .before in
-    (s .pre .0, (s .pre .1 .0 .interfaces, (length-take-le (length (s .args .file .now)) (s .args .out .now) (omega (arith, file-fits (s .pre .1 .0), s .pre .1 .1 .1 .1 .0)), s .pre .1 .1 .1 .1 .1)))
+    (s .pre .0, (s .pre .1 .0 .interfaces, (length-take-le (length (s .args .file .now)) (s .args .out .now) (omega (arith, no-shorter (s .pre .1 .0), s .pre .1 .1 .1 .1 .0)), s .pre .1 .1 .1 .1 .1)))
 
 enum-known-verdict : tie.Need-enum-known-verdict
 enum-known-verdict c = search needs

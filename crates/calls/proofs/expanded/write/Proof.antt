@@ -17,7 +17,7 @@ use Rattle.calls.specs.Parts.{expandedVertices}
 use Rattle.calls.specs.Writing.{headBytes}
 use Rattle.calls.proofs.Bytes.{edges-size, rows-size}
 use Rattle.calls.proofs.Formed.{expanded-formed}
-use Rattle.calls.proofs.Written.{expandedHeader, header-is, size-few, head-size, whole}
+use Rattle.calls.proofs.Written.{expandedHeader, header-is, expanded-size, size-few, head-size, whole}
 use Rattle.calls.proofs.expanded.write.Statement.{statement}
 use Rattle.calls.proofs.expanded.write.Tie as tie
 
@@ -42,7 +42,7 @@ row-bytes : (s : tie.Start) → s .args .vertices * s .args .h .arrays ≡ expan
 row-bytes s = ap₂ _*_ (s .pre .1 .1 .1 .1 .0) (s .pre .0 .heads .arrays-are)
 
 room : (c : tie.After-actions-at) → edgesFrom c + 4 * length (expandedEdges (start c .args .file .now)) ≤ length (old (start c))
-room c = omega (arith, rows-place c, row-bytes (start c), size-few (can (start c)), start c .pre .1 .1 .1 .1 .1 .1 .1)
+room c = omega (arith, rows-place c, row-bytes (start c), expanded-size (can (start c)), start c .pre .1 .1 .1 .1 .1 .1 .1)
 
 small : (c : tie.After-actions-at) → edgesFrom c ≤ 6866
 small c = omega (arith, rows-place c, row-bytes (start c), size-few (can (start c)))
@@ -104,10 +104,10 @@ header c =
 -- ---- the rows
 
 sub-write-2 : tie.Need-sub-write-2
-sub-write-2 c = search needs
+sub-write-2 c = let w = c .before .before in omega (arith, room (placed w), edges-length w)
 
 part-write-start-2 : tie.Need-part-write-start-2
-part-write-start-2 c = search needs
+part-write-start-2 c = sub-write-2 c
 
 part-write-end-2 : tie.Need-part-write-end-2
 part-write-end-2 c = search needs
