@@ -17,7 +17,7 @@ use Rattle.words.proofs.Sums.{each-fails}
 use Rattle.words.proofs.Tests.{cond-not}
 use Rattle.flow.specs.Cells.{Cells, Pass}
 use Rattle.flow.proofs.Cells.{cells-solved}
-use Rattle.sets.specs.Sets.{width, everyVersion}
+use Rattle.sets.specs.Sets.{width, everyHalf}
 use Rattle.labels.specs.Reaching.{isReachedOver}
 use Rattle.directives.specs.Directives.{directive}
 use Rattle.directives.specs.Fields.{DirectivesRead}
@@ -29,7 +29,9 @@ use Rattle.directives.specs.declared.vertex.Directive.the-variants.{Realign}
 use Rattle.mappings.specs.Computed.{redistributes, lastColumn}
 use Rattle.mappings.specs.Tables.{spreadColumn, Spreads}
 use Rattle.mappings.proofs.Formed.{formed}
-use Rattle.brought.specs.Cells.{realignsWith, spreadGives, spreadPasses, SpreadsTo}
+use Rattle.facts.proofs.Passing.{Passing, passing}
+use Rattle.facts.proofs.Rounds.{none-beyond}
+use Rattle.brought.specs.Cells.{realignsWith, isSpreader, spreadGives, spreadPasses, spreadHalves, SpreadsTo}
 
 -- ---- the cells of vertex v, by what the code finds there
 
@@ -42,10 +44,16 @@ module _ (file : List ℕ) (t v : ℕ) {given : Bool} (is : given ≡ redistribu
       ∙ ap₂ (λ (b : Bool) (y : ℕ). cond b y 0) (and-assoc reached (eqb v entry || given) (eqb (v / width) c)) one
       ∙ ap₂ (λ (b d : Bool). cond (b && ((eqb v entry || d) && eqb (v / width) c)) (2 ^ (v % width)) 0) r is
 
-  pub spread-passes : {x : ℕ} → x ≡ cond (not (eqb v entry || given)) everyVersion 0 → x ≡ spreadPasses file t v
-  unfolding spreadPasses
+  pub spread-passes : {x : ℕ} → x ≡ cond (not (eqb v entry || given)) everyHalf 0 → x ≡ spreadHalves file t v
+  unfolding spreadHalves
   spread-passes e =
-      e ∙ sym (cond-not (eqb v entry || given) 0 everyVersion) ∙ ap (λ (b : Bool). cond (eqb v entry || b) 0 everyVersion) is
+      e ∙ sym (cond-not (eqb v entry || given) 0 everyHalf) ∙ ap (λ (b : Bool). cond (eqb v entry || b) 0 everyHalf) is
+
+-- what is passed of each half is passed of both
+pub spread-passing : (file : List ℕ) (t : ℕ) {s : List ℕ} → Cells 8 (vertices file) (λ c v. spreadHalves file t v) s
+    → Passing 8 (vertices file) (λ c v. spreadPasses file t v) s
+unfolding spreadHalves spreadPasses
+spread-passing file t h = passing (le-refl 8) (λ c v. isSpreader file t v) h (none-beyond _ _)
 
 -- ---- what the pass leaves
 

@@ -7,7 +7,7 @@ use Prim.Native.Nat.{ℕ, _+_, _-_, _*_, _/_, _%_, _^_, _<_}
 use lib.Dec.{eqb}
 use lib.ListN.{length, getD}
 use Rattle.labels.specs.Reaching.{isReachedOver}
-use Rattle.sets.specs.Sets.{width, everyVersion}
+use Rattle.sets.specs.Sets.{width, everyVersion, everyHalf}
 use Rattle.directives.specs.Directives.{directive}
 use Rattle.directives.specs.Layout.{vertices, entry, edgeBytes}
 use Rattle.directives.specs.declared.array.Alignment.{Alignment}
@@ -55,6 +55,11 @@ spreadGives file t c v =
 unfoldable pub spreadPasses : List ℕ → ℕ → ℕ → ℕ
 unfolding directive
 spreadPasses file t v = cond (isSpreader file t v) 0 everyVersion
+
+-- what it passes of each half
+unfoldable pub spreadHalves : List ℕ → ℕ → ℕ → ℕ
+unfolding directive
+spreadHalves file t v = cond (isSpreader file t v) 0 everyHalf
 
 -- the columns of spreads where the templates below t are done
 pub record SpreadsTo (file : List ℕ) (t : ℕ) (s : List ℕ) : Type 0 where

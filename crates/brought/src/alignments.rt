@@ -8,7 +8,7 @@ use facts::directive;
 use facts::pass;
 use facts::reached;
 use labels::event;
-use sets::Set;
+use sets::Half;
 ghost use mathlib.Core.Path.{_≡_};
 ghost use mathlib.Core.Bool.{cond};
 ghost use Prim.Native.Nat.{_*_, _^_, _<_};
@@ -25,7 +25,7 @@ ghost use Rattle.brought.specs.Cells.{alignGives, alignPasses};
 ghost use Rattle.brought.specs.Counted.{AlignmentsStop};
 
 // All alignments: 2 for each of 8 templates.
-const EVERY: Set = 0xffff;
+const EVERY: Half = 0xffff;
 
 // The alignment that a realign gives; of another vertex the initial one.
 fn alignment_of(initial: Alignment, d: Directive) -> Alignment
@@ -39,16 +39,16 @@ fn alignment_of(initial: Alignment, d: Directive) -> Alignment
 }
 
 // An alignment as a set.
-fn single(x: Alignment) -> Set
+fn single(x: Alignment) -> Half
     requires { ⌜ (x .template < 8) × (x .exchanged < 2) ⌝ }
     ensures { λ r. ⌜ r ≡ 2 ^ code x ⌝ }
 {
     let k = 2 * x.template + x.exchanged;
-    sets::single(k as u8)
+    sets::single(k as u8) as Half
 }
 
 // What a vertex whose directive is d gives array a, if it is to give an alignment.
-fn given(file: &[u8], h: Header, a: usize, d: Directive, aligns: bool) -> Set
+fn given(file: &[u8], h: Header, a: usize, d: Directive, aligns: bool) -> Half
     requires { ⌜ DirectivesRead (now file) h ⌝ }
     requires { ⌜ a < arrays (now file) ⌝ }
     requires { ⌜ Right (now file) (alignmentOf (initialState (now file) .aligned a) d) ⌝ }
@@ -65,9 +65,9 @@ fn fill_row(
     file: &[u8],
     h: Header,
     v: usize,
-    reached: &[Set],
-    gives: &mut [Set],
-    passes: &mut [Set],
+    reached: &[Half],
+    gives: &mut [Half],
+    passes: &mut [Half],
 )
     requires { ⌜ DirectivesRead (now file) h ⌝ }
     requires { ⌜ v < vertices (now file) ⌝ }
@@ -85,13 +85,13 @@ fn fill_row(
         let at = flow::COLUMNS * v + a;
         let aligns = (v == 0) | directive::realigns(a, d);
         gives[at] = given(file, h, a, d, is_reached & aligns);
-        passes[at] = event::set_if(!aligns, EVERY);
+        passes[at] = event::half_if(!aligns, EVERY);
         a += 1;
     }
 }
 
 // The tables of the pass, where nothing stands in the columns of `gives` beyond the arrays.
-fn fill(file: &[u8], h: Header, reached: &[Set], gives: &mut [Set], passes: &mut [Set])
+fn fill(file: &[u8], h: Header, reached: &[Half], gives: &mut [Half], passes: &mut [Half])
     requires { ⌜ DirectivesRead (now file) h ⌝ }
     requires { ⌜ Reached (now file) (now reached) ⌝ }
     requires { ⌜ length (now gives) ≡ 8 * vertices (now file) ⌝ }
@@ -114,10 +114,10 @@ pub fn solve(
     file: &[u8],
     h: Header,
     order: &[u16],
-    reached: &[Set],
-    aligned: &mut [Set],
-    gives: &mut [Set],
-    passes: &mut [Set],
+    reached: &[Half],
+    aligned: &mut [Half],
+    gives: &mut [Half],
+    passes: &mut [Half],
 ) -> usize
     requires { ⌜ DirectivesRead (now file) h ⌝ }
     requires { ⌜ EdgeOrder (now file) (now order) ⌝ }

@@ -7,6 +7,7 @@ use facts::directive;
 use facts::pass;
 use facts::reached;
 use labels::event;
+use sets::Half;
 use sets::Set;
 ghost use mathlib.Core.Path.{_≡_};
 ghost use Prim.Native.Nat.{_+_, _*_, _≤_, _<_};
@@ -18,7 +19,7 @@ ghost use Rattle.directives.specs.Directives.{directive};
 ghost use Rattle.directives.specs.Fields.{DirectivesRead};
 ghost use Rattle.directives.specs.Layout.{vertices};
 ghost use Rattle.mappings.specs.Tables.{EdgeOrder, Reached, Spreads, spreadColumn};
-ghost use Rattle.brought.specs.Cells.{realignsWith, spreadGives, spreadPasses, SpreadsTo};
+ghost use Rattle.brought.specs.Cells.{realignsWith, spreadGives, spreadHalves, SpreadsTo};
 ghost use Rattle.brought.specs.Counted.{SpreadsAsked};
 
 // Whether a directive realigns an array with template t.
@@ -53,9 +54,9 @@ fn fill_row(
     h: Header,
     t: usize,
     v: usize,
-    reached: &[Set],
+    reached: &[Half],
     gives: &mut [Set],
-    passes: &mut [Set],
+    passes: &mut [Half],
 )
     requires { ⌜ DirectivesRead (now file) h ⌝ }
     requires { ⌜ v < vertices (now file) ⌝ }
@@ -63,7 +64,7 @@ fn fill_row(
     requires { ⌜ length (now gives) ≡ 8 * vertices (now file) ⌝ }
     requires { ⌜ length (now passes) ≡ 8 * vertices (now file) ⌝ }
     ensures { λ _. ⌜ now (gives .exit) ≡ withRow (now (gives .entry)) v (λ c. spreadGives (now (file .entry)) t c v) 8 ⌝ }
-    ensures { λ _. ⌜ now (passes .exit) ≡ withRow (now (passes .entry)) v (λ c. spreadPasses (now (file .entry)) t v) 8 ⌝ }
+    ensures { λ _. ⌜ now (passes .exit) ≡ withRow (now (passes .entry)) v (λ c. spreadHalves (now (file .entry)) t v) 8 ⌝ }
 {
     let gave = (v == 0) | directive::redistributes(t, vertex::at(file, h, v));
     let given = reached::is_reached(file, reached, v) & gave;
@@ -79,13 +80,13 @@ fn fill_row(
 }
 
 // The tables of the pass for template t.
-fn fill(file: &[u8], h: Header, t: usize, reached: &[Set], gives: &mut [Set], passes: &mut [Set])
+fn fill(file: &[u8], h: Header, t: usize, reached: &[Half], gives: &mut [Set], passes: &mut [Half])
     requires { ⌜ DirectivesRead (now file) h ⌝ }
     requires { ⌜ Reached (now file) (now reached) ⌝ }
     requires { ⌜ length (now gives) ≡ 8 * vertices (now file) ⌝ }
     requires { ⌜ length (now passes) ≡ 8 * vertices (now file) ⌝ }
     ensures { λ _. ⌜ Cells 8 (vertices (now (file .entry))) (λ c v. spreadGives (now (file .entry)) t c v) (now (gives .exit)) ⌝ }
-    ensures { λ _. ⌜ Cells 8 (vertices (now (file .entry))) (λ c v. spreadPasses (now (file .entry)) t v) (now (passes .exit)) ⌝ }
+    ensures { λ _. ⌜ Cells 8 (vertices (now (file .entry))) (λ c v. spreadHalves (now (file .entry)) t v) (now (passes .exit)) ⌝ }
 {
     let n = h.vertices;
     let mut v = 0;
@@ -133,11 +134,12 @@ fn solve_template(
     h: Header,
     order: &[u16],
     t: usize,
-    reached: &[Set],
+    reached: &[Half],
     spreads: &mut [Set],
     sets: &mut [Set],
-    gives: &mut [Set],
-    passes: &mut [Set],
+    gives: &mut [Half],
+    passes: &mut [Half],
+    halves: &mut [Half],
 ) -> usize
     requires { ⌜ DirectivesRead (now file) h ⌝ }
     requires { ⌜ EdgeOrder (now file) (now order) ⌝ }
@@ -146,6 +148,7 @@ fn solve_template(
     requires { ⌜ length (now sets) ≡ 8 * vertices (now file) ⌝ }
     requires { ⌜ length (now gives) ≡ 8 * vertices (now file) ⌝ }
     requires { ⌜ length (now passes) ≡ 8 * vertices (now file) ⌝ }
+    requires { ⌜ length (now halves) ≡ 8 * vertices (now file) ⌝ }
     ensures { λ _. ⌜ SpreadsTo (now (file .entry)) (t + 1) (now (spreads .exit)) ⌝ }
     ensures { λ r. ⌜ SpreadsAsked (now (file .entry)) t r ⌝ }
 {
@@ -153,22 +156,23 @@ fn solve_template(
     if !asked {
         return 0;
     }
-    fill(file, h, t, reached, gives, passes);
-    let rounds = pass::solve(file, h, order, gives, passes, sets);
+    fill(file, h, t, reached, sets, passes);
+    let rounds = pass::solve_sets(file, h, order, passes, sets, gives, halves);
     copy_asked(file, h, t, sets, spreads);
     rounds
 }
 
-// Fills in the eight columns. `sets`, `gives` and `passes` are work slices.
+// Fills in the eight columns. The slices behind `spreads` are work slices.
 pub fn solve(
     file: &[u8],
     h: Header,
     order: &[u16],
-    reached: &[Set],
+    reached: &[Half],
     spreads: &mut [Set],
     sets: &mut [Set],
-    gives: &mut [Set],
-    passes: &mut [Set],
+    gives: &mut [Half],
+    passes: &mut [Half],
+    halves: &mut [Half],
 )
     requires { ⌜ DirectivesRead (now file) h ⌝ }
     requires { ⌜ EdgeOrder (now file) (now order) ⌝ }
@@ -177,12 +181,24 @@ pub fn solve(
     requires { ⌜ length (now sets) ≡ 8 * vertices (now file) ⌝ }
     requires { ⌜ length (now gives) ≡ 8 * vertices (now file) ⌝ }
     requires { ⌜ length (now passes) ≡ 8 * vertices (now file) ⌝ }
+    requires { ⌜ length (now halves) ≡ 8 * vertices (now file) ⌝ }
     ensures { λ _. ⌜ Spreads (now (file .entry)) (now (spreads .exit)) ⌝ }
 {
     let n = h.templates;
     let mut t = 0;
     while t < n {
-        solve_template(file, h, order, t, reached, spreads, sets, gives, passes);
+        solve_template(
+            file,
+            h,
+            order,
+            t,
+            reached,
+            spreads,
+            sets,
+            gives,
+            passes,
+            halves,
+        );
         t += 1;
     }
 }

@@ -7,6 +7,7 @@ use refusal::Refusal;
 use refusal::Verdict;
 use routine::array;
 use routine::header::Header;
+use sets::Half;
 use sets::Set;
 ghost use mathlib.Core.Path.{_≡_};
 ghost use mathlib.Core.Bool.{not, _&&_};
@@ -43,36 +44,36 @@ pub struct Judgement {
 }
 
 // Whether a cell that gives this to the sets of use is a write that this mask looks for.
-fn is_write(uses: Set, mask: Set) -> bool
+fn is_write(uses: Half, mask: Half) -> bool
     ensures { λ r. ⌜ r ≡ not (eqb (bitAnd uses mask) 0) ⌝ }
 {
     uses & mask != 0
 }
 
 // Whether a cell that gives this to the sets of use is a reference, and two versions reach it.
-fn is_ambiguous(uses: Set, reaching: Set) -> bool
+fn is_ambiguous(uses: Half, reaching: Set) -> bool
     ensures { λ r. ⌜ r ≡ (has uses 0 && several reaching) ⌝ }
 {
-    sets::member(uses, 0) & sets::more_than_one(reaching)
+    (uses % 2 == 1) & sets::more_than_one(reaching)
 }
 
 // The masks by which 20 looks for writes: of an in argument bit 3, of any other array nothing.
-fn in_masks(file: &[u8], h: Header) -> [Set; flow::COLUMNS]
+fn in_masks(file: &[u8], h: Header) -> [Half; flow::COLUMNS]
     requires { ⌜ ReadAs (now file) h ⌝ }
     ensures { λ r. ⌜ InMasks (now (file .entry)) r ⌝ }
 {
-    let mut masks = [0 as Set; flow::COLUMNS];
+    let mut masks = [0 as Half; flow::COLUMNS];
     let m = h.arrays;
     let mut a = 0;
     while a < m {
-        masks[a] = event::set_if(array::record_of(file, a).is_in(), 0b1000);
+        masks[a] = event::half_if(array::record_of(file, a).is_in(), 0b1000);
         a += 1;
     }
     masks
 }
 
 // Whether the row of vertex v has a write of an in argument.
-fn row_writes(uses: &[Set], masks: [Set; flow::COLUMNS], v: usize) -> bool
+fn row_writes(uses: &[Half], masks: [Half; flow::COLUMNS], v: usize) -> bool
     requires { ⌜ 8 * v + 8 ≤ length (now uses) ⌝ }
     requires { ⌜ length masks ≡ 8 ⌝ }
     ensures { λ r. ⌜ r ≡ anyBelow (λ a. not (eqb (bitAnd (getD (now (uses .entry)) (8 * v + a) 0) (getD masks a 0)) 0)) 8 ⌝ }
@@ -92,8 +93,8 @@ fn check_writes_at(
     file: &[u8],
     h: Header,
     v: usize,
-    uses: &[Set],
-    masks: [Set; flow::COLUMNS],
+    uses: &[Half],
+    masks: [Half; flow::COLUMNS],
 ) -> Verdict
     requires { ⌜ ReadAs (now file) h ⌝ }
     requires { ⌜ UseGives (now file) (now uses) ⌝ }
@@ -122,8 +123,8 @@ fn check_writes_row(
     file: &[u8],
     h: Header,
     v: usize,
-    uses: &[Set],
-    masks: [Set; flow::COLUMNS],
+    uses: &[Half],
+    masks: [Half; flow::COLUMNS],
 ) -> Verdict
     requires { ⌜ ReadAs (now file) h ⌝ }
     requires { ⌜ UseGives (now file) (now uses) ⌝ }
@@ -139,7 +140,7 @@ fn check_writes_row(
 }
 
 // Refusal 20.
-fn check_writes(file: &[u8], h: Header, uses: &[Set]) -> Verdict
+fn check_writes(file: &[u8], h: Header, uses: &[Half]) -> Verdict
     requires { ⌜ ReadAs (now file) h ⌝ }
     requires { ⌜ UseGives (now file) (now uses) ⌝ }
     ensures { λ r. ⌜ r ≡ check20 (now (file .entry)) ⌝ }
@@ -158,7 +159,7 @@ fn check_writes(file: &[u8], h: Header, uses: &[Set]) -> Verdict
 }
 
 // Whether the row of vertex v has a reference that two versions reach.
-fn row_ambiguous(uses: &[Set], reaching: &[Set], v: usize) -> bool
+fn row_ambiguous(uses: &[Half], reaching: &[Set], v: usize) -> bool
     requires { ⌜ 8 * v + 8 ≤ length (now uses) ⌝ }
     requires { ⌜ 8 * v + 8 ≤ length (now reaching) ⌝ }
     ensures { λ r. ⌜ r ≡ anyBelow (λ a. has (getD (now (uses .entry)) (8 * v + a) 0) 0 && several (getD (now (reaching .entry)) (8 * v + a) 0)) 8 ⌝ }
@@ -174,7 +175,7 @@ fn row_ambiguous(uses: &[Set], reaching: &[Set], v: usize) -> bool
 }
 
 // The first ambiguous reference at vertex v.
-fn check_ambiguous_at(file: &[u8], h: Header, v: usize, uses: &[Set], reaching: &[Set]) -> Verdict
+fn check_ambiguous_at(file: &[u8], h: Header, v: usize, uses: &[Half], reaching: &[Set]) -> Verdict
     requires { ⌜ ReadAs (now file) h ⌝ }
     requires { ⌜ UseGives (now file) (now uses) ⌝ }
     requires { ⌜ v < vertices (now file) ⌝ }
@@ -198,7 +199,7 @@ fn check_ambiguous_at(file: &[u8], h: Header, v: usize, uses: &[Set], reaching: 
 }
 
 // Vertex v, array by array only if its row has an ambiguous reference.
-fn check_ambiguous_row(file: &[u8], h: Header, v: usize, uses: &[Set], reaching: &[Set]) -> Verdict
+fn check_ambiguous_row(file: &[u8], h: Header, v: usize, uses: &[Half], reaching: &[Set]) -> Verdict
     requires { ⌜ ReadAs (now file) h ⌝ }
     requires { ⌜ UseGives (now file) (now uses) ⌝ }
     requires { ⌜ v < vertices (now file) ⌝ }
@@ -213,7 +214,7 @@ fn check_ambiguous_row(file: &[u8], h: Header, v: usize, uses: &[Set], reaching:
 }
 
 // Refusal 21.
-fn check_ambiguous(file: &[u8], h: Header, uses: &[Set], reaching: &[Set]) -> Verdict
+fn check_ambiguous(file: &[u8], h: Header, uses: &[Half], reaching: &[Set]) -> Verdict
     requires { ⌜ ReadAs (now file) h ⌝ }
     requires { ⌜ UseGives (now file) (now uses) ⌝ }
     requires { ⌜ AtReferences (now file) (now reaching) ⌝ }
@@ -231,17 +232,18 @@ fn check_ambiguous(file: &[u8], h: Header, uses: &[Set], reaching: &[Set]) -> Ve
     Verdict::Passed
 }
 
-// Refusals 20 and 21. Where both pass, `letters` and `reaching` are left with their tables; `gives` and `passes` are work slices.
+// Refusals 20 and 21. Where both pass, `letters` and `reaching` are left with their tables; `gives`, `passes` and `halves` are work slices.
 fn check(
     file: &[u8],
     h: Header,
     order: &mut [u16],
     versions: &[Set],
-    uses: &[Set],
+    uses: &[Half],
     letters: &mut [u8],
     reaching: &mut [Set],
-    gives: &mut [Set],
-    passes: &mut [Set],
+    gives: &mut [Half],
+    passes: &mut [Half],
+    halves: &mut [Half],
 ) -> Prepared
     requires { ⌜ ReadAs (now file) h ⌝ }
     requires { ⌜ EdgeOrder (now file) (now order) ⌝ }
@@ -251,6 +253,7 @@ fn check(
     requires { ⌜ length (now reaching) ≡ 8 * vertices (now file) ⌝ }
     requires { ⌜ length (now gives) ≡ 8 * vertices (now file) ⌝ }
     requires { ⌜ length (now passes) ≡ 8 * vertices (now file) ⌝ }
+    requires { ⌜ length (now halves) ≡ 8 * vertices (now file) ⌝ }
     ensures { λ _. ⌜ EdgeOrder (now (file .entry)) (now (order .exit)) ⌝ }
     ensures { λ r. ⌜ Checked (now (file .entry)) r (now (letters .exit)) (now (reaching .exit)) ⌝ }
 {
@@ -263,9 +266,19 @@ fn check(
             reaching: 0,
         };
     }
-    let first = tables::letters(file, h, order, uses, letters, reaching, passes);
+    let first = tables::letters(file, h, order, uses, letters, halves, passes);
     pass::reorder(file, h, order, first);
-    let next = tables::reaching(file, h, order, versions, letters, reaching, gives, passes);
+    let next = tables::reaching(
+        file,
+        h,
+        order,
+        versions,
+        letters,
+        reaching,
+        gives,
+        passes,
+        halves,
+    );
     let verdict = check_ambiguous(file, h, uses, reaching);
     Prepared {
         verdict,
@@ -276,17 +289,18 @@ fn check(
 }
 
 // The order of the edges, the tables of events, then refusals 20 and 21. Where both pass, `letters` and `reaching` are left with their
-// tables; `uses`, `gives` and `passes` are work slices.
+// tables; `uses`, `gives`, `passes` and `halves` are work slices.
 pub fn prepare(
     file: &[u8],
     h: Header,
     order: &mut [u16],
     versions: &mut [Set],
-    uses: &mut [Set],
+    uses: &mut [Half],
     letters: &mut [u8],
     reaching: &mut [Set],
-    gives: &mut [Set],
-    passes: &mut [Set],
+    gives: &mut [Half],
+    passes: &mut [Half],
+    halves: &mut [Half],
 ) -> Prepared
     requires { ⌜ ReadAs (now file) h ⌝ }
     requires { ⌜ length (now order) ≡ edges (now file) ⌝ }
@@ -296,6 +310,7 @@ pub fn prepare(
     requires { ⌜ length (now reaching) ≡ 8 * vertices (now file) ⌝ }
     requires { ⌜ length (now gives) ≡ 8 * vertices (now file) ⌝ }
     requires { ⌜ length (now passes) ≡ 8 * vertices (now file) ⌝ }
+    requires { ⌜ length (now halves) ≡ 8 * vertices (now file) ⌝ }
     ensures { λ _. ⌜ EdgeOrder (now (file .entry)) (now (order .exit)) ⌝ }
     ensures { λ _. ⌜ Versions (now (file .entry)) (now (versions .exit)) ⌝ }
     ensures { λ r. ⌜ Checked (now (file .entry)) r (now (letters .exit)) (now (reaching .exit)) ⌝ }
@@ -312,6 +327,7 @@ pub fn prepare(
         reaching,
         gives,
         passes,
+        halves,
     )
 }
 
@@ -321,10 +337,11 @@ pub fn judge(
     h: Header,
     order: &mut [u16],
     versions: &mut [Set],
-    uses: &mut [Set],
+    uses: &mut [Half],
     brought: &mut [Set],
-    gives: &mut [Set],
-    passes: &mut [Set],
+    gives: &mut [Half],
+    passes: &mut [Half],
+    halves: &mut [Half],
 ) -> Judgement
     requires { ⌜ ReadAs (now file) h ⌝ }
     requires { ⌜ length (now order) ≡ edges (now file) ⌝ }
@@ -333,6 +350,7 @@ pub fn judge(
     requires { ⌜ length (now brought) ≡ 8 * vertices (now file) ⌝ }
     requires { ⌜ length (now gives) ≡ 8 * vertices (now file) ⌝ }
     requires { ⌜ length (now passes) ≡ 8 * vertices (now file) ⌝ }
+    requires { ⌜ length (now halves) ≡ 8 * vertices (now file) ⌝ }
     ensures { λ r. ⌜ Judged (now (file .entry)) r (now (brought .exit)) ⌝ }
 {
     pass::by_number(file, h, order);
@@ -345,7 +363,7 @@ pub fn judge(
             brought: 0,
         };
     }
-    let rounds = tables::brought(file, h, order, versions, brought, gives, passes);
+    let rounds = tables::brought(file, h, order, versions, brought, gives, passes, halves);
     let verdict = check_ambiguous(file, h, uses, brought);
     Judgement {
         verdict,

@@ -11,6 +11,7 @@ use numbering::numbers;
 use refusal::Refusal;
 use refusal::Reply;
 use refusal::Verdict;
+use sets::Half;
 use sets::Set;
 ghost use mathlib.Core.Path.{_≡_};
 ghost use Prim.Native.Nat.{ℕ, _*_, _≤_};
@@ -34,11 +35,12 @@ fn number(
     order: &mut [u16],
     given: &mut [Set],
     counts: &mut [u8],
-    reached: &mut [Set],
-    aligned: &mut [Set],
+    reached: &mut [Half],
+    aligned: &mut [Half],
     spreads: &mut [Set],
-    gives: &mut [Set],
-    passes: &mut [Set],
+    gives: &mut [Half],
+    passes: &mut [Half],
+    halves: &mut [Half],
 ) -> Verdict
     requires { ⌜ DirectivesRead (now file) h ⌝ }
     requires { ⌜ length (now order) ≡ edges (now file) ⌝ }
@@ -49,6 +51,7 @@ fn number(
     requires { ⌜ length (now spreads) ≡ 8 * vertices (now file) ⌝ }
     requires { ⌜ length (now gives) ≡ 8 * vertices (now file) ⌝ }
     requires { ⌜ length (now passes) ≡ 8 * vertices (now file) ⌝ }
+    requires { ⌜ length (now halves) ≡ 8 * vertices (now file) ⌝ }
     ensures { λ _. ⌜ EdgeOrder (now (file .entry)) (now (order .exit)) ⌝ }
     ensures { λ r. ⌜ r ≡ check41 (now (file .entry)) ⌝ }
     ensures { λ r. ⌜ AllNumbered (now (file .entry)) r (now (given .exit)) (now (counts .exit)) ⌝ }
@@ -57,7 +60,17 @@ fn number(
     reached::solve(file, h, order, reached, gives, passes);
     alignments::solve(file, h, order, reached, aligned, gives, passes);
     // `given` is a work slice until the mappings are numbered
-    spreads::solve(file, h, order, reached, spreads, given, gives, passes);
+    spreads::solve(
+        file,
+        h,
+        order,
+        reached,
+        spreads,
+        given,
+        gives,
+        passes,
+        halves,
+    );
     numbers::check(file, h, aligned, spreads, given, counts)
 }
 
@@ -68,10 +81,11 @@ fn judge(
     routine: &[u8],
     order: &mut [u16],
     versions: &mut [Set],
-    uses: &mut [Set],
+    uses: &mut [Half],
     brought: &mut [Set],
-    gives: &mut [Set],
-    passes: &mut [Set],
+    gives: &mut [Half],
+    passes: &mut [Half],
+    halves: &mut [Half],
 ) -> Verdict
     requires { ⌜ DirectivesRead (now file) h ⌝ }
     requires { ⌜ check41 (now file) ≡ Passed ⌝ }
@@ -83,10 +97,21 @@ fn judge(
     requires { ⌜ length (now brought) ≡ 8 * vertices (now file) ⌝ }
     requires { ⌜ length (now gives) ≡ 8 * vertices (now file) ⌝ }
     requires { ⌜ length (now passes) ≡ 8 * vertices (now file) ⌝ }
+    requires { ⌜ length (now halves) ≡ 8 * vertices (now file) ⌝ }
     ensures { λ r. ⌜ r ≡ programmerCheck (converted (now (file .entry))) ⌝ }
 {
     let r = writer::header_of(file, h);
-    let answer = checks::judge(routine, r, order, versions, uses, brought, gives, passes);
+    let answer = checks::judge(
+        routine,
+        r,
+        order,
+        versions,
+        uses,
+        brought,
+        gives,
+        passes,
+        halves,
+    );
     answer.verdict
 }
 
@@ -98,10 +123,11 @@ fn write_checked(
     order: &mut [u16],
     given: &mut [Set],
     counts: &[u8],
-    uses: &mut [Set],
+    uses: &mut [Half],
     brought: &mut [Set],
-    gives: &mut [Set],
-    passes: &mut [Set],
+    gives: &mut [Half],
+    passes: &mut [Half],
+    halves: &mut [Half],
 ) -> Reply
     requires { ⌜ DirectivesRead (now file) h ⌝ }
     requires { ⌜ check41 (now file) ≡ Passed ⌝ }
@@ -113,6 +139,7 @@ fn write_checked(
     requires { ⌜ length (now brought) ≡ 8 * vertices (now file) ⌝ }
     requires { ⌜ length (now gives) ≡ 8 * vertices (now file) ⌝ }
     requires { ⌜ length (now passes) ≡ 8 * vertices (now file) ⌝ }
+    requires { ⌜ length (now halves) ≡ 8 * vertices (now file) ⌝ }
     ensures { λ r. ⌜ Prepared (now (file .entry)) r (now (work .exit)) ⌝ }
 {
     let n = writer::write(file, h, given, counts, work);
@@ -126,6 +153,7 @@ fn write_checked(
         brought,
         gives,
         passes,
+        halves,
     );
     if let Verdict::Failed(refused) = judged {
         return Reply::Denied(refused);
@@ -141,11 +169,13 @@ fn convert_with(
     order: &mut [u16],
     given: &mut [Set],
     counts: &mut [u8],
-    reached: &mut [Set],
-    aligned: &mut [Set],
+    reached: &mut [Half],
+    aligned: &mut [Half],
     spreads: &mut [Set],
-    gives: &mut [Set],
-    passes: &mut [Set],
+    others: &mut [Set],
+    gives: &mut [Half],
+    passes: &mut [Half],
+    halves: &mut [Half],
 ) -> Reply
     requires { ⌜ DirectivesRead (now file) h ⌝ }
     requires { ⌜ length (now work) ≡ 6194 ⌝ }
@@ -155,8 +185,10 @@ fn convert_with(
     requires { ⌜ length (now reached) ≡ 8 * vertices (now file) ⌝ }
     requires { ⌜ length (now aligned) ≡ 8 * vertices (now file) ⌝ }
     requires { ⌜ length (now spreads) ≡ 8 * vertices (now file) ⌝ }
+    requires { ⌜ length (now others) ≡ 8 * vertices (now file) ⌝ }
     requires { ⌜ length (now gives) ≡ 8 * vertices (now file) ⌝ }
     requires { ⌜ length (now passes) ≡ 8 * vertices (now file) ⌝ }
+    requires { ⌜ length (now halves) ≡ 8 * vertices (now file) ⌝ }
     ensures { λ r. ⌜ Prepared (now (file .entry)) r (now (work .exit)) ⌝ }
 {
     let few = number(
@@ -170,11 +202,22 @@ fn convert_with(
         spreads,
         gives,
         passes,
+        halves,
     );
     if let Verdict::Failed(refused) = few {
         return Reply::Denied(refused);
     }
-    let single = check::check(file, h, order, given, aligned, spreads, gives, passes);
+    let single = check::check(
+        file,
+        h,
+        order,
+        given,
+        others,
+        spreads,
+        gives,
+        passes,
+        halves,
+    );
     if let Verdict::Failed(refused) = single {
         return Reply::Denied(refused);
     }
@@ -186,9 +229,10 @@ fn convert_with(
         given,
         counts,
         reached,
-        aligned,
+        others,
         gives,
         passes,
+        halves,
     )
 }
 
@@ -199,11 +243,13 @@ fn convert_within(
     work: &mut [u8],
     order: &mut [u16],
     given: &mut [Set],
-    reached: &mut [Set],
-    aligned: &mut [Set],
+    reached: &mut [Half],
+    aligned: &mut [Half],
     spreads: &mut [Set],
-    gives: &mut [Set],
-    passes: &mut [Set],
+    others: &mut [Set],
+    gives: &mut [Half],
+    passes: &mut [Half],
+    halves: &mut [Half],
 ) -> Reply
     requires { ⌜ DirectivesRead (now file) h ⌝ }
     requires { ⌜ length (now work) ≡ 6194 ⌝ }
@@ -212,8 +258,10 @@ fn convert_within(
     requires { ⌜ 8 * vertices (now file) ≤ length (now reached) ⌝ }
     requires { ⌜ 8 * vertices (now file) ≤ length (now aligned) ⌝ }
     requires { ⌜ 8 * vertices (now file) ≤ length (now spreads) ⌝ }
+    requires { ⌜ 8 * vertices (now file) ≤ length (now others) ⌝ }
     requires { ⌜ 8 * vertices (now file) ≤ length (now gives) ⌝ }
     requires { ⌜ 8 * vertices (now file) ≤ length (now passes) ⌝ }
+    requires { ⌜ 8 * vertices (now file) ≤ length (now halves) ⌝ }
     ensures { λ r. ⌜ Prepared (now (file .entry)) r (now (work .exit)) ⌝ }
 {
     let all = flow::COLUMNS * h.vertices;
@@ -229,8 +277,10 @@ fn convert_within(
         &mut reached[..all],
         &mut aligned[..all],
         &mut spreads[..all],
+        &mut others[..all],
         &mut gives[..all],
         &mut passes[..all],
+        &mut halves[..all],
     )
 }
 
@@ -242,11 +292,13 @@ fn convert_large(file: &[u8], h: Header, work: &mut [u8]) -> Reply
 {
     let mut order = [0u16; 1024];
     let mut given = [0 as Set; 2048];
-    let mut reached = [0 as Set; 2048];
-    let mut aligned = [0 as Set; 2048];
+    let mut reached = [0 as Half; 2048];
+    let mut aligned = [0 as Half; 2048];
     let mut spreads = [0 as Set; 2048];
-    let mut gives = [0 as Set; 2048];
-    let mut passes = [0 as Set; 2048];
+    let mut others = [0 as Set; 2048];
+    let mut gives = [0 as Half; 2048];
+    let mut passes = [0 as Half; 2048];
+    let mut halves = [0 as Half; 2048];
     convert_within(
         file,
         h,
@@ -256,8 +308,10 @@ fn convert_large(file: &[u8], h: Header, work: &mut [u8]) -> Reply
         &mut reached,
         &mut aligned,
         &mut spreads,
+        &mut others,
         &mut gives,
         &mut passes,
+        &mut halves,
     )
 }
 
@@ -270,11 +324,13 @@ fn convert_small(file: &[u8], h: Header, work: &mut [u8]) -> Reply
 {
     let mut order = [0u16; 128];
     let mut given = [0 as Set; 256];
-    let mut reached = [0 as Set; 256];
-    let mut aligned = [0 as Set; 256];
+    let mut reached = [0 as Half; 256];
+    let mut aligned = [0 as Half; 256];
     let mut spreads = [0 as Set; 256];
-    let mut gives = [0 as Set; 256];
-    let mut passes = [0 as Set; 256];
+    let mut others = [0 as Set; 256];
+    let mut gives = [0 as Half; 256];
+    let mut passes = [0 as Half; 256];
+    let mut halves = [0 as Half; 256];
     convert_within(
         file,
         h,
@@ -284,8 +340,10 @@ fn convert_small(file: &[u8], h: Header, work: &mut [u8]) -> Reply
         &mut reached,
         &mut aligned,
         &mut spreads,
+        &mut others,
         &mut gives,
         &mut passes,
+        &mut halves,
     )
 }
 

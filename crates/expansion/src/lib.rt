@@ -8,6 +8,7 @@ use refusal::Refusal;
 use refusal::Verdict;
 use routine::header::Header;
 use routine::reader::Answer;
+use sets::Half;
 use sets::Set;
 ghost use mathlib.Core.Path.{_≡_};
 ghost use Prim.Native.Nat.{_*_, _≤_, _<_};
@@ -36,10 +37,11 @@ fn judge(
     judged: &mut [u8],
     order: &mut [u16],
     versions: &mut [Set],
-    uses: &mut [Set],
+    uses: &mut [Half],
     brought: &mut [Set],
-    gives: &mut [Set],
-    passes: &mut [Set],
+    gives: &mut [Half],
+    passes: &mut [Half],
+    halves: &mut [Half],
 ) -> Judgement
     requires { ⌜ ReadAs (now file) h ⌝ }
     requires { ⌜ Interfaces (now file) ⌝ }
@@ -50,10 +52,21 @@ fn judge(
     requires { ⌜ length (now brought) ≡ 8 * vertices (now file) ⌝ }
     requires { ⌜ length (now gives) ≡ 8 * vertices (now file) ⌝ }
     requires { ⌜ length (now passes) ≡ 8 * vertices (now file) ⌝ }
+    requires { ⌜ length (now halves) ≡ 8 * vertices (now file) ⌝ }
     ensures { λ r. ⌜ JudgedCalls (now (file .entry)) r (now (brought .exit)) ⌝ }
 {
     references::write(file, h, judged);
-    checks::judge(judged, h, order, versions, uses, brought, gives, passes)
+    checks::judge(
+        judged,
+        h,
+        order,
+        versions,
+        uses,
+        brought,
+        gives,
+        passes,
+        halves,
+    )
 }
 
 // 20 and 21; then the expanded routine, which has `count` vertices. The front of `out` holds the file with calls as references for a time.
@@ -65,10 +78,11 @@ fn expand_with(
     out: &mut [u8],
     order: &mut [u16],
     versions: &mut [Set],
-    uses: &mut [Set],
+    uses: &mut [Half],
     brought: &mut [Set],
-    gives: &mut [Set],
-    passes: &mut [Set],
+    gives: &mut [Half],
+    passes: &mut [Half],
+    halves: &mut [Half],
 ) -> Expanded
     requires { ⌜ ReadAs (now file) h ⌝ }
     requires { ⌜ Expandable (now file) ⌝ }
@@ -81,6 +95,7 @@ fn expand_with(
     requires { ⌜ length (now brought) ≡ 8 * vertices (now file) ⌝ }
     requires { ⌜ length (now gives) ≡ 8 * vertices (now file) ⌝ }
     requires { ⌜ length (now passes) ≡ 8 * vertices (now file) ⌝ }
+    requires { ⌜ length (now halves) ≡ 8 * vertices (now file) ⌝ }
     ensures { λ r. ⌜ Expansion (now (file .entry)) r (now (out .exit)) ⌝ }
 {
     let size = file.len();
@@ -94,6 +109,7 @@ fn expand_with(
         brought,
         gives,
         passes,
+        halves,
     );
     let verdict = judged.verdict;
     if let Verdict::Failed(r) = verdict {
@@ -120,10 +136,11 @@ pub fn expand_within(
     out: &mut [u8],
     order: &mut [u16],
     versions: &mut [Set],
-    uses: &mut [Set],
+    uses: &mut [Half],
     brought: &mut [Set],
-    gives: &mut [Set],
-    passes: &mut [Set],
+    gives: &mut [Half],
+    passes: &mut [Half],
+    halves: &mut [Half],
 ) -> Expanded
     requires { ⌜ ReadAs (now file) h ⌝ }
     requires { ⌜ Expandable (now file) ⌝ }
@@ -136,6 +153,7 @@ pub fn expand_within(
     requires { ⌜ 8 * vertices (now file) ≤ length (now brought) ⌝ }
     requires { ⌜ 8 * vertices (now file) ≤ length (now gives) ⌝ }
     requires { ⌜ 8 * vertices (now file) ≤ length (now passes) ⌝ }
+    requires { ⌜ 8 * vertices (now file) ≤ length (now halves) ⌝ }
     ensures { λ r. ⌜ Expansion (now (file .entry)) r (now (out .exit)) ⌝ }
 {
     let all = flow::COLUMNS * h.vertices;
@@ -152,6 +170,7 @@ pub fn expand_within(
         &mut brought[..all],
         &mut gives[..all],
         &mut passes[..all],
+        &mut halves[..all],
     )
 }
 
@@ -166,10 +185,11 @@ fn expand_large(file: &[u8], h: Header, firsts: &[u16], count: usize, out: &mut 
 {
     let mut order = [0u16; Header::MAX_EDGES];
     let mut versions = [0 as Set; 2048];
-    let mut uses = [0 as Set; 2048];
+    let mut uses = [0 as Half; 2048];
     let mut brought = [0 as Set; 2048];
-    let mut gives = [0 as Set; 2048];
-    let mut passes = [0 as Set; 2048];
+    let mut gives = [0 as Half; 2048];
+    let mut passes = [0 as Half; 2048];
+    let mut halves = [0 as Half; 2048];
     expand_within(
         file,
         h,
@@ -182,6 +202,7 @@ fn expand_large(file: &[u8], h: Header, firsts: &[u16], count: usize, out: &mut 
         &mut brought,
         &mut gives,
         &mut passes,
+        &mut halves,
     )
 }
 
@@ -197,10 +218,11 @@ fn expand_small(file: &[u8], h: Header, firsts: &[u16], count: usize, out: &mut 
 {
     let mut order = [0u16; 128];
     let mut versions = [0 as Set; 256];
-    let mut uses = [0 as Set; 256];
+    let mut uses = [0 as Half; 256];
     let mut brought = [0 as Set; 256];
-    let mut gives = [0 as Set; 256];
-    let mut passes = [0 as Set; 256];
+    let mut gives = [0 as Half; 256];
+    let mut passes = [0 as Half; 256];
+    let mut halves = [0 as Half; 256];
     expand_within(
         file,
         h,
@@ -213,6 +235,7 @@ fn expand_small(file: &[u8], h: Header, firsts: &[u16], count: usize, out: &mut 
         &mut brought,
         &mut gives,
         &mut passes,
+        &mut halves,
     )
 }
 

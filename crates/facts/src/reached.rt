@@ -2,6 +2,7 @@
 use crate::pass;
 use directives::header::Header;
 use passes::reaching;
+use sets::Half;
 use sets::Set;
 ghost use mathlib.Core.Path.{_≡_};
 ghost use Prim.Native.Nat.{_*_, _<_};
@@ -17,9 +18,9 @@ pub fn solve(
     file: &[u8],
     h: Header,
     order: &[u16],
-    reached: &mut [Set],
-    gives: &mut [Set],
-    passes: &mut [Set],
+    reached: &mut [Half],
+    gives: &mut [Half],
+    passes: &mut [Half],
 ) -> usize
     requires { ⌜ DirectivesRead (now file) h ⌝ }
     requires { ⌜ EdgeOrder (now file) (now order) ⌝ }
@@ -34,12 +35,12 @@ pub fn solve(
 }
 
 // Whether v is the entry, or its row says that a path reaches it.
-pub fn is_reached(file: &[u8], reached: &[Set], v: usize) -> bool
+pub fn is_reached(file: &[u8], reached: &[Half], v: usize) -> bool
     requires { ⌜ Reached (now file) (now reached) ⌝ }
     requires { ⌜ v < vertices (now file) ⌝ }
     requires { ⌜ v < 256 ⌝ }
     ensures { λ r. ⌜ r ≡ isReachedOver (edgeBytes (now (file .entry))) (vertices (now (file .entry))) v ⌝ }
 {
     let at = flow::COLUMNS * v;
-    (v == 0) | sets::member(reached[at], 0)
+    (v == 0) | sets::member(reached[at] as Set, 0)
 }

@@ -294,7 +294,7 @@ module _ (es order : List ℕ) (along : Bool) (gives passes : List ℕ) (n : ℕ
   going-none t e = record { sets = e; most = zero-le; altered = λ j h. absurd (omega arith) }
 
   -- where a round altered none, no later one does
-  rest : (r : ℕ) → made (suc r) ≡ made r → (m : ℕ) → r ≤ m → made m ≡ made r
+  pub rest : (r : ℕ) → made (suc r) ≡ made r → (m : ℕ) → r ≤ m → made m ≡ made r
   unfolding rounds
   rest r same = le-ind (λ m. made m ≡ made r) refl (λ m h e. ap (λ (s : List ℕ). swept (relaxedRow es along gives passes) order along s (length order)) e ∙ same)
 

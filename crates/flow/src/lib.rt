@@ -1,7 +1,7 @@
 // Paths over the edges of a routine, and rounds over these edges that fill in sets: bit k is in the set of a vertex if a path from it,
 // through vertices that pass k, arrives at a vertex that gives k.
 // A table has eight columns, one for each array that a routine may have: the set of vertex v in column a stands at 8 v + a.
-use sets::Set;
+use sets::Half;
 ghost use mathlib.Core.Path.{_≡_};
 ghost use mathlib.Core.Bool.{true, false, not};
 ghost use Prim.Native.Nat.{_+_, _*_, _≤_, _<_};
@@ -21,7 +21,7 @@ pub const COLUMNS: usize = 8;
 pub const MAX_EDGES: usize = 1024 + 2 * 84;
 
 // Empties every set.
-pub fn clear(sets: &mut [Set])
+pub fn clear(sets: &mut [Half])
     ensures { λ r. ⌜ now (sets .exit) ≡ replicate (length (now (sets .entry))) 0 ⌝ }
 {
     for v in 0..sets.len() {
@@ -55,8 +55,8 @@ pub fn far_end(edges: &[u8], along: bool, i: usize) -> usize
 // chain the next edge asks for these sets, and has them here without reading what was just written.
 pub struct Carry {
     pub vertex: usize,
-    pub row: [Set; COLUMNS],
-    pub note: [Set; COLUMNS],
+    pub row: [Half; COLUMNS],
+    pub note: [Half; COLUMNS],
 }
 
 // Before the first edge, over a table of so many sets: a number that no vertex has, and nothing noted.
@@ -83,11 +83,11 @@ pub fn unnoted(last: Carry) -> Carry
 }
 
 // The sets of vertex v.
-fn row_at(sets: &[Set], v: usize) -> [Set; COLUMNS]
+fn row_at(sets: &[Half], v: usize) -> [Half; COLUMNS]
     requires { ⌜ 8 * v + 8 ≤ length (now sets) ⌝ }
     ensures { λ r. ⌜ r ≡ rowOf (now (sets .entry)) v ⌝ }
 {
-    let mut row = [0 as Set; COLUMNS];
+    let mut row = [0 as Half; COLUMNS];
     let mut a: usize = 0;
     while a < COLUMNS {
         let at = COLUMNS * v + a;
@@ -98,7 +98,7 @@ fn row_at(sets: &[Set], v: usize) -> [Set; COLUMNS]
 }
 
 // The same, where those of the last vertex are at hand.
-fn held_row(sets: &[Set], v: usize, last: Carry) -> [Set; COLUMNS]
+fn held_row(sets: &[Half], v: usize, last: Carry) -> [Half; COLUMNS]
     requires { ⌜ 8 * v + 8 ≤ length (now sets) ⌝ }
     requires { ⌜ Recent (now sets) last ⌝ }
     ensures { λ r. ⌜ r ≡ rowOf (now (sets .entry)) v ⌝ }
@@ -110,13 +110,13 @@ fn held_row(sets: &[Set], v: usize, last: Carry) -> [Set; COLUMNS]
 }
 
 // What vertex u hands on in each column, where it holds this row: what it gives, and what it holds and passes.
-fn handed(gives: &[Set], passes: &[Set], held: [Set; COLUMNS], u: usize) -> [Set; COLUMNS]
+fn handed(gives: &[Half], passes: &[Half], held: [Half; COLUMNS], u: usize) -> [Half; COLUMNS]
     requires { ⌜ 8 * u + 8 ≤ length (now gives) ⌝ }
     requires { ⌜ 8 * u + 8 ≤ length (now passes) ⌝ }
     ensures { λ r. ⌜ r
         ≡ table (λ a. bitOr (getD (now (gives .entry)) (8 * u + a) 0) (bitAnd (getD held a 0) (getD (now (passes .entry)) (8 * u + a) 0))) 8 ⌝ }
 {
-    let mut row = [0 as Set; COLUMNS];
+    let mut row = [0 as Half; COLUMNS];
     let mut a: usize = 0;
     while a < COLUMNS {
         let at = COLUMNS * u + a;
@@ -127,10 +127,10 @@ fn handed(gives: &[Set], passes: &[Set], held: [Set; COLUMNS], u: usize) -> [Set
 }
 
 // Two rows, joined.
-fn joined(held: [Set; COLUMNS], brought: [Set; COLUMNS]) -> [Set; COLUMNS]
+fn joined(held: [Half; COLUMNS], brought: [Half; COLUMNS]) -> [Half; COLUMNS]
     ensures { λ r. ⌜ r ≡ table (λ a. bitOr (getD held a 0) (getD brought a 0)) 8 ⌝ }
 {
-    let mut row = [0 as Set; COLUMNS];
+    let mut row = [0 as Half; COLUMNS];
     let mut a: usize = 0;
     while a < COLUMNS {
         row[a] = held[a] | brought[a];
@@ -140,20 +140,20 @@ fn joined(held: [Set; COLUMNS], brought: [Set; COLUMNS]) -> [Set; COLUMNS]
 }
 
 // A note, joined with what a row brought that another did not hold.
-fn noted(note: [Set; COLUMNS], brought: [Set; COLUMNS], held: [Set; COLUMNS]) -> [Set; COLUMNS]
+fn noted(note: [Half; COLUMNS], brought: [Half; COLUMNS], held: [Half; COLUMNS]) -> [Half; COLUMNS]
     ensures { λ r. ⌜ r ≡ table (λ a. bitOr (getD note a 0) (minus (getD brought a 0) (getD held a 0))) 8 ⌝ }
 {
-    let mut new = [0 as Set; COLUMNS];
+    let mut new = [0 as Half; COLUMNS];
     let mut a: usize = 0;
     while a < COLUMNS {
-        new[a] = note[a] | sets::difference(brought[a], held[a]);
+        new[a] = note[a] | sets::half_difference(brought[a], held[a]);
         a += 1;
     }
     new
 }
 
 // Puts a row in the place of vertex v's.
-fn put(sets: &mut [Set], v: usize, row: [Set; COLUMNS])
+fn put(sets: &mut [Half], v: usize, row: [Half; COLUMNS])
     requires { ⌜ 8 * v + 8 ≤ length (now sets) ⌝ }
     ensures { λ _. ⌜ now (sets .exit) ≡ withRow (now (sets .entry)) v (λ a. getD row a 0) 8 ⌝ }
 {
@@ -169,9 +169,9 @@ fn put(sets: &mut [Set], v: usize, row: [Set; COLUMNS])
 pub fn relax(
     edges: &[u8],
     along: bool,
-    gives: &[Set],
-    passes: &[Set],
-    sets: &mut [Set],
+    gives: &[Half],
+    passes: &[Half],
+    sets: &mut [Half],
     i: usize,
     last: Carry,
 ) -> Carry
@@ -200,10 +200,10 @@ pub fn relax(
 }
 
 // Whether a note has anything in it.
-pub fn any(note: [Set; COLUMNS]) -> bool
+pub fn any(note: [Half; COLUMNS]) -> bool
     ensures { λ r. ⌜ r ≡ not (eqb (inAll note 8) 0) ⌝ }
 {
-    let mut all: Set = 0;
+    let mut all: Half = 0;
     let mut a: usize = 0;
     while a < COLUMNS {
         all = all | note[a];
@@ -213,7 +213,7 @@ pub fn any(note: [Set; COLUMNS]) -> bool
 }
 
 // Takes every edge once along its direction, by falling place in the order. Says whether a set was altered.
-fn fall(edges: &[u8], order: &[u16], gives: &[Set], passes: &[Set], sets: &mut [Set]) -> bool
+fn fall(edges: &[u8], order: &[u16], gives: &[Half], passes: &[Half], sets: &mut [Half]) -> bool
     requires { ⌜ Order (edgeCount (now edges)) (now order) ⌝ }
     requires { ⌜ Tables (now edges) (now gives) (now passes) (now sets) ⌝ }
     ensures { λ r. ⌜ Advanced
@@ -233,7 +233,7 @@ fn fall(edges: &[u8], order: &[u16], gives: &[Set], passes: &[Set], sets: &mut [
 }
 
 // Takes every edge once against its direction, by rising place in the order. Says whether a set was altered.
-fn rise(edges: &[u8], order: &[u16], gives: &[Set], passes: &[Set], sets: &mut [Set]) -> bool
+fn rise(edges: &[u8], order: &[u16], gives: &[Half], passes: &[Half], sets: &mut [Half]) -> bool
     requires { ⌜ Order (edgeCount (now edges)) (now order) ⌝ }
     requires { ⌜ Tables (now edges) (now gives) (now passes) (now sets) ⌝ }
     ensures { λ r. ⌜ Advanced
@@ -256,9 +256,9 @@ pub fn round(
     edges: &[u8],
     order: &[u16],
     along: bool,
-    gives: &[Set],
-    passes: &[Set],
-    sets: &mut [Set],
+    gives: &[Half],
+    passes: &[Half],
+    sets: &mut [Half],
 ) -> bool
     requires { ⌜ Order (edgeCount (now edges)) (now order) ⌝ }
     requires { ⌜ Tables (now edges) (now gives) (now passes) (now sets) ⌝ }

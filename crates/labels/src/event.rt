@@ -5,6 +5,7 @@ use routine::action::Access;
 use routine::action::Action;
 use routine::array::ArrayRecord;
 use routine::header::Header;
+use sets::Half;
 use sets::Set;
 ghost use mathlib.Core.Path.{_≡_};
 ghost use mathlib.Core.Bool.{cond, not, _&&_};
@@ -14,7 +15,7 @@ ghost use Rattle.labels.specs.Routines.{OfArray};
 ghost use Rattle.labels.specs.Uses.{isN, useGives, passesBy};
 ghost use Rattle.routine.specs.Actions.{isRemap};
 ghost use Rattle.routine.specs.Layout.{vertices};
-ghost use Rattle.sets.specs.Sets.{everyVersion, width};
+ghost use Rattle.sets.specs.Sets.{everyHalf, width};
 
 // What vertex v does with array a, whose record is r.
 pub fn at(file: &[u8], h: Header, r: ArrayRecord, a: usize, v: usize) -> Action
@@ -84,15 +85,25 @@ pub fn version_set(x: Action) -> Set
     set_if(is_label(x), sets::single(version_of(x)))
 }
 
-// Every version, or none.
-pub fn every_if(pass: bool) -> Set
-    ensures { λ r. ⌜ r ≡ cond pass everyVersion 0 ⌝ }
+// The half of a set, or none of it.
+pub fn half_if(given: bool, half: Half) -> Half
+    ensures { λ r. ⌜ r ≡ cond given half 0 ⌝ }
 {
-    set_if(pass, sets::EVERY)
+    if given {
+        return half;
+    }
+    0
+}
+
+// Every version of a half, or none.
+pub fn every_if(pass: bool) -> Half
+    ensures { λ r. ⌜ r ≡ cond pass everyHalf 0 ⌝ }
+{
+    half_if(pass, sets::EVERY_HALF)
 }
 
 // What an event gives to the sets of use.
-pub fn gives_of(x: Action) -> Set
+pub fn gives_of(x: Action) -> Half
     ensures { λ r. ⌜ r ≡ useGives x ⌝ }
 {
     match x {
@@ -109,7 +120,7 @@ pub fn gives_of(x: Action) -> Set
 }
 
 // What an event that gives this passes of the sets of use: a label nothing, a define all but bit 1.
-pub fn passes_by(gives: Set) -> Set
+pub fn passes_by(gives: Half) -> Half
     ensures { λ r. ⌜ r ≡ passesBy gives ⌝ }
 {
     if gives == 0b0010 {

@@ -1,5 +1,6 @@
 // The letter of a label, from its set of use; and tests of its byte (document 01, "Labels").
 use crate::Use;
+use sets::Half;
 use sets::Set;
 ghost use mathlib.Core.Path.{_≡_};
 ghost use mathlib.Core.Bool.{not};
@@ -8,9 +9,10 @@ ghost use Rattle.labels.specs.Letters.{useOfByte};
 ghost use Rattle.labels.specs.Uses.{letterOf, isN};
 
 // The letter that a set of use says.
-pub fn of_set(set: Set) -> Use
-    ensures { λ r. ⌜ r ≡ letterOf set ⌝ }
+pub fn of_set(half: Half) -> Use
+    ensures { λ r. ⌜ r ≡ letterOf half ⌝ }
 {
+    let set = half as Set;
     let reference = sets::member(set, 0);
     if !reference {
         return Use::N;

@@ -18,7 +18,7 @@ use Rattle.words.proofs.Sums.{each-fails}
 use Rattle.words.proofs.Tables.{zeros-at}
 use Rattle.words.proofs.Tests.{one-more}
 use Rattle.sets.specs.Sets.{several}
-use Rattle.flow.specs.Cells.{Pass}
+use Rattle.flow.specs.Cells.{NoneBeyond, Pass}
 use Rattle.flow.proofs.Cells.{rowsTo, in-cells, cells-solved}
 use Rattle.directives.proofs.Limits.{read-heads}
 use Rattle.directives.specs.Directives.{directive}
@@ -27,9 +27,10 @@ use Rattle.directives.specs.Layout.{templates, arrays, vertices, edgeBytes}
 use Rattle.directives.specs.declared.header.Header.{Header}
 use Rattle.directives.specs.declared.vertex.Directive.{Directive}
 use Rattle.directives.specs.declared.vertex.Directive.the-variants.{Nothing, Realign, Redistribute}
-use Rattle.mappings.specs.Computed.{elsewhere, givenSet, heldSets, leftBy, leftSet}
+use Rattle.mappings.specs.Computed.{changes, elsewhere, givenSet, heldSets, leftBy, leftSet}
 use Rattle.mappings.specs.Tables.{ArrayCells, Given}
-use Rattle.left.specs.Cells.{heldGives, heldPasses, redistributesOther, othersBy, othersTo, othersAt}
+use Rattle.facts.proofs.Passing.{Passing, passing}
+use Rattle.left.specs.Cells.{heldGives, heldPasses, heldHalves, redistributesOther, othersBy, othersTo, othersAt}
 
 -- ---- by the header
 
@@ -61,6 +62,12 @@ pub cells-held : {file : List ℕ} {h : Header} (is : DirectivesRead file h) (t 
     → Pass (edgeBytes file) (vertices file) false gives passes held → ArrayCells file (λ a v. getD (heldSets file a t) v 0) held
 unfolding heldSets heldGives heldPasses
 cells-held {file} is t = cells-solved (few-columns is) (λ a v. heldGives file t a v (givenSet file a v)) (heldPasses file t)
+
+-- what is passed of each half is passed of both
+pub held-passing : {file : List ℕ} {h : Header} (is : DirectivesRead file h) (t : ℕ) {s : List ℕ} → ArrayCells file (heldHalves file t) s
+    → NoneBeyond (arrays file) (vertices file) s → Passing (arrays file) (vertices file) (heldPasses file t) s
+unfolding heldHalves heldPasses
+held-passing {file} is t = passing (few-columns is) (λ a v. changes a t (directive file v))
 
 -- ---- what a redistribute leaves
 

@@ -5,7 +5,7 @@ use mathlib.Core.Bool.{Bool, false, not, cond}
 use mathlib.Core.List.{List}
 use Prim.Native.Nat.{ℕ}
 use lib.Dec.{eqb}
-use Rattle.sets.specs.Sets.{everyVersion}
+use Rattle.sets.specs.Sets.{everyVersion, everyHalf}
 use Rattle.directives.specs.Directives.{directive}
 use Rattle.directives.specs.Layout.{entry}
 use Rattle.directives.specs.declared.vertex.Directive.{Directive}
@@ -23,6 +23,11 @@ heldGives file t a v given =
 unfoldable pub heldPasses : List ℕ → ℕ → ℕ → ℕ → ℕ
 unfolding directive
 heldPasses file t a v = cond (changes a t (directive file v)) 0 everyVersion
+
+-- what it passes of each half
+unfoldable pub heldHalves : List ℕ → ℕ → ℕ → ℕ → ℕ
+unfolding directive
+heldHalves file t a v = cond (changes a t (directive file v)) 0 everyHalf
 
 -- a redistribute of another template than t
 abbrev pub redistributesOther : ℕ → Directive → Bool

@@ -3,6 +3,7 @@ use crate::elsewhere;
 use directives::header::Header;
 use refusal::Refusal;
 use refusal::Verdict;
+use sets::Half;
 use sets::Set;
 ghost use mathlib.Core.Path.{_≡_};
 ghost use mathlib.Core.Bool.{not, cond};
@@ -72,7 +73,7 @@ fn check_rows(file: &[u8], h: Header, given: &[Set], others: &[Set]) -> Verdict
     Verdict::Passed
 }
 
-// Refusal 42. `others`, `held`, `gives` and `passes` are work slices.
+// Refusal 42. The slices behind `given` are work slices.
 pub fn check(
     file: &[u8],
     h: Header,
@@ -80,8 +81,9 @@ pub fn check(
     given: &[Set],
     others: &mut [Set],
     held: &mut [Set],
-    gives: &mut [Set],
-    passes: &mut [Set],
+    gives: &mut [Half],
+    passes: &mut [Half],
+    halves: &mut [Half],
 ) -> Verdict
     requires { ⌜ DirectivesRead (now file) h ⌝ }
     requires { ⌜ EdgeOrder (now file) (now order) ⌝ }
@@ -90,8 +92,9 @@ pub fn check(
     requires { ⌜ length (now held) ≡ 8 * vertices (now file) ⌝ }
     requires { ⌜ length (now gives) ≡ 8 * vertices (now file) ⌝ }
     requires { ⌜ length (now passes) ≡ 8 * vertices (now file) ⌝ }
+    requires { ⌜ length (now halves) ≡ 8 * vertices (now file) ⌝ }
     ensures { λ r. ⌜ r ≡ check42 (now (file .entry)) ⌝ }
 {
-    elsewhere::solve(file, h, order, given, others, held, gives, passes);
+    elsewhere::solve(file, h, order, given, others, held, gives, passes, halves);
     check_rows(file, h, given, others)
 }

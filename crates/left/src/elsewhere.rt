@@ -3,6 +3,7 @@ use crate::held;
 use directives::header::Header;
 use directives::vertex;
 use directives::vertex::Directive;
+use sets::Half;
 use sets::Set;
 ghost use mathlib.Core.Path.{_≡_};
 ghost use Prim.Native.Nat.{_+_, _*_, _≤_, _<_};
@@ -85,8 +86,9 @@ fn add_template(
     given: &[Set],
     others: &mut [Set],
     held: &mut [Set],
-    gives: &mut [Set],
-    passes: &mut [Set],
+    gives: &mut [Half],
+    passes: &mut [Half],
+    halves: &mut [Half],
 )
     requires { ⌜ DirectivesRead (now file) h ⌝ }
     requires { ⌜ EdgeOrder (now file) (now order) ⌝ }
@@ -95,17 +97,18 @@ fn add_template(
     requires { ⌜ length (now held) ≡ 8 * vertices (now file) ⌝ }
     requires { ⌜ length (now gives) ≡ 8 * vertices (now file) ⌝ }
     requires { ⌜ length (now passes) ≡ 8 * vertices (now file) ⌝ }
+    requires { ⌜ length (now halves) ≡ 8 * vertices (now file) ⌝ }
     ensures { λ _. ⌜ ArrayCells (now (file .entry)) (othersTo (now (file .entry)) (t + 1)) (now (others .exit)) ⌝ }
 {
     let asked = is_asked(file, h, t);
     if !asked {
         return;
     }
-    held::solve(file, h, order, t, given, held, gives, passes);
+    held::solve(file, h, order, t, given, held, gives, passes, halves);
     join(file, h, t, held, others);
 }
 
-// Fills in those of all templates. `held`, `gives` and `passes` are work slices.
+// Fills in those of all templates. The slices behind `others` are work slices.
 pub fn solve(
     file: &[u8],
     h: Header,
@@ -113,8 +116,9 @@ pub fn solve(
     given: &[Set],
     others: &mut [Set],
     held: &mut [Set],
-    gives: &mut [Set],
-    passes: &mut [Set],
+    gives: &mut [Half],
+    passes: &mut [Half],
+    halves: &mut [Half],
 )
     requires { ⌜ DirectivesRead (now file) h ⌝ }
     requires { ⌜ EdgeOrder (now file) (now order) ⌝ }
@@ -123,13 +127,25 @@ pub fn solve(
     requires { ⌜ length (now held) ≡ 8 * vertices (now file) ⌝ }
     requires { ⌜ length (now gives) ≡ 8 * vertices (now file) ⌝ }
     requires { ⌜ length (now passes) ≡ 8 * vertices (now file) ⌝ }
+    requires { ⌜ length (now halves) ≡ 8 * vertices (now file) ⌝ }
     ensures { λ _. ⌜ ArrayCells (now (file .entry)) (othersAt (now (file .entry))) (now (others .exit)) ⌝ }
 {
-    flow::clear(others);
+    halves::clear(others);
     let n = h.templates;
     let mut t = 0;
     while t < n {
-        add_template(file, h, order, t, given, others, held, gives, passes);
+        add_template(
+            file,
+            h,
+            order,
+            t,
+            given,
+            others,
+            held,
+            gives,
+            passes,
+            halves,
+        );
         t += 1;
     }
 }

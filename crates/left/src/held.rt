@@ -6,6 +6,7 @@ use directives::vertex::Directive;
 use facts::directive;
 use facts::pass;
 use labels::event;
+use sets::Half;
 use sets::Set;
 ghost use mathlib.Core.Path.{_≡_};
 ghost use Prim.Native.Nat.{_+_, _*_, _<_};
@@ -17,7 +18,7 @@ ghost use Rattle.directives.specs.Fields.{DirectivesRead};
 ghost use Rattle.directives.specs.Layout.{arrays, vertices};
 ghost use Rattle.mappings.specs.Computed.{heldSets};
 ghost use Rattle.mappings.specs.Tables.{EdgeOrder, ArrayCells, Given};
-ghost use Rattle.left.specs.Cells.{heldGives, heldPasses};
+ghost use Rattle.left.specs.Cells.{heldGives, heldHalves};
 ghost use Rattle.left.specs.Counted.{HeldStops};
 
 // What vertex v, whose directive is d and gives array a these versions, gives it with template t.
@@ -42,7 +43,7 @@ fn fill_row(
     v: usize,
     given: &[Set],
     gives: &mut [Set],
-    passes: &mut [Set],
+    passes: &mut [Half],
 )
     requires { ⌜ DirectivesRead (now file) h ⌝ }
     requires { ⌜ v < vertices (now file) ⌝ }
@@ -51,7 +52,7 @@ fn fill_row(
     requires { ⌜ length (now passes) ≡ 8 * vertices (now file) ⌝ }
     ensures { λ _. ⌜ now (gives .exit)
         ≡ withRow (now (gives .entry)) v (λ a. heldGives (now (file .entry)) t a v (getD (now (given .entry)) (8 * v + a) 0)) (arrays (now (file .entry))) ⌝ }
-    ensures { λ _. ⌜ now (passes .exit) ≡ withRow (now (passes .entry)) v (λ a. heldPasses (now (file .entry)) t a v) (arrays (now (file .entry))) ⌝ }
+    ensures { λ _. ⌜ now (passes .exit) ≡ withRow (now (passes .entry)) v (λ a. heldHalves (now (file .entry)) t a v) (arrays (now (file .entry))) ⌝ }
 {
     let d = vertex::at(file, h, v);
     let spread = directive::redistributes(t, d);
@@ -65,16 +66,18 @@ fn fill_row(
     }
 }
 
-// The tables of the pass, where nothing stands in the columns of `gives` beyond the arrays.
-fn fill(file: &[u8], h: Header, t: usize, given: &[Set], gives: &mut [Set], passes: &mut [Set])
+// The tables of the pass, where nothing stands in the columns beyond the arrays.
+fn fill(file: &[u8], h: Header, t: usize, given: &[Set], gives: &mut [Set], passes: &mut [Half])
     requires { ⌜ DirectivesRead (now file) h ⌝ }
     requires { ⌜ Given (now file) (now given) ⌝ }
     requires { ⌜ length (now gives) ≡ 8 * vertices (now file) ⌝ }
     requires { ⌜ length (now passes) ≡ 8 * vertices (now file) ⌝ }
     requires { ⌜ NoneBeyond (arrays (now file)) (vertices (now file)) (now gives) ⌝ }
+    requires { ⌜ NoneBeyond (arrays (now file)) (vertices (now file)) (now passes) ⌝ }
     ensures { λ _. ⌜ ArrayCells (now (file .entry)) (λ a v. heldGives (now (file .entry)) t a v (getD (now (given .entry)) (8 * v + a) 0)) (now (gives .exit)) ⌝ }
-    ensures { λ _. ⌜ ArrayCells (now (file .entry)) (heldPasses (now (file .entry)) t) (now (passes .exit)) ⌝ }
+    ensures { λ _. ⌜ ArrayCells (now (file .entry)) (heldHalves (now (file .entry)) t) (now (passes .exit)) ⌝ }
     ensures { λ _. ⌜ NoneBeyond (arrays (now (file .entry))) (vertices (now (file .entry))) (now (gives .exit)) ⌝ }
+    ensures { λ _. ⌜ NoneBeyond (arrays (now (file .entry))) (vertices (now (file .entry))) (now (passes .exit)) ⌝ }
 {
     let n = h.vertices;
     let mut v = 0;
@@ -84,7 +87,7 @@ fn fill(file: &[u8], h: Header, t: usize, given: &[Set], gives: &mut [Set], pass
     }
 }
 
-// Fills in the versions. `gives` and `passes` are work slices. Returns the number of rounds.
+// Fills in the versions. The slices behind `held` are work slices. Returns the number of rounds.
 pub fn solve(
     file: &[u8],
     h: Header,
@@ -92,8 +95,9 @@ pub fn solve(
     t: usize,
     given: &[Set],
     held: &mut [Set],
-    gives: &mut [Set],
-    passes: &mut [Set],
+    gives: &mut [Half],
+    passes: &mut [Half],
+    halves: &mut [Half],
 ) -> usize
     requires { ⌜ DirectivesRead (now file) h ⌝ }
     requires { ⌜ EdgeOrder (now file) (now order) ⌝ }
@@ -101,10 +105,12 @@ pub fn solve(
     requires { ⌜ length (now held) ≡ 8 * vertices (now file) ⌝ }
     requires { ⌜ length (now gives) ≡ 8 * vertices (now file) ⌝ }
     requires { ⌜ length (now passes) ≡ 8 * vertices (now file) ⌝ }
+    requires { ⌜ length (now halves) ≡ 8 * vertices (now file) ⌝ }
     ensures { λ _. ⌜ ArrayCells (now (file .entry)) (λ a v. getD (heldSets (now (file .entry)) a t) v 0) (now (held .exit)) ⌝ }
     ensures { λ r. ⌜ HeldStops (now (file .entry)) t r ⌝ }
 {
-    flow::clear(gives);
-    fill(file, h, t, given, gives, passes);
-    pass::solve(file, h, order, gives, passes, held)
+    halves::clear(held);
+    flow::clear(passes);
+    fill(file, h, t, given, held, passes);
+    pass::solve_sets(file, h, order, passes, held, gives, halves)
 }

@@ -7,6 +7,7 @@ use directives::header::Header;
 use directives::spread::Mapping;
 use directives::vertex;
 use directives::vertex::Directive;
+use sets::Half;
 use sets::Set;
 ghost use mathlib.Core.Path.{_≡_};
 ghost use mathlib.Core.Bool.{cond};
@@ -104,7 +105,7 @@ pub fn add(
     h: Header,
     a: usize,
     v: usize,
-    aligned: &[Set],
+    aligned: &[Half],
     spreads: &[Set],
     list: &mut [usize],
     count: usize,
@@ -122,7 +123,7 @@ pub fn add(
     let d = vertex::at(file, h, v);
     if let Directive::Redistribute(t, m) = d {
         let at = flow::COLUMNS * v + a;
-        return redistributed(t, m, aligned[at], list, p);
+        return redistributed(t, m, aligned[at] as Set, list, p);
     }
     if let Directive::Realign(b, x) = d {
         if a == b {

@@ -5,6 +5,7 @@ use crate::mapping;
 use directives::header::Header;
 use refusal::Refusal;
 use refusal::Verdict;
+use sets::Half;
 use sets::Set;
 ghost use mathlib.Core.Path.{_≡_};
 ghost use Prim.Native.Nat.{_*_, _<_};
@@ -21,7 +22,7 @@ fn number_with(
     file: &[u8],
     h: Header,
     a: usize,
-    aligned: &[Set],
+    aligned: &[Half],
     spreads: &[Set],
     given: &mut [Set],
     list: &mut [usize],
@@ -53,7 +54,7 @@ fn number_array(
     file: &[u8],
     h: Header,
     a: usize,
-    aligned: &[Set],
+    aligned: &[Half],
     spreads: &[Set],
     given: &mut [Set],
 ) -> usize
@@ -72,7 +73,7 @@ fn number_array(
 pub fn check(
     file: &[u8],
     h: Header,
-    aligned: &[Set],
+    aligned: &[Half],
     spreads: &[Set],
     given: &mut [Set],
     counts: &mut [u8],

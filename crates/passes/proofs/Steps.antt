@@ -19,7 +19,9 @@ use Rattle.flow.specs.Solver.{Rounds}
 use Rattle.routine.specs.Layout.{arrays, vertices, entry, exit}
 use Rattle.routine.specs.Reader.{WellFormed}
 use Rattle.routine.specs.declared.action.Action.{Action}
-use Rattle.sets.specs.Sets.{has, everyVersion}
+use Rattle.halves.proofs.Tables.{test-halves, test-doubled}
+use Rattle.halves.specs.Halves.{AreHalves, doubled}
+use Rattle.sets.specs.Sets.{has, everyVersion, everyHalf}
 use Rattle.words.specs.Tables.{table, withRow}
 use Rattle.labels.specs.Ambiguity.{broughtGives, broughtPasses, broughtSets, broughtOf}
 use Rattle.labels.specs.Events.{edgeBytes, event, isLabel, versionOf, version}
@@ -36,6 +38,7 @@ use Rattle.labels.specs.Uses.{useGives, usePasses, passesBy, useSets, letterOf,
 use Rattle.labels.specs.declared.Use.{Use}
 use Rattle.labels.proofs.Rules.Events.{by-event}
 use Rattle.labels.proofs.Rules.Proper.{ends-within}
+use Rattle.words.proofs.Tables.{table-length}
 use Rattle.words.proofs.Tests.{cond-not}
 use Rattle.passes.proofs.Cells.{cells-are, few-columns, in-eight, alone-table, alone-row}
 use Rattle.labels.proofs.Letters.{letter-use}
@@ -89,7 +92,23 @@ module _ {m n : ℕ} (few : m ≤ 8) where
   unfolding reachedOver
   reached-sets g p h = cells-solved few (λ a v. cond (eqb v entry) 1 0) (λ a v. 1) g p h
 
+-- ---- what is passed, by halves: the same in both
+
+pub record Passing (file : List ℕ) (P : ℕ → ℕ → ℕ) (s : List ℕ) : Type 0 where
+  pub size : length s ≡ 8 * vertices file
+  pub halves : AreHalves s
+  pub cells : Cells file P (doubled s)
+
 module _ {file : List ℕ} (well : WellFormed file) where
+  -- every version where a test passes
+  passing : (test : ℕ → Bool) {P : ℕ → ℕ → ℕ} {s : List ℕ} {k : ℕ} → k ≡ 8 * vertices file
+      → ((a v : ℕ) → a < arrays file → v < vertices file → cond (test (8 * v + a)) everyVersion 0 ≡ P a v) → s ≡ table (λ i. cond (test i) everyHalf 0) k → Passing file P s
+  passing test {k = k} size is e = record {
+    size = ap length e ∙ table-length _ k ∙ size;
+    halves = test-halves test k e;
+    cells = cells-table (few-columns well) (λ i. cond (test i) everyVersion 0) size (test-doubled test k e) is;
+  }
+
   -- ---- the number of rounds
 
   pub pass-stops : {order gives passes : List ℕ} {along : Bool} {r : ℕ} {G P : ℕ → ℕ → ℕ} → EdgeOrder file order → CellsAlone file G gives → Cells file P passes
@@ -124,23 +143,23 @@ module _ {file : List ℕ} (well : WellFormed file) where
         (λ a v out col in-v. none-given (reachedCell (8 * v + a) (getD reached (8 * v + a) 0)) (vs .beyond .empty a v out col in-v))
 
     -- every vertex is reached
-    pub brought-versions : AllReached file → CellsAlone file (broughtGives file) versions
+    pub brought-versions : AllReached file → {s : List ℕ} → s ≡ versions → CellsAlone file (broughtGives file) s
     unfolding broughtGives version
-    brought-versions all = record {
+    brought-versions all e = subst (CellsAlone file (broughtGives file)) (sym e) (record {
       size = vs .size;
       cells = λ a v in-a in-v. vs .cells a v in-a in-v
           ∙ sym (ap (λ (b : Bool). cond (b && isLabel file a v) (2 ^ versionOf (event file a v)) 0) (is-true (isReached file v) (all .reached v in-v)));
       beyond = vs .beyond;
-    }
+    })
 
-    pub brought-passes : {s : List ℕ} → s ≡ table (λ i. cond (eqb (getD versions i 0) 0) everyVersion 0) (length versions) → Cells file (broughtPasses file) s
+    pub brought-passes : {s : List ℕ} → s ≡ table (λ i. cond (eqb (getD versions i 0) 0) everyHalf 0) (length versions) → Passing file (broughtPasses file) s
     unfolding broughtPasses
-    brought-passes e =
-        cells-table (few-columns well) (λ i. cond (eqb (getD versions i 0) 0) everyVersion 0) (vs .size) e
+    brought-passes =
+        passing (λ i. eqb (getD versions i 0) 0) (vs .size)
         (λ a v in-a in-v. ap (λ (x : ℕ). cond (eqb x 0) everyVersion 0) (vs .cells a v in-a in-v) ∙ single-passes (isLabel file a v) (versionOf (event file a v)))
 
-  pub brought-sets : {gives passes sets : List ℕ} → CellsAlone file (broughtGives file) gives → Cells file (broughtPasses file) passes → Pass file false gives passes sets
-      → Cells file (broughtOf file) sets
+  pub brought-sets : {gives passes sets : List ℕ} → CellsAlone file (broughtGives file) gives → Cells file (broughtPasses file) passes
+      → Pass file false gives passes sets → Cells file (broughtOf file) sets
   unfolding broughtSets broughtOf
   brought-sets g p h = cells-solved (few-columns well) (broughtGives file) (broughtPasses file) (cells-are g) p h
 
@@ -244,9 +263,9 @@ module _ {file : List ℕ} (well : WellFormed file) where
         ∙ sym (ap (λ (b : Bool). cond (b && isKept file a v) (2 ^ version file a v) 0) (is-true (isReached file v) (all .reached v in-v))))
         leaving-beyond)
 
-    pub reach-passes : {s : List ℕ} → s ≡ table (λ i. cond (eqb (leaving i) 0) everyVersion 0) (length versions) → Cells file (reachPasses file) s
+    pub reach-passes : {s : List ℕ} → s ≡ table (λ i. cond (eqb (leaving i) 0) everyHalf 0) (length versions) → Passing file (reachPasses file) s
     unfolding reachPasses
-    reach-passes e = cells-table (few-columns well) (λ i. cond (eqb (leaving i) 0) everyVersion 0) (vs .size) e (λ a v in-a in-v. leaving-none a v in-a in-v)
+    reach-passes = passing (λ i. eqb (leaving i) 0) (vs .size) leaving-none
 
     -- ---- kept sets
 
@@ -254,22 +273,22 @@ module _ {file : List ℕ} (well : WellFormed file) where
     unfolding leavingSet
     kept-gives e = alone-table well leaving (vs .size) e leaving-at leaving-beyond
 
-    pub kept-passes : {s : List ℕ} → s ≡ table (λ i. cond (eqb (getD versions i 0) 0 || isNOrR (useOfByte (getD letters i 0))) everyVersion 0) (length versions)
-        → Cells file (λ a v. cond (passesKept file a v) everyVersion 0) s
+    pub kept-passes : {s : List ℕ} → s ≡ table (λ i. cond (eqb (getD versions i 0) 0 || isNOrR (useOfByte (getD letters i 0))) everyHalf 0) (length versions)
+        → Passing file (λ a v. cond (passesKept file a v) everyVersion 0) s
     unfolding passesKept
-    kept-passes e =
-        cells-table (few-columns well) (λ i. cond (eqb (getD versions i 0) 0 || isNOrR (useOfByte (getD letters i 0))) everyVersion 0) (vs .size) e
+    kept-passes =
+        passing (λ i. eqb (getD versions i 0) 0 || isNOrR (useOfByte (getD letters i 0))) (vs .size)
         (λ a v in-a in-v. ap₂ (λ (b : Bool) (u : Use). cond (b || isNOrR u) everyVersion 0)
         (ap (λ (x : ℕ). eqb x 0) (vs .cells a v in-a in-v) ∙ single-none (isLabel file a v) (versionOf (event file a v))) (use-at a v in-a in-v))
 
     pub kept-sets : {gives passes sets s : List ℕ} → CellsAlone file (leavingSet file) gives → Cells file (λ a v. cond (passesKept file a v) everyVersion 0) passes
         → Pass file true gives passes sets
-        → s ≡ table (λ i. bitOr (getD gives i 0) (cond (isNOrR (useOfByte (getD letters i 0))) (getD sets i 0) 0)) (length sets) → Cells file (keptOf file) s
-    unfolding keptSets keptOf
+        → s ≡ table (λ i. bitOr (leaving i) (cond (isNOrR (useOfByte (getD letters i 0))) (getD sets i 0) 0)) (length sets) → Cells file (keptOf file) s
+    unfolding leavingSet keptSets keptOf
     kept-sets {gives} {passes} {sets} g p h e =
         let found = cells-solved (few-columns well) (leavingSet file) (λ a v. cond (passesKept file a v) everyVersion 0) (cells-are g) p h in
-        cells-table (few-columns well) (λ i. bitOr (getD gives i 0) (cond (isNOrR (useOfByte (getD letters i 0))) (getD sets i 0) 0)) (h .size) e
-        (λ a v in-a in-v. ap₂ bitOr (g .cells a v in-a in-v) (ap₂ (λ (u : Use) (x : ℕ). cond (isNOrR u) x 0) (use-at a v in-a in-v) (found .cells a v in-a in-v)))
+        cells-table (few-columns well) (λ i. bitOr (leaving i) (cond (isNOrR (useOfByte (getD letters i 0))) (getD sets i 0) 0)) (h .size) e
+        (λ a v in-a in-v. ap₂ bitOr (leaving-at a v in-a in-v) (ap₂ (λ (u : Use) (x : ℕ). cond (isNOrR u) x 0) (use-at a v in-a in-v) (found .cells a v in-a in-v)))
 
   -- away from the entry the reaching set is the solver's
   reaching-elsewhere : (a v : ℕ) → (v ≡ entry → ⊥) → getD (reachSets file a) v 0 ≡ reachingOf file a v

@@ -2,7 +2,7 @@
 // to find that.
 use routine::edge;
 use routine::header::Header;
-use sets::Set;
+use sets::Half;
 ghost use mathlib.Core.Path.{_≡_};
 ghost use mathlib.Core.Bool.{true};
 ghost use Prim.Native.Nat.{_<_};
@@ -14,7 +14,7 @@ ghost use Rattle.routine.specs.Layout.{vertices, edges};
 ghost use Rattle.words.specs.Sums.{anyBelow};
 
 // Marks the vertex that edge i enters, if it leaves an earlier one.
-fn mark(file: &[u8], h: Header, i: usize, marks: &mut [Set])
+fn mark(file: &[u8], h: Header, i: usize, marks: &mut [Half])
     requires { ⌜ ReadAs (now file) h ⌝ }
     requires { ⌜ i < edges (now file) ⌝ }
     requires { ⌜ length (now marks) ≡ vertices (now file) ⌝ }
@@ -30,7 +30,7 @@ fn mark(file: &[u8], h: Header, i: usize, marks: &mut [Set])
 }
 
 // Marks the vertices that edges enter from earlier ones.
-fn mark_all(file: &[u8], h: Header, marks: &mut [Set])
+fn mark_all(file: &[u8], h: Header, marks: &mut [Half])
     requires { ⌜ ReadAs (now file) h ⌝ }
     requires { ⌜ length (now marks) ≡ vertices (now file) ⌝ }
     requires { ⌜ Marked (now file) (now marks) ⌝ }
@@ -45,7 +45,7 @@ fn mark_all(file: &[u8], h: Header, marks: &mut [Set])
 }
 
 // Whether a vertex has no mark.
-fn one_unmarked(marks: &[Set]) -> bool
+fn one_unmarked(marks: &[Half]) -> bool
     ensures { λ r. ⌜ r ≡ anyBelow (λ v. eqb (getD (now (marks .entry)) v 0) 0) (length (now (marks .entry))) ⌝ }
 {
     let n = marks.len();
@@ -59,7 +59,7 @@ fn one_unmarked(marks: &[Set]) -> bool
 }
 
 // Whether each is. `marks` is a work slice.
-pub fn all(file: &[u8], h: Header, marks: &mut [Set]) -> bool
+pub fn all(file: &[u8], h: Header, marks: &mut [Half]) -> bool
     requires { ⌜ ReadAs (now file) h ⌝ }
     requires { ⌜ length (now marks) ≡ vertices (now file) ⌝ }
     ensures { λ r. ⌜ (r ≡ true → AllReached (now (file .entry))) ⌝ }

@@ -4,6 +4,7 @@ use labels::event;
 use routine::action;
 use routine::array;
 use routine::header::Header;
+use sets::Half;
 use sets::Set;
 ghost use mathlib.Core.Path.{_≡_};
 ghost use Prim.Native.Nat.{_*_, _<_};
@@ -35,7 +36,7 @@ fn versions_row(file: &[u8], h: Header, v: usize, versions: &mut [Set])
 }
 
 // What vertex v's actions give to the sets of use.
-fn uses_row(file: &[u8], h: Header, v: usize, uses: &mut [Set])
+fn uses_row(file: &[u8], h: Header, v: usize, uses: &mut [Half])
     requires { ⌜ ReadAs (now file) h ⌝ }
     requires { ⌜ v < vertices (now file) ⌝ }
     requires { ⌜ length (now uses) ≡ 8 * vertices (now file) ⌝ }
@@ -52,7 +53,7 @@ fn uses_row(file: &[u8], h: Header, v: usize, uses: &mut [Set])
 }
 
 // Both rows of vertex v, by its events.
-fn event_rows(file: &[u8], h: Header, v: usize, versions: &mut [Set], uses: &mut [Set])
+fn event_rows(file: &[u8], h: Header, v: usize, versions: &mut [Set], uses: &mut [Half])
     requires { ⌜ ReadAs (now file) h ⌝ }
     requires { ⌜ v < vertices (now file) ⌝ }
     requires { ⌜ length (now versions) ≡ 8 * vertices (now file) ⌝ }
@@ -74,7 +75,7 @@ fn event_rows(file: &[u8], h: Header, v: usize, versions: &mut [Set], uses: &mut
 }
 
 // All rows, by the actions. A loop of its own for each table and row is faster than one that asks at each cell which vertex it is of.
-fn action_rows(file: &[u8], h: Header, versions: &mut [Set], uses: &mut [Set])
+fn action_rows(file: &[u8], h: Header, versions: &mut [Set], uses: &mut [Half])
     requires { ⌜ ReadAs (now file) h ⌝ }
     requires { ⌜ length (now versions) ≡ 8 * vertices (now file) ⌝ }
     requires { ⌜ length (now uses) ≡ 8 * vertices (now file) ⌝ }
@@ -93,14 +94,14 @@ fn action_rows(file: &[u8], h: Header, versions: &mut [Set], uses: &mut [Set])
 }
 
 // Fills in both tables, and leaves nothing in the columns beyond the arrays.
-pub fn tabulate(file: &[u8], h: Header, versions: &mut [Set], uses: &mut [Set])
+pub fn tabulate(file: &[u8], h: Header, versions: &mut [Set], uses: &mut [Half])
     requires { ⌜ ReadAs (now file) h ⌝ }
     requires { ⌜ length (now versions) ≡ 8 * vertices (now file) ⌝ }
     requires { ⌜ length (now uses) ≡ 8 * vertices (now file) ⌝ }
     ensures { λ _. ⌜ Versions (now (file .entry)) (now (versions .exit)) ⌝ }
     ensures { λ _. ⌜ UseGives (now (file .entry)) (now (uses .exit)) ⌝ }
 {
-    flow::clear(versions);
+    halves::clear(versions);
     flow::clear(uses);
     action_rows(file, h, versions, uses);
     event_rows(file, h, 0, versions, uses);

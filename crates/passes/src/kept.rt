@@ -1,6 +1,7 @@
 // Kept sets (document 01, "Labels").
 use labels::event;
 use labels::letter;
+use sets::Half;
 use sets::Set;
 ghost use mathlib.Core.Path.{_≡_};
 ghost use mathlib.Core.Bool.{cond, not, _||_};
@@ -11,17 +12,17 @@ ghost use Rattle.labels.specs.Kept.{isNOrR};
 ghost use Rattle.labels.specs.Letters.{useOfByte};
 ghost use Rattle.labels.specs.Uses.{isN};
 ghost use Rattle.words.specs.Tables.{table};
-ghost use Rattle.sets.specs.Sets.{everyVersion};
+ghost use Rattle.sets.specs.Sets.{everyHalf};
 
 // The tables of the pass: a kept label gives its version; no label, or one that is N or R, passes every version.
-pub fn fill(versions: &[Set], letters: &[u8], gives: &mut [Set], passes: &mut [Set])
+pub fn fill(versions: &[Set], letters: &[u8], gives: &mut [Set], passes: &mut [Half])
     requires { ⌜ length (now letters) ≡ length (now versions) ⌝ }
     requires { ⌜ length (now gives) ≡ length (now versions) ⌝ }
     requires { ⌜ length (now passes) ≡ length (now versions) ⌝ }
     ensures { λ _. ⌜ now (gives .exit)
         ≡ table (λ i. cond (not (isN (useOfByte (getD (now (letters .entry)) i 0)))) (getD (now (versions .entry)) i 0) 0) (length (now (versions .entry))) ⌝ }
     ensures { λ _. ⌜ now (passes .exit)
-        ≡ table (λ i. cond (eqb (getD (now (versions .entry)) i 0) 0 || isNOrR (useOfByte (getD (now (letters .entry)) i 0))) everyVersion 0)
+        ≡ table (λ i. cond (eqb (getD (now (versions .entry)) i 0) 0 || isNOrR (useOfByte (getD (now (letters .entry)) i 0))) everyHalf 0)
         (length (now (versions .entry))) ⌝ }
 {
     let n = versions.len();
@@ -36,17 +37,19 @@ pub fn fill(versions: &[Set], letters: &[u8], gives: &mut [Set], passes: &mut [S
 }
 
 // Joins the leaving sets.
-pub fn join(letters: &[u8], leaving: &[Set], sets: &mut [Set])
+pub fn join(versions: &[Set], letters: &[u8], sets: &mut [Set])
+    requires { ⌜ length (now versions) ≡ length (now sets) ⌝ }
     requires { ⌜ length (now letters) ≡ length (now sets) ⌝ }
-    requires { ⌜ length (now leaving) ≡ length (now sets) ⌝ }
     ensures { λ _. ⌜ now (sets .exit)
-        ≡ table (λ i. bitOr (getD (now (leaving .entry)) i 0) (cond (isNOrR (useOfByte (getD (now (letters .entry)) i 0))) (getD (now (sets .entry)) i 0) 0))
+        ≡ table (λ i. bitOr (cond (not (isN (useOfByte (getD (now (letters .entry)) i 0)))) (getD (now (versions .entry)) i 0) 0) (cond (isNOrR (useOfByte (getD (now (letters .entry)) i 0))) (getD (now (sets .entry)) i 0) 0))
         (length (now (sets .entry))) ⌝ }
 {
     let n = sets.len();
     let mut i = 0;
     while i < n {
-        sets[i] = leaving[i] | event::set_if(letter::goes_on(letters[i]), sets[i]);
+        let letter = letters[i];
+        let leaving = event::set_if(letter::leaves(letter), versions[i]);
+        sets[i] = leaving | event::set_if(letter::goes_on(letter), sets[i]);
         i += 1;
     }
 }

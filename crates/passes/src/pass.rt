@@ -1,10 +1,12 @@
 // One pass of the solver over the edges of a routine, for all arrays.
 use routine::header::Header;
+use sets::Half;
 use sets::Set;
 ghost use mathlib.Core.Path.{_≡_};
 ghost use Prim.Native.Nat.{_*_};
 ghost use lib.ListN.{length};
 ghost use Rattle.flow.specs.Solver.{Rounds};
+ghost use Rattle.halves.specs.Halves.{AreHalves, doubled};
 ghost use Rattle.labels.specs.Events.{edgeBytes};
 ghost use Rattle.labels.specs.Routines.{ReadAs, EdgeOrder};
 ghost use Rattle.passes.specs.Tables.{Pass};
@@ -51,9 +53,9 @@ pub fn solve(
     h: Header,
     order: &[u16],
     along: bool,
-    gives: &[Set],
-    passes: &[Set],
-    sets: &mut [Set],
+    gives: &[Half],
+    passes: &[Half],
+    sets: &mut [Half],
 ) -> usize
     requires { ⌜ ReadAs (now file) h ⌝ }
     requires { ⌜ EdgeOrder (now file) (now order) ⌝ }
@@ -66,4 +68,31 @@ pub fn solve(
 {
     let at = h.edges_at();
     solver::solve(&file[at..], order, along, gives, passes, sets)
+}
+
+// The same for tables of sets: `sets` comes with what each vertex gives; what it passes is the same in both halves. `gives` and `halves` are
+// work slices.
+pub fn solve_sets(
+    file: &[u8],
+    h: Header,
+    order: &[u16],
+    along: bool,
+    passes: &[Half],
+    sets: &mut [Set],
+    gives: &mut [Half],
+    halves: &mut [Half],
+) -> usize
+    requires { ⌜ ReadAs (now file) h ⌝ }
+    requires { ⌜ EdgeOrder (now file) (now order) ⌝ }
+    requires { ⌜ length (now passes) ≡ 8 * vertices (now file) ⌝ }
+    requires { ⌜ AreHalves (now passes) ⌝ }
+    requires { ⌜ length (now sets) ≡ 8 * vertices (now file) ⌝ }
+    requires { ⌜ length (now gives) ≡ 8 * vertices (now file) ⌝ }
+    requires { ⌜ length (now halves) ≡ 8 * vertices (now file) ⌝ }
+    ensures { λ _. ⌜ Pass (now (file .entry)) along (now (sets .entry)) (doubled (now (passes .entry))) (now (sets .exit)) ⌝ }
+    ensures { λ r. ⌜ Rounds (edgeBytes (now (file .entry))) (now (order .entry)) along (now (sets .entry)) (doubled (now (passes .entry)))
+        (vertices (now (file .entry))) r ⌝ }
+{
+    let at = h.edges_at();
+    halves::solve(&file[at..], order, along, passes, sets, gives, halves)
 }

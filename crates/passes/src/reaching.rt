@@ -3,6 +3,7 @@ use labels::event;
 use labels::letter;
 use routine::array;
 use routine::header::Header;
+use sets::Half;
 use sets::Set;
 ghost use mathlib.Core.Path.{_≡_};
 ghost use mathlib.Core.Bool.{cond, not, _||_};
@@ -17,10 +18,10 @@ ghost use Rattle.passes.specs.Tables.{reachedCell};
 ghost use Rattle.labels.specs.Uses.{isN};
 ghost use Rattle.routine.specs.Layout.{arrays, entry};
 ghost use Rattle.words.specs.Tables.{table, withRow};
-ghost use Rattle.sets.specs.Sets.{everyVersion};
+ghost use Rattle.sets.specs.Sets.{everyHalf};
 
 // The entry gives, in each of m columns.
-fn enter_reached(m: usize, gives: &mut [Set])
+fn enter_reached(m: usize, gives: &mut [Half])
     requires { ⌜ m ≤ length (now gives) ⌝ }
     ensures { λ _. ⌜ now (gives .exit) ≡ withRow (now (gives .entry)) entry (λ a. 1) m ⌝ }
 {
@@ -32,7 +33,7 @@ fn enter_reached(m: usize, gives: &mut [Set])
 }
 
 // Every vertex passes.
-fn pass_reached(passes: &mut [Set])
+fn pass_reached(passes: &mut [Half])
     ensures { λ _. ⌜ now (passes .exit) ≡ table (λ i. 1) (length (now (passes .entry))) ⌝ }
 {
     for i in 0..passes.len() {
@@ -41,7 +42,7 @@ fn pass_reached(passes: &mut [Set])
 }
 
 // The tables of the pass that finds the vertices which a path from the entry reaches, in each of m columns.
-pub fn fill_reached(m: usize, gives: &mut [Set], passes: &mut [Set])
+pub fn fill_reached(m: usize, gives: &mut [Half], passes: &mut [Half])
     requires { ⌜ m ≤ length (now gives) ⌝ }
     ensures { λ _. ⌜ now (gives .exit) ≡ table (λ i. cond (ltb i m) 1 0) (length (now (gives .entry))) ⌝ }
     ensures { λ _. ⌜ now (passes .exit) ≡ table (λ i. 1) (length (now (passes .entry))) ⌝ }
@@ -52,35 +53,40 @@ pub fn fill_reached(m: usize, gives: &mut [Set], passes: &mut [Set])
 }
 
 // Whether a cell is the entry's, or its set says that a path from the entry reaches it.
-fn is_reached(i: usize, set: Set) -> bool
+fn is_reached(i: usize, set: Half) -> bool
     ensures { λ r. ⌜ r ≡ reachedCell i set ⌝ }
 {
     (i < flow::COLUMNS) | (set % 2 == 1)
 }
 
-// What the vertices pass of what paths bring: what is no label passes every version.
-pub fn fill_passes(versions: &[Set], passes: &mut [Set])
+// The tables of the pass that finds what paths bring where every vertex is reached: each label gives its version, and what is no label passes
+// every version.
+pub fn fill_brought_everywhere(versions: &[Set], gives: &mut [Set], passes: &mut [Half])
+    requires { ⌜ length (now gives) ≡ length (now versions) ⌝ }
     requires { ⌜ length (now passes) ≡ length (now versions) ⌝ }
+    ensures { λ _. ⌜ now (gives .exit) ≡ now (versions .entry) ⌝ }
     ensures { λ _. ⌜ now (passes .exit)
-        ≡ table (λ i. cond (eqb (getD (now (versions .entry)) i 0) 0) everyVersion 0) (length (now (versions .entry))) ⌝ }
+        ≡ table (λ i. cond (eqb (getD (now (versions .entry)) i 0) 0) everyHalf 0) (length (now (versions .entry))) ⌝ }
 {
     let n = versions.len();
     let mut i = 0;
     while i < n {
-        passes[i] = event::every_if(versions[i] == 0);
+        let version = versions[i];
+        gives[i] = version;
+        passes[i] = event::every_if(version == 0);
         i += 1;
     }
 }
 
 // The tables of the pass that finds what paths bring: a label that is reached gives its version, and what is no label passes every version.
-pub fn fill_brought(versions: &[Set], reached: &[Set], gives: &mut [Set], passes: &mut [Set])
+pub fn fill_brought(versions: &[Set], reached: &[Half], gives: &mut [Set], passes: &mut [Half])
     requires { ⌜ length (now reached) ≡ length (now versions) ⌝ }
     requires { ⌜ length (now gives) ≡ length (now versions) ⌝ }
     requires { ⌜ length (now passes) ≡ length (now versions) ⌝ }
     ensures { λ _. ⌜ now (gives .exit)
         ≡ table (λ i. cond (reachedCell i (getD (now (reached .entry)) i 0)) (getD (now (versions .entry)) i 0) 0) (length (now (versions .entry))) ⌝ }
     ensures { λ _. ⌜ now (passes .exit)
-        ≡ table (λ i. cond (eqb (getD (now (versions .entry)) i 0) 0) everyVersion 0) (length (now (versions .entry))) ⌝ }
+        ≡ table (λ i. cond (eqb (getD (now (versions .entry)) i 0) 0) everyHalf 0) (length (now (versions .entry))) ⌝ }
 {
     let n = versions.len();
     let mut i = 0;
@@ -95,10 +101,10 @@ pub fn fill_brought(versions: &[Set], reached: &[Set], gives: &mut [Set], passes
 // The tables of the pass: a kept label that is reached gives its version, and what is no kept label passes every version.
 pub fn fill(
     versions: &[Set],
-    reached: &[Set],
+    reached: &[Half],
     letters: &[u8],
     gives: &mut [Set],
-    passes: &mut [Set],
+    passes: &mut [Half],
 )
     requires { ⌜ length (now reached) ≡ length (now versions) ⌝ }
     requires { ⌜ length (now letters) ≡ length (now versions) ⌝ }
@@ -108,7 +114,7 @@ pub fn fill(
         ≡ table (λ i. cond (reachedCell i (getD (now (reached .entry)) i 0))
         (cond (not (isN (useOfByte (getD (now (letters .entry)) i 0)))) (getD (now (versions .entry)) i 0) 0) 0) (length (now (versions .entry))) ⌝ }
     ensures { λ _. ⌜ now (passes .exit)
-        ≡ table (λ i. cond (eqb (cond (not (isN (useOfByte (getD (now (letters .entry)) i 0)))) (getD (now (versions .entry)) i 0) 0) 0) everyVersion 0)
+        ≡ table (λ i. cond (eqb (cond (not (isN (useOfByte (getD (now (letters .entry)) i 0)))) (getD (now (versions .entry)) i 0) 0) 0) everyHalf 0)
         (length (now (versions .entry))) ⌝ }
 {
     let n = versions.len();
@@ -122,14 +128,14 @@ pub fn fill(
 }
 
 // The same where every vertex is reached: each kept label gives its version.
-pub fn fill_everywhere(versions: &[Set], letters: &[u8], gives: &mut [Set], passes: &mut [Set])
+pub fn fill_everywhere(versions: &[Set], letters: &[u8], gives: &mut [Set], passes: &mut [Half])
     requires { ⌜ length (now letters) ≡ length (now versions) ⌝ }
     requires { ⌜ length (now gives) ≡ length (now versions) ⌝ }
     requires { ⌜ length (now passes) ≡ length (now versions) ⌝ }
     ensures { λ _. ⌜ now (gives .exit)
         ≡ table (λ i. cond (not (isN (useOfByte (getD (now (letters .entry)) i 0)))) (getD (now (versions .entry)) i 0) 0) (length (now (versions .entry))) ⌝ }
     ensures { λ _. ⌜ now (passes .exit)
-        ≡ table (λ i. cond (eqb (cond (not (isN (useOfByte (getD (now (letters .entry)) i 0)))) (getD (now (versions .entry)) i 0) 0) 0) everyVersion 0)
+        ≡ table (λ i. cond (eqb (cond (not (isN (useOfByte (getD (now (letters .entry)) i 0)))) (getD (now (versions .entry)) i 0) 0) 0) everyHalf 0)
         (length (now (versions .entry))) ⌝ }
 {
     let n = versions.len();

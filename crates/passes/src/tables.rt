@@ -5,6 +5,7 @@ use crate::pass;
 use crate::reaching;
 use crate::uses;
 use routine::header::Header;
+use sets::Half;
 use sets::Set;
 ghost use mathlib.Core.Path.{_≡_};
 ghost use mathlib.Core.Bool.{true, false};
@@ -30,9 +31,9 @@ fn reached(
     file: &[u8],
     h: Header,
     order: &[u16],
-    sets: &mut [Set],
-    gives: &mut [Set],
-    passes: &mut [Set],
+    sets: &mut [Half],
+    gives: &mut [Half],
+    passes: &mut [Half],
 ) -> usize
     requires { ⌜ ReadAs (now file) h ⌝ }
     requires { ⌜ EdgeOrder (now file) (now order) ⌝ }
@@ -46,15 +47,16 @@ fn reached(
     pass::solve(file, h, order, false, gives, passes, sets)
 }
 
-// The versions that paths bring, where a pass is to find the vertices that are reached. `sets` first holds their table.
+// The versions that paths bring, where a pass is to find the vertices that are reached. `halves` first holds their table.
 fn brought_after_pass(
     file: &[u8],
     h: Header,
     order: &mut [u16],
     versions: &[Set],
     sets: &mut [Set],
-    gives: &mut [Set],
-    passes: &mut [Set],
+    gives: &mut [Half],
+    passes: &mut [Half],
+    halves: &mut [Half],
 ) -> Rounds
     requires { ⌜ ReadAs (now file) h ⌝ }
     requires { ⌜ EdgeOrder (now file) (now order) ⌝ }
@@ -62,15 +64,16 @@ fn brought_after_pass(
     requires { ⌜ length (now sets) ≡ 8 * vertices (now file) ⌝ }
     requires { ⌜ length (now gives) ≡ 8 * vertices (now file) ⌝ }
     requires { ⌜ length (now passes) ≡ 8 * vertices (now file) ⌝ }
+    requires { ⌜ length (now halves) ≡ 8 * vertices (now file) ⌝ }
     ensures { λ _. ⌜ EdgeOrder (now (file .entry)) (now (order .exit)) ⌝ }
     ensures { λ _. ⌜ Cells (now (file .entry)) (broughtOf (now (file .entry))) (now (sets .exit)) ⌝ }
     ensures { λ r. ⌜ ReachedStops (now (file .entry)) (r .reached) ⌝ }
     ensures { λ r. ⌜ BroughtStops (now (file .entry)) (r .sets) ⌝ }
 {
-    let reached = reached(file, h, order, sets, gives, passes);
+    let reached = reached(file, h, order, halves, gives, passes);
     pass::reorder(file, h, order, reached);
-    reaching::fill_brought(versions, sets, gives, passes);
-    let rounds = pass::solve(file, h, order, false, gives, passes, sets);
+    reaching::fill_brought(versions, halves, sets, passes);
+    let rounds = pass::solve_sets(file, h, order, false, passes, sets, gives, halves);
     Rounds {
         reached,
         sets: rounds,
@@ -84,19 +87,23 @@ fn brought_everywhere(
     order: &[u16],
     versions: &[Set],
     sets: &mut [Set],
-    passes: &mut [Set],
+    gives: &mut [Half],
+    passes: &mut [Half],
+    halves: &mut [Half],
 ) -> usize
     requires { ⌜ ReadAs (now file) h ⌝ }
     requires { ⌜ AllReached (now file) ⌝ }
     requires { ⌜ EdgeOrder (now file) (now order) ⌝ }
     requires { ⌜ Versions (now file) (now versions) ⌝ }
     requires { ⌜ length (now sets) ≡ 8 * vertices (now file) ⌝ }
+    requires { ⌜ length (now gives) ≡ 8 * vertices (now file) ⌝ }
     requires { ⌜ length (now passes) ≡ 8 * vertices (now file) ⌝ }
+    requires { ⌜ length (now halves) ≡ 8 * vertices (now file) ⌝ }
     ensures { λ _. ⌜ Cells (now (file .entry)) (broughtOf (now (file .entry))) (now (sets .exit)) ⌝ }
     ensures { λ r. ⌜ BroughtStops (now (file .entry)) r ⌝ }
 {
-    reaching::fill_passes(versions, passes);
-    pass::solve(file, h, order, false, versions, passes, sets)
+    reaching::fill_brought_everywhere(versions, sets, passes);
+    pass::solve_sets(file, h, order, false, passes, sets, gives, halves)
 }
 
 // The versions that paths bring, dropped labels included; no letter is asked.
@@ -106,8 +113,9 @@ pub fn brought(
     order: &mut [u16],
     versions: &[Set],
     sets: &mut [Set],
-    gives: &mut [Set],
-    passes: &mut [Set],
+    gives: &mut [Half],
+    passes: &mut [Half],
+    halves: &mut [Half],
 ) -> Rounds
     requires { ⌜ ReadAs (now file) h ⌝ }
     requires { ⌜ EdgeOrder (now file) (now order) ⌝ }
@@ -115,6 +123,7 @@ pub fn brought(
     requires { ⌜ length (now sets) ≡ 8 * vertices (now file) ⌝ }
     requires { ⌜ length (now gives) ≡ 8 * vertices (now file) ⌝ }
     requires { ⌜ length (now passes) ≡ 8 * vertices (now file) ⌝ }
+    requires { ⌜ length (now halves) ≡ 8 * vertices (now file) ⌝ }
     ensures { λ _. ⌜ EdgeOrder (now (file .entry)) (now (order .exit)) ⌝ }
     ensures { λ _. ⌜ Cells (now (file .entry)) (broughtOf (now (file .entry))) (now (sets .exit)) ⌝ }
     ensures { λ r. ⌜ ReachedFirst (now (file .entry)) (r .reached) ⌝ }
@@ -123,13 +132,13 @@ pub fn brought(
     let n = h.vertices;
     let everywhere = entered::all(file, h, &mut gives[..n]);
     if everywhere {
-        let rounds = brought_everywhere(file, h, order, versions, sets, passes);
+        let rounds = brought_everywhere(file, h, order, versions, sets, gives, passes, halves);
         return Rounds {
             reached: 0,
             sets: rounds,
         };
     }
-    brought_after_pass(file, h, order, versions, sets, gives, passes)
+    brought_after_pass(file, h, order, versions, sets, gives, passes, halves)
 }
 
 // The letters. Returns the number of rounds of their pass.
@@ -137,10 +146,10 @@ pub fn letters(
     file: &[u8],
     h: Header,
     order: &[u16],
-    uses: &[Set],
+    uses: &[Half],
     letters: &mut [u8],
-    sets: &mut [Set],
-    passes: &mut [Set],
+    sets: &mut [Half],
+    passes: &mut [Half],
 ) -> usize
     requires { ⌜ ReadAs (now file) h ⌝ }
     requires { ⌜ EdgeOrder (now file) (now order) ⌝ }
@@ -158,7 +167,7 @@ pub fn letters(
     rounds
 }
 
-// The reaching sets, where a pass is to find the vertices that are reached. `sets` first holds their table.
+// The reaching sets, where a pass is to find the vertices that are reached. `halves` first holds their table.
 fn reaching_after_pass(
     file: &[u8],
     h: Header,
@@ -166,8 +175,9 @@ fn reaching_after_pass(
     versions: &[Set],
     letters: &[u8],
     sets: &mut [Set],
-    gives: &mut [Set],
-    passes: &mut [Set],
+    gives: &mut [Half],
+    passes: &mut [Half],
+    halves: &mut [Half],
 ) -> Rounds
     requires { ⌜ ReadAs (now file) h ⌝ }
     requires { ⌜ EdgeOrder (now file) (now order) ⌝ }
@@ -176,14 +186,15 @@ fn reaching_after_pass(
     requires { ⌜ length (now sets) ≡ 8 * vertices (now file) ⌝ }
     requires { ⌜ length (now gives) ≡ 8 * vertices (now file) ⌝ }
     requires { ⌜ length (now passes) ≡ 8 * vertices (now file) ⌝ }
+    requires { ⌜ length (now halves) ≡ 8 * vertices (now file) ⌝ }
     ensures { λ _. ⌜ Cells (now (file .entry)) (reachingOf (now (file .entry))) (now (sets .exit)) ⌝ }
     ensures { λ r. ⌜ ReachedStops (now (file .entry)) (r .reached) ⌝ }
     ensures { λ r. ⌜ ReachingStops (now (file .entry)) (r .sets) ⌝ }
 {
-    let reached = reached(file, h, order, sets, gives, passes);
-    reaching::fill(versions, sets, letters, gives, passes);
-    reaching::enter_gives(file, h, letters, gives);
-    let rounds = pass::solve(file, h, order, false, gives, passes, sets);
+    let reached = reached(file, h, order, halves, gives, passes);
+    reaching::fill(versions, halves, letters, sets, passes);
+    reaching::enter_gives(file, h, letters, sets);
+    let rounds = pass::solve_sets(file, h, order, false, passes, sets, gives, halves);
     reaching::enter(file, h, sets);
     Rounds {
         reached,
@@ -199,8 +210,9 @@ fn reaching_everywhere(
     versions: &[Set],
     letters: &[u8],
     sets: &mut [Set],
-    gives: &mut [Set],
-    passes: &mut [Set],
+    gives: &mut [Half],
+    passes: &mut [Half],
+    halves: &mut [Half],
 ) -> usize
     requires { ⌜ ReadAs (now file) h ⌝ }
     requires { ⌜ AllReached (now file) ⌝ }
@@ -210,12 +222,13 @@ fn reaching_everywhere(
     requires { ⌜ length (now sets) ≡ 8 * vertices (now file) ⌝ }
     requires { ⌜ length (now gives) ≡ 8 * vertices (now file) ⌝ }
     requires { ⌜ length (now passes) ≡ 8 * vertices (now file) ⌝ }
+    requires { ⌜ length (now halves) ≡ 8 * vertices (now file) ⌝ }
     ensures { λ _. ⌜ Cells (now (file .entry)) (reachingOf (now (file .entry))) (now (sets .exit)) ⌝ }
     ensures { λ r. ⌜ ReachingStops (now (file .entry)) r ⌝ }
 {
-    reaching::fill_everywhere(versions, letters, gives, passes);
-    reaching::enter_gives(file, h, letters, gives);
-    let rounds = pass::solve(file, h, order, false, gives, passes, sets);
+    reaching::fill_everywhere(versions, letters, sets, passes);
+    reaching::enter_gives(file, h, letters, sets);
+    let rounds = pass::solve_sets(file, h, order, false, passes, sets, gives, halves);
     reaching::enter(file, h, sets);
     rounds
 }
@@ -228,8 +241,9 @@ pub fn reaching(
     versions: &[Set],
     letters: &[u8],
     sets: &mut [Set],
-    gives: &mut [Set],
-    passes: &mut [Set],
+    gives: &mut [Half],
+    passes: &mut [Half],
+    halves: &mut [Half],
 ) -> Rounds
     requires { ⌜ ReadAs (now file) h ⌝ }
     requires { ⌜ EdgeOrder (now file) (now order) ⌝ }
@@ -238,6 +252,7 @@ pub fn reaching(
     requires { ⌜ length (now sets) ≡ 8 * vertices (now file) ⌝ }
     requires { ⌜ length (now gives) ≡ 8 * vertices (now file) ⌝ }
     requires { ⌜ length (now passes) ≡ 8 * vertices (now file) ⌝ }
+    requires { ⌜ length (now halves) ≡ 8 * vertices (now file) ⌝ }
     ensures { λ _. ⌜ Cells (now (file .entry)) (reachingOf (now (file .entry))) (now (sets .exit)) ⌝ }
     ensures { λ r. ⌜ ReachedFirst (now (file .entry)) (r .reached) ⌝ }
     ensures { λ r. ⌜ ReachingStops (now (file .entry)) (r .sets) ⌝ }
@@ -245,13 +260,33 @@ pub fn reaching(
     let n = h.vertices;
     let everywhere = entered::all(file, h, &mut gives[..n]);
     if everywhere {
-        let rounds = reaching_everywhere(file, h, order, versions, letters, sets, gives, passes);
+        let rounds = reaching_everywhere(
+            file,
+            h,
+            order,
+            versions,
+            letters,
+            sets,
+            gives,
+            passes,
+            halves,
+        );
         return Rounds {
             reached: 0,
             sets: rounds,
         };
     }
-    reaching_after_pass(file, h, order, versions, letters, sets, gives, passes)
+    reaching_after_pass(
+        file,
+        h,
+        order,
+        versions,
+        letters,
+        sets,
+        gives,
+        passes,
+        halves,
+    )
 }
 
 // The kept sets. Returns the number of rounds of their pass.
@@ -262,8 +297,9 @@ pub fn kept(
     versions: &[Set],
     letters: &[u8],
     sets: &mut [Set],
-    gives: &mut [Set],
-    passes: &mut [Set],
+    gives: &mut [Half],
+    passes: &mut [Half],
+    halves: &mut [Half],
 ) -> usize
     requires { ⌜ ReadAs (now file) h ⌝ }
     requires { ⌜ EdgeOrder (now file) (now order) ⌝ }
@@ -272,11 +308,12 @@ pub fn kept(
     requires { ⌜ length (now sets) ≡ 8 * vertices (now file) ⌝ }
     requires { ⌜ length (now gives) ≡ 8 * vertices (now file) ⌝ }
     requires { ⌜ length (now passes) ≡ 8 * vertices (now file) ⌝ }
+    requires { ⌜ length (now halves) ≡ 8 * vertices (now file) ⌝ }
     ensures { λ _. ⌜ Cells (now (file .entry)) (keptOf (now (file .entry))) (now (sets .exit)) ⌝ }
     ensures { λ r. ⌜ KeptStops (now (file .entry)) r ⌝ }
 {
-    kept::fill(versions, letters, gives, passes);
-    let rounds = pass::solve(file, h, order, true, gives, passes, sets);
-    kept::join(letters, gives, sets);
+    kept::fill(versions, letters, sets, passes);
+    let rounds = pass::solve_sets(file, h, order, true, passes, sets, gives, halves);
+    kept::join(versions, letters, sets);
     rounds
 }

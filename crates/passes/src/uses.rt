@@ -2,7 +2,7 @@
 use labels::event;
 use labels::letter;
 use routine::header::Header;
-use sets::Set;
+use sets::Half;
 ghost use mathlib.Core.Path.{_≡_};
 ghost use Prim.Native.Nat.{_*_};
 ghost use lib.ListN.{length, getD};
@@ -14,7 +14,7 @@ ghost use Rattle.routine.specs.Layout.{arrays, vertices, exit};
 ghost use Rattle.words.specs.Tables.{table, withRow};
 
 // The table of what events pass, by what they give.
-pub fn fill(uses: &[Set], passes: &mut [Set])
+pub fn fill(uses: &[Half], passes: &mut [Half])
     requires { ⌜ length (now passes) ≡ length (now uses) ⌝ }
     ensures { λ _. ⌜ now (passes .exit) ≡ table (λ i. passesBy (getD (now (uses .entry)) i 0)) (length (now (uses .entry))) ⌝ }
 {
@@ -27,7 +27,7 @@ pub fn fill(uses: &[Set], passes: &mut [Set])
 }
 
 // The letters that the sets of use say.
-pub fn write(sets: &[Set], letters: &mut [u8])
+pub fn write(sets: &[Half], letters: &mut [u8])
     requires { ⌜ length (now letters) ≡ length (now sets) ⌝ }
     ensures { λ _. ⌜ now (letters .exit) ≡ table (λ i. letterByte (letterOf (getD (now (sets .entry)) i 0))) (length (now (sets .entry))) ⌝ }
 {

@@ -6,6 +6,7 @@ use refusal::Reply;
 use routine::header::Header;
 use routine::reader;
 use routine::reader::Answer;
+use sets::Half;
 use sets::Set;
 ghost use mathlib.Core.Path.{_≡_};
 ghost use Prim.Native.Nat.{_+_, _*_, _≤_, _<_};
@@ -26,12 +27,14 @@ fn plan_with(
     out: &mut [u8],
     order: &mut [u16],
     versions: &mut [Set],
-    uses: &mut [Set],
+    uses: &mut [Half],
     letters: &mut [u8],
     reaching: &mut [Set],
+    kept: &mut [Set],
     firsts: &mut [u16],
-    gives: &mut [Set],
-    passes: &mut [Set],
+    gives: &mut [Half],
+    passes: &mut [Half],
+    halves: &mut [Half],
 ) -> Reply
     requires { ⌜ ReadAs (now file) h ⌝ }
     requires { ⌜ length (now order) ≡ edges (now file) ⌝ }
@@ -39,9 +42,11 @@ fn plan_with(
     requires { ⌜ length (now uses) ≡ 8 * vertices (now file) ⌝ }
     requires { ⌜ length (now letters) ≡ 8 * vertices (now file) ⌝ }
     requires { ⌜ length (now reaching) ≡ 8 * vertices (now file) ⌝ }
+    requires { ⌜ length (now kept) ≡ 8 * vertices (now file) ⌝ }
     requires { ⌜ vertices (now file) < length (now firsts) ⌝ }
     requires { ⌜ length (now gives) ≡ 8 * vertices (now file) ⌝ }
     requires { ⌜ length (now passes) ≡ 8 * vertices (now file) ⌝ }
+    requires { ⌜ length (now halves) ≡ 8 * vertices (now file) ⌝ }
     ensures { λ r. ⌜ PlannedRead (now (file .entry)) (now (out .entry)) r (now (out .exit)) ⌝ }
 {
     let checked = checks::prepare(
@@ -54,15 +59,25 @@ fn plan_with(
         reaching,
         gives,
         passes,
+        halves,
     );
     let verdict = checked.verdict;
     let reply = planned::reply(file, h, out.len(), verdict, versions, firsts);
     if let Reply::Denied(_) = reply {
         return reply;
     }
-    // from here on `uses` holds the kept sets
-    tables::kept(file, h, order, versions, letters, uses, gives, passes);
-    writer::write(file, h, versions, letters, reaching, uses, firsts, out);
+    tables::kept(
+        file,
+        h,
+        order,
+        versions,
+        letters,
+        kept,
+        gives,
+        passes,
+        halves,
+    );
+    writer::write(file, h, versions, letters, reaching, kept, firsts, out);
     reply
 }
 
@@ -73,12 +88,14 @@ fn plan_within(
     out: &mut [u8],
     order: &mut [u16],
     versions: &mut [Set],
-    uses: &mut [Set],
+    uses: &mut [Half],
     letters: &mut [u8],
     reaching: &mut [Set],
+    kept: &mut [Set],
     firsts: &mut [u16],
-    gives: &mut [Set],
-    passes: &mut [Set],
+    gives: &mut [Half],
+    passes: &mut [Half],
+    halves: &mut [Half],
 ) -> Reply
     requires { ⌜ ReadAs (now file) h ⌝ }
     requires { ⌜ edges (now file) ≤ length (now order) ⌝ }
@@ -86,9 +103,11 @@ fn plan_within(
     requires { ⌜ 8 * vertices (now file) ≤ length (now uses) ⌝ }
     requires { ⌜ 8 * vertices (now file) ≤ length (now letters) ⌝ }
     requires { ⌜ 8 * vertices (now file) ≤ length (now reaching) ⌝ }
+    requires { ⌜ 8 * vertices (now file) ≤ length (now kept) ⌝ }
     requires { ⌜ vertices (now file) < length (now firsts) ⌝ }
     requires { ⌜ 8 * vertices (now file) ≤ length (now gives) ⌝ }
     requires { ⌜ 8 * vertices (now file) ≤ length (now passes) ⌝ }
+    requires { ⌜ 8 * vertices (now file) ≤ length (now halves) ⌝ }
     ensures { λ r. ⌜ PlannedRead (now (file .entry)) (now (out .entry)) r (now (out .exit)) ⌝ }
 {
     let all = flow::COLUMNS * h.vertices;
@@ -102,9 +121,11 @@ fn plan_within(
         &mut uses[..all],
         &mut letters[..all],
         &mut reaching[..all],
+        &mut kept[..all],
         firsts,
         &mut gives[..all],
         &mut passes[..all],
+        &mut halves[..all],
     )
 }
 
@@ -115,12 +136,14 @@ fn plan_large(file: &[u8], h: Header, out: &mut [u8]) -> Reply
 {
     let mut order = [0u16; flow::MAX_EDGES];
     let mut versions = [0 as Set; 2048];
-    let mut uses = [0 as Set; 2048];
+    let mut uses = [0 as Half; 2048];
     let mut letters = [0u8; 2048];
     let mut reaching = [0 as Set; 2048];
+    let mut kept = [0 as Set; 2048];
     let mut firsts = [0u16; Header::MAX_VERTICES + 1];
-    let mut gives = [0 as Set; 2048];
-    let mut passes = [0 as Set; 2048];
+    let mut gives = [0 as Half; 2048];
+    let mut passes = [0 as Half; 2048];
+    let mut halves = [0 as Half; 2048];
     plan_within(
         file,
         h,
@@ -130,9 +153,11 @@ fn plan_large(file: &[u8], h: Header, out: &mut [u8]) -> Reply
         &mut uses,
         &mut letters,
         &mut reaching,
+        &mut kept,
         &mut firsts,
         &mut gives,
         &mut passes,
+        &mut halves,
     )
 }
 
@@ -144,12 +169,14 @@ fn plan_small(file: &[u8], h: Header, out: &mut [u8]) -> Reply
 {
     let mut order = [0u16; 128];
     let mut versions = [0 as Set; 256];
-    let mut uses = [0 as Set; 256];
+    let mut uses = [0 as Half; 256];
     let mut letters = [0u8; 256];
     let mut reaching = [0 as Set; 256];
+    let mut kept = [0 as Set; 256];
     let mut firsts = [0u16; 33];
-    let mut gives = [0 as Set; 256];
-    let mut passes = [0 as Set; 256];
+    let mut gives = [0 as Half; 256];
+    let mut passes = [0 as Half; 256];
+    let mut halves = [0 as Half; 256];
     plan_within(
         file,
         h,
@@ -159,9 +186,11 @@ fn plan_small(file: &[u8], h: Header, out: &mut [u8]) -> Reply
         &mut uses,
         &mut letters,
         &mut reaching,
+        &mut kept,
         &mut firsts,
         &mut gives,
         &mut passes,
+        &mut halves,
     )
 }
 
@@ -212,12 +241,14 @@ fn plan_calls_within(
     work: &mut [u8],
     order: &mut [u16],
     versions: &mut [Set],
-    uses: &mut [Set],
+    uses: &mut [Half],
     letters: &mut [u8],
     reaching: &mut [Set],
+    kept: &mut [Set],
     firsts: &mut [u16],
-    gives: &mut [Set],
-    passes: &mut [Set],
+    gives: &mut [Half],
+    passes: &mut [Half],
+    halves: &mut [Half],
 ) -> Reply
     requires { ⌜ CallsRead (now file) h ⌝ }
     requires { ⌜ Firsts (now file) (now firsts) ⌝ }
@@ -229,9 +260,11 @@ fn plan_calls_within(
     requires { ⌜ 8 * expandedVertices (now file) ≤ length (now uses) ⌝ }
     requires { ⌜ 8 * expandedVertices (now file) ≤ length (now letters) ⌝ }
     requires { ⌜ 8 * expandedVertices (now file) ≤ length (now reaching) ⌝ }
+    requires { ⌜ 8 * expandedVertices (now file) ≤ length (now kept) ⌝ }
     requires { ⌜ expandedVertices (now file) < length (now firsts) ⌝ }
     requires { ⌜ 8 * expandedVertices (now file) ≤ length (now gives) ⌝ }
     requires { ⌜ 8 * expandedVertices (now file) ≤ length (now passes) ⌝ }
+    requires { ⌜ 8 * expandedVertices (now file) ≤ length (now halves) ⌝ }
     ensures { λ r. ⌜ Planned (now (file .entry)) (now (out .entry)) r (now (out .exit)) ⌝ }
 {
     let expanded = expansion::expand_within(
@@ -246,6 +279,7 @@ fn plan_calls_within(
         reaching,
         gives,
         passes,
+        halves,
     );
     let answer = expanded.answer;
     let Answer::Routine(e) = answer else {
@@ -261,9 +295,11 @@ fn plan_calls_within(
         uses,
         letters,
         reaching,
+        kept,
         firsts,
         gives,
         passes,
+        halves,
     )
 }
 
@@ -285,11 +321,13 @@ fn plan_calls_small(
     let mut work = [0u8; 818];
     let mut order = [0u16; 128];
     let mut versions = [0 as Set; 256];
-    let mut uses = [0 as Set; 256];
+    let mut uses = [0 as Half; 256];
     let mut letters = [0u8; 256];
     let mut reaching = [0 as Set; 256];
-    let mut gives = [0 as Set; 256];
-    let mut passes = [0 as Set; 256];
+    let mut kept = [0 as Set; 256];
+    let mut gives = [0 as Half; 256];
+    let mut passes = [0 as Half; 256];
+    let mut halves = [0 as Half; 256];
     plan_calls_within(
         file,
         h,
@@ -301,9 +339,11 @@ fn plan_calls_small(
         &mut uses,
         &mut letters,
         &mut reaching,
+        &mut kept,
         firsts,
         &mut gives,
         &mut passes,
+        &mut halves,
     )
 }
 

@@ -7,6 +7,7 @@ use refusal::Verdict;
 use routine::header::Header;
 use routine::reader;
 use routine::reader::Answer;
+use sets::Half;
 use sets::Set;
 ghost use mathlib.Core.Path.{_≡_};
 ghost use mathlib.Core.Bool.{false};
@@ -43,11 +44,12 @@ fn count_with(
     h: Header,
     order: &mut [u16],
     versions: &mut [Set],
-    uses: &mut [Set],
+    uses: &mut [Half],
     letters: &mut [u8],
     reaching: &mut [Set],
-    gives: &mut [Set],
-    passes: &mut [Set],
+    gives: &mut [Half],
+    passes: &mut [Half],
+    halves: &mut [Half],
 ) -> Passes
     requires { ⌜ ReadAs (now file) h ⌝ }
     requires { ⌜ length (now order) ≡ edges (now file) ⌝ }
@@ -57,6 +59,7 @@ fn count_with(
     requires { ⌜ length (now reaching) ≡ 8 * vertices (now file) ⌝ }
     requires { ⌜ length (now gives) ≡ 8 * vertices (now file) ⌝ }
     requires { ⌜ length (now passes) ≡ 8 * vertices (now file) ⌝ }
+    requires { ⌜ length (now halves) ≡ 8 * vertices (now file) ⌝ }
     ensures { λ r. ⌜ Counted (now (file .entry)) r ⌝ }
 {
     let checked = checks::prepare(
@@ -69,6 +72,7 @@ fn count_with(
         reaching,
         gives,
         passes,
+        halves,
     );
     let verdict = checked.verdict;
     if let Verdict::Failed(_) = verdict {
@@ -80,8 +84,18 @@ fn count_with(
             kept: 0,
         };
     }
-    // from here on `uses` holds the kept sets
-    let last = tables::kept(file, h, order, versions, letters, uses, gives, passes);
+    // from here on `reaching` holds the kept sets
+    let last = tables::kept(
+        file,
+        h,
+        order,
+        versions,
+        letters,
+        reaching,
+        gives,
+        passes,
+        halves,
+    );
     Passes {
         verdict,
         letters: checked.letters,
@@ -97,11 +111,12 @@ fn count_within(
     h: Header,
     order: &mut [u16],
     versions: &mut [Set],
-    uses: &mut [Set],
+    uses: &mut [Half],
     letters: &mut [u8],
     reaching: &mut [Set],
-    gives: &mut [Set],
-    passes: &mut [Set],
+    gives: &mut [Half],
+    passes: &mut [Half],
+    halves: &mut [Half],
 ) -> Passes
     requires { ⌜ ReadAs (now file) h ⌝ }
     requires { ⌜ edges (now file) ≤ length (now order) ⌝ }
@@ -111,6 +126,7 @@ fn count_within(
     requires { ⌜ 8 * vertices (now file) ≤ length (now reaching) ⌝ }
     requires { ⌜ 8 * vertices (now file) ≤ length (now gives) ⌝ }
     requires { ⌜ 8 * vertices (now file) ≤ length (now passes) ⌝ }
+    requires { ⌜ 8 * vertices (now file) ≤ length (now halves) ⌝ }
     ensures { λ r. ⌜ Counted (now (file .entry)) r ⌝ }
 {
     let all = flow::COLUMNS * h.vertices;
@@ -125,6 +141,7 @@ fn count_within(
         &mut reaching[..all],
         &mut gives[..all],
         &mut passes[..all],
+        &mut halves[..all],
     )
 }
 
@@ -135,11 +152,12 @@ fn count(file: &[u8], h: Header) -> Passes
 {
     let mut order = [0u16; flow::MAX_EDGES];
     let mut versions = [0 as Set; 2048];
-    let mut uses = [0 as Set; 2048];
+    let mut uses = [0 as Half; 2048];
     let mut letters = [0u8; 2048];
     let mut reaching = [0 as Set; 2048];
-    let mut gives = [0 as Set; 2048];
-    let mut passes = [0 as Set; 2048];
+    let mut gives = [0 as Half; 2048];
+    let mut passes = [0 as Half; 2048];
+    let mut halves = [0 as Half; 2048];
     count_within(
         file,
         h,
@@ -150,6 +168,7 @@ fn count(file: &[u8], h: Header) -> Passes
         &mut reaching,
         &mut gives,
         &mut passes,
+        &mut halves,
     )
 }
 

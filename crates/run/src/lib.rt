@@ -9,6 +9,7 @@ use refusal::Verdict;
 use routine::header::Header;
 use routine::reader;
 use routine::reader::Answer;
+use sets::Half;
 use sets::Set;
 ghost use mathlib.Core.Path.{_≡_};
 ghost use Prim.Native.Nat.{_+_, _*_, _≤_};
@@ -65,12 +66,13 @@ fn run_with(
     out: &mut [u8],
     order: &mut [u16],
     versions: &mut [Set],
-    uses: &mut [Set],
+    uses: &mut [Half],
     letters: &mut [u8],
     kept: &mut [Set],
     counts: &mut [u8],
-    gives: &mut [Set],
-    passes: &mut [Set],
+    gives: &mut [Half],
+    passes: &mut [Half],
+    halves: &mut [Half],
     taken: &mut [u16],
 ) -> Reply
     requires { ⌜ ReadAs (now file) h ⌝ }
@@ -82,17 +84,39 @@ fn run_with(
     requires { ⌜ length (now counts) ≡ vertices (now file) ⌝ }
     requires { ⌜ length (now gives) ≡ 8 * vertices (now file) ⌝ }
     requires { ⌜ length (now passes) ≡ 8 * vertices (now file) ⌝ }
+    requires { ⌜ length (now halves) ≡ 8 * vertices (now file) ⌝ }
     requires { ⌜ now taken ≡ replicate (edges (now file)) 0 ⌝ }
     ensures { λ r. ⌜ RanRead (now (file .entry)) (now (path .entry)) (now (out .entry)) r (now (out .exit)) ⌝ }
 {
     // here `kept` holds the reaching sets
-    let checked = checks::prepare(file, h, order, versions, uses, letters, kept, gives, passes);
+    let checked = checks::prepare(
+        file,
+        h,
+        order,
+        versions,
+        uses,
+        letters,
+        kept,
+        gives,
+        passes,
+        halves,
+    );
     let verdict = checked.verdict;
     let reply = reply(file, h, path, out.len(), verdict, counts, taken);
     let Reply::Written(size) = reply else {
         return reply;
     };
-    tables::kept(file, h, order, versions, letters, kept, gives, passes);
+    tables::kept(
+        file,
+        h,
+        order,
+        versions,
+        letters,
+        kept,
+        gives,
+        passes,
+        halves,
+    );
     walk::write(file, h, path, letters, kept, taken, size, out);
     reply
 }
@@ -105,12 +129,13 @@ fn run_within(
     out: &mut [u8],
     order: &mut [u16],
     versions: &mut [Set],
-    uses: &mut [Set],
+    uses: &mut [Half],
     letters: &mut [u8],
     kept: &mut [Set],
     counts: &mut [u8],
-    gives: &mut [Set],
-    passes: &mut [Set],
+    gives: &mut [Half],
+    passes: &mut [Half],
+    halves: &mut [Half],
     taken: &mut [u16],
 ) -> Reply
     requires { ⌜ ReadAs (now file) h ⌝ }
@@ -122,6 +147,7 @@ fn run_within(
     requires { ⌜ vertices (now file) ≤ length (now counts) ⌝ }
     requires { ⌜ 8 * vertices (now file) ≤ length (now gives) ⌝ }
     requires { ⌜ 8 * vertices (now file) ≤ length (now passes) ⌝ }
+    requires { ⌜ 8 * vertices (now file) ≤ length (now halves) ⌝ }
     requires { ⌜ edges (now file) ≤ length (now taken) ⌝ }
     requires { ⌜ now taken ≡ replicate (length (now taken)) 0 ⌝ }
     ensures { λ r. ⌜ RanRead (now (file .entry)) (now (path .entry)) (now (out .entry)) r (now (out .exit)) ⌝ }
@@ -142,6 +168,7 @@ fn run_within(
         &mut counts[..n],
         &mut gives[..all],
         &mut passes[..all],
+        &mut halves[..all],
         &mut taken[..e],
     )
 }
@@ -153,12 +180,13 @@ fn run_large(file: &[u8], h: Header, path: &[u8], out: &mut [u8]) -> Reply
 {
     let mut order = [0u16; flow::MAX_EDGES];
     let mut versions = [0 as Set; 2048];
-    let mut uses = [0 as Set; 2048];
+    let mut uses = [0 as Half; 2048];
     let mut letters = [0u8; 2048];
     let mut kept = [0 as Set; 2048];
     let mut counts = [0u8; 256];
-    let mut gives = [0 as Set; 2048];
-    let mut passes = [0 as Set; 2048];
+    let mut gives = [0 as Half; 2048];
+    let mut passes = [0 as Half; 2048];
+    let mut halves = [0 as Half; 2048];
     let mut taken = [0u16; flow::MAX_EDGES];
     run_within(
         file,
@@ -173,6 +201,7 @@ fn run_large(file: &[u8], h: Header, path: &[u8], out: &mut [u8]) -> Reply
         &mut counts,
         &mut gives,
         &mut passes,
+        &mut halves,
         &mut taken,
     )
 }
@@ -185,12 +214,13 @@ fn run_small(file: &[u8], h: Header, path: &[u8], out: &mut [u8]) -> Reply
 {
     let mut order = [0u16; 128];
     let mut versions = [0 as Set; 256];
-    let mut uses = [0 as Set; 256];
+    let mut uses = [0 as Half; 256];
     let mut letters = [0u8; 256];
     let mut kept = [0 as Set; 256];
     let mut counts = [0u8; 32];
-    let mut gives = [0 as Set; 256];
-    let mut passes = [0 as Set; 256];
+    let mut gives = [0 as Half; 256];
+    let mut passes = [0 as Half; 256];
+    let mut halves = [0 as Half; 256];
     let mut taken = [0u16; 128];
     run_within(
         file,
@@ -205,6 +235,7 @@ fn run_small(file: &[u8], h: Header, path: &[u8], out: &mut [u8]) -> Reply
         &mut counts,
         &mut gives,
         &mut passes,
+        &mut halves,
         &mut taken,
     )
 }
@@ -258,12 +289,13 @@ fn run_calls_within(
     work: &mut [u8],
     order: &mut [u16],
     versions: &mut [Set],
-    uses: &mut [Set],
+    uses: &mut [Half],
     letters: &mut [u8],
     kept: &mut [Set],
     counts: &mut [u8],
-    gives: &mut [Set],
-    passes: &mut [Set],
+    gives: &mut [Half],
+    passes: &mut [Half],
+    halves: &mut [Half],
     taken: &mut [u16],
 ) -> Reply
     requires { ⌜ CallsRead (now file) h ⌝ }
@@ -279,6 +311,7 @@ fn run_calls_within(
     requires { ⌜ expandedVertices (now file) ≤ length (now counts) ⌝ }
     requires { ⌜ 8 * expandedVertices (now file) ≤ length (now gives) ⌝ }
     requires { ⌜ 8 * expandedVertices (now file) ≤ length (now passes) ⌝ }
+    requires { ⌜ 8 * expandedVertices (now file) ≤ length (now halves) ⌝ }
     requires { ⌜ length (expandedEdges (now file)) ≤ length (now taken) ⌝ }
     requires { ⌜ now taken ≡ replicate (length (now taken)) 0 ⌝ }
     ensures { λ r. ⌜ Ran (now (file .entry)) (now (path .entry)) (now (out .entry)) r (now (out .exit)) ⌝ }
@@ -296,6 +329,7 @@ fn run_calls_within(
         kept,
         gives,
         passes,
+        halves,
     );
     let answer = expanded.answer;
     let Answer::Routine(e) = answer else {
@@ -315,6 +349,7 @@ fn run_calls_within(
         counts,
         gives,
         passes,
+        halves,
         taken,
     )
 }
@@ -337,12 +372,13 @@ fn run_calls_small(
     let mut work = [0u8; 818];
     let mut order = [0u16; 128];
     let mut versions = [0 as Set; 256];
-    let mut uses = [0 as Set; 256];
+    let mut uses = [0 as Half; 256];
     let mut letters = [0u8; 256];
     let mut kept = [0 as Set; 256];
     let mut counts = [0u8; 32];
-    let mut gives = [0 as Set; 256];
-    let mut passes = [0 as Set; 256];
+    let mut gives = [0 as Half; 256];
+    let mut passes = [0 as Half; 256];
+    let mut halves = [0 as Half; 256];
     let mut taken = [0u16; 128];
     run_calls_within(
         file,
@@ -360,6 +396,7 @@ fn run_calls_small(
         &mut counts,
         &mut gives,
         &mut passes,
+        &mut halves,
         &mut taken,
     )
 }

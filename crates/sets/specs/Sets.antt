@@ -1,8 +1,8 @@
--- Version sets as masks, bit k for version k. Only `width` and `everyVersion` name a width.
+-- Version sets as masks, bit k for version k. Only `width`, `halfWidth` and what is said by them name a width.
 -- Assumes nothing.
 use mathlib.Core.Path.{_≡_}
 use mathlib.Core.Bool.{Bool, true}
-use Prim.Native.Nat.{ℕ, _-_, _/_, _%_, _^_}
+use Prim.Native.Nat.{ℕ, _+_, _-_, _*_, _/_, _%_, _^_}
 use lib.Dec.{eqb, ltb}
 use lib.Bits.{bitAnd}
 use lib.Count.{ones}
@@ -14,6 +14,27 @@ width = 32
 -- the set of every version
 abbrev pub everyVersion : ℕ
 everyVersion = 2 ^ width - 1
+
+-- ---- halves of a set: bits 0 to 15, and 16 to 31 from bit 0 on
+
+abbrev pub halfWidth : ℕ
+halfWidth = 16
+
+abbrev pub lowHalf : ℕ → ℕ
+lowHalf m = m % 2 ^ halfWidth
+
+abbrev pub highHalf : ℕ → ℕ
+highHalf m = m / 2 ^ halfWidth
+
+-- the set that has these halves
+abbrev pub ofHalves : ℕ → ℕ → ℕ
+ofHalves low high = low + 2 ^ halfWidth * high
+
+-- every version of a half
+abbrev pub everyHalf : ℕ
+everyHalf = 2 ^ halfWidth - 1
+
+-- ---- members
 
 -- bit k of a mask, 0 or 1
 unfoldable pub bit : ℕ → ℕ → ℕ

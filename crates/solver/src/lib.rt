@@ -1,7 +1,7 @@
 // The solver: rounds over the edges until one alters no set. The first rounds take every edge. If more are needed, the edges are cut
 // into blocks, and a round takes only the blocks that may alter a set.
 use flow::Carry;
-use sets::Set;
+use sets::Half;
 ghost use mathlib.Core.Path.{_≡_};
 ghost use mathlib.Core.Bool.{true, false};
 ghost use Prim.Native.Nat.{_≤_, _<_, _^_};
@@ -117,9 +117,9 @@ fn take(
     edges: &[u8],
     order: &[u16],
     along: bool,
-    gives: &[Set],
-    passes: &[Set],
-    sets: &mut [Set],
+    gives: &[Half],
+    passes: &[Half],
+    sets: &mut [Half],
     marks: &[u64],
     j: usize,
     p: Progress,
@@ -160,9 +160,9 @@ fn take_block(
     edges: &[u8],
     order: &[u16],
     along: bool,
-    gives: &[Set],
-    passes: &[Set],
-    sets: &mut [Set],
+    gives: &[Half],
+    passes: &[Half],
+    sets: &mut [Half],
     marks: &[u64],
     b: usize,
     p: Progress,
@@ -195,9 +195,9 @@ fn round(
     edges: &[u8],
     order: &[u16],
     along: bool,
-    gives: &[Set],
-    passes: &[Set],
-    sets: &mut [Set],
+    gives: &[Half],
+    passes: &[Half],
+    sets: &mut [Half],
     marks: &[u64],
     pending: u64,
 ) -> Progress
@@ -228,9 +228,9 @@ fn go_on(
     edges: &[u8],
     order: &[u16],
     along: bool,
-    gives: &[Set],
-    passes: &[Set],
-    sets: &mut [Set],
+    gives: &[Half],
+    passes: &[Half],
+    sets: &mut [Half],
     marks: &[u64],
     r: usize,
 ) -> usize
@@ -261,9 +261,9 @@ fn go_on_marked(
     edges: &[u8],
     order: &[u16],
     along: bool,
-    gives: &[Set],
-    passes: &[Set],
-    sets: &mut [Set],
+    gives: &[Half],
+    passes: &[Half],
+    sets: &mut [Half],
     r: usize,
 ) -> usize
     requires { ⌜ Order (edgeCount (now edges)) (now order) ⌝ }
@@ -285,9 +285,9 @@ pub fn solve(
     edges: &[u8],
     order: &[u16],
     along: bool,
-    gives: &[Set],
-    passes: &[Set],
-    sets: &mut [Set],
+    gives: &[Half],
+    passes: &[Half],
+    sets: &mut [Half],
 ) -> usize
     requires { ⌜ Order (edgeCount (now edges)) (now order) ⌝ }
     requires { ⌜ edgeCount (now edges) ≤ maxEdges ⌝ }

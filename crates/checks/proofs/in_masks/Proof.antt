@@ -33,8 +33,8 @@ record-of-requires c κs = let s = c .before .before .before in (s .pre .well .l
 is-in-requires : tie.Need-is-in-requires Inv-loop μ-loop
 is-in-requires c κs = search needs
 
-set-if-requires : tie.Need-set-if-requires Inv-loop μ-loop
-set-if-requires c κs = search needs
+half-if-requires : tie.Need-half-if-requires Inv-loop μ-loop
+half-if-requires c κs = search needs
 
 mul-masks : tie.Need-mul-masks Inv-loop μ-loop
 mul-masks c = omega arith
@@ -52,7 +52,7 @@ loop-again : tie.Need-loop-again Inv-loop μ-loop
 loop-again c =
     let l = c .before .before .before .before in
     replacing-next (l .loop .inv) (omega (arith, l .before .before .pre .heads .arrays-are)) (omega arith)
-    (c .set-if .ensures ∙ ap (λ (b : Bool). cond b 0b1000 0) (c .before .is-in .ensures ∙ ap (λ (r : ArrayRecord). isIn (r .kind)) (c .before .before .record-of .ensures)))
+    (c .half-if .ensures ∙ ap (λ (b : Bool). cond b 0b1000 0) (c .before .is-in .ensures ∙ ap (λ (r : ArrayRecord). isIn (r .kind)) (c .before .before .record-of .ensures)))
 
 returns : tie.Need-returns Inv-loop μ-loop
 returns c =
@@ -74,7 +74,7 @@ in-masks-spec =
     loop-holds
     record-of-requires
     is-in-requires
-    set-if-requires
+    half-if-requires
     mul-masks
     array-write-masks
     add-a

@@ -27,13 +27,19 @@ slice-aggregate-convert-within-6 c = search needs
 slice-aggregate-convert-within-7 : tie.Need-slice-aggregate-convert-within-7
 slice-aggregate-convert-within-7 c = search needs
 
+slice-aggregate-convert-within-8 : tie.Need-slice-aggregate-convert-within-8
+slice-aggregate-convert-within-8 c = search needs
+
+slice-aggregate-convert-within-9 : tie.Need-slice-aggregate-convert-within-9
+slice-aggregate-convert-within-9 c = search needs
+
 convert-within-requires : tie.Need-convert-within-requires
 convert-within-requires c κs =
-    let s = c .before .before .before .before .before .before .before .before .before .before in
+    let s = c .before .before .before .before .before .before .before .before .before .before .before .before in
     let p = s .pre .0 in
     let heads = read-heads p in
     let v = heads .limits .few-vertices in
-    (p, (s .pre .1, (heads .limits .few-edges, (omega (arith, v), (omega (arith, v), (omega (arith, v), (omega (arith, v), (omega (arith, v), omega (arith, v)))))))))
+    (p, (s .pre .1, (heads .limits .few-edges, (omega (arith, v), (omega (arith, v), (omega (arith, v), (omega (arith, v), (omega (arith, v), (omega (arith, v), (omega (arith, v), omega (arith, v)))))))))))
 
 same-length : tie.Need-same-length
 same-length c = search needs
@@ -52,6 +58,8 @@ convert-large-spec =
     slice-aggregate-convert-within-5
     slice-aggregate-convert-within-6
     slice-aggregate-convert-within-7
+    slice-aggregate-convert-within-8
+    slice-aggregate-convert-within-9
     convert-within-requires
     same-length
     returns)

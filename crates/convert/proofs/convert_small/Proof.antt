@@ -27,14 +27,20 @@ slice-aggregate-convert-within-6 c = search needs
 slice-aggregate-convert-within-7 : tie.Need-slice-aggregate-convert-within-7
 slice-aggregate-convert-within-7 c = search needs
 
+slice-aggregate-convert-within-8 : tie.Need-slice-aggregate-convert-within-8
+slice-aggregate-convert-within-8 c = search needs
+
+slice-aggregate-convert-within-9 : tie.Need-slice-aggregate-convert-within-9
+slice-aggregate-convert-within-9 c = search needs
+
 convert-within-requires : tie.Need-convert-within-requires
 convert-within-requires c κs =
-    let s = c .before .before .before .before .before .before .before .before .before .before in
+    let s = c .before .before .before .before .before .before .before .before .before .before .before .before in
     let p = s .pre .0 in
     let heads = read-heads p in
     let v = s .pre .1 .0 .0 in
     let n = heads .vertices-are in
-    (p, (s .pre .1 .1, (omega (arith, s .pre .1 .0 .1, heads .edges-are), (omega (arith, v, n), (omega (arith, v, n), (omega (arith, v, n), (omega (arith, v, n), (omega (arith, v, n), omega (arith, v, n)))))))))
+    (p, (s .pre .1 .1, (omega (arith, s .pre .1 .0 .1, heads .edges-are), (omega (arith, v, n), (omega (arith, v, n), (omega (arith, v, n), (omega (arith, v, n), (omega (arith, v, n), (omega (arith, v, n), (omega (arith, v, n), omega (arith, v, n)))))))))))
 
 same-length : tie.Need-same-length
 same-length c = search needs
@@ -53,6 +59,8 @@ convert-small-spec =
     slice-aggregate-convert-within-5
     slice-aggregate-convert-within-6
     slice-aggregate-convert-within-7
+    slice-aggregate-convert-within-8
+    slice-aggregate-convert-within-9
     convert-within-requires
     same-length
     returns)

@@ -15,7 +15,7 @@ use Rattle.convert.proofs.judge.Statement.{statement}
 use Rattle.convert.proofs.judge.Tie as tie
 
 abbrev start : tie.After-header-of → tie.Start
-start c = c .before .before .before .before .before .before .before .before .before
+start c = c .before .before .before .before .before .before .before .before .before .before
 
 -- the routine, and its counts
 module _ (c : tie.After-header-of) where
@@ -41,14 +41,14 @@ header-of-requires c κs = search needs
 
 judge-requires : tie.Need-judge-requires
 judge-requires c κs =
-    let k = c .before .before .before .before .before .before in
+    let k = c .before .before .before .before .before .before .before in
     let s = start k in
     let p = s .pre .1 .1 .1 .1 in
     let a = s .args in (
       read k,
       (
         p .0 ∙ sym (ap R.edges (is k) ∙ edges-kept (file k) (s .pre .0 .passed) (s .pre .1 .0) (s .pre .1 .1 .0)),
-        (rows k (a .versions .now) (p .1 .0), (rows k (a .uses .now) (p .1 .1 .0), (rows k (a .brought .now) (p .1 .1 .1 .0), (rows k (a .gives .now) (p .1 .1 .1 .1 .0), rows k (a .passes .now) (p .1 .1 .1 .1 .1))))),
+        (rows k (a .versions .now) (p .1 .0), (rows k (a .uses .now) (p .1 .1 .0), (rows k (a .brought .now) (p .1 .1 .1 .0), (rows k (a .gives .now) (p .1 .1 .1 .1 .0), (rows k (a .passes .now) (p .1 .1 .1 .1 .1 .0), rows k (a .halves .now) (p .1 .1 .1 .1 .1 .1)))))),
       ),
     )
 
@@ -70,10 +70,13 @@ same-length-5 c = search needs
 same-length-6 : tie.Need-same-length-6
 same-length-6 c = search needs
 
+same-length-7 : tie.Need-same-length-7
+same-length-7 c = search needs
+
 returns : tie.Need-returns
 returns c =
-    let j = c .before .before .before .before .before .before .before .before .before .before .before .before in
-    let k = c .before .before .before .before .before .before .before .before .before .before .before .before .before .before .before .before .before .before .before in
+    let j = c .before .before .before .before .before .before .before .before .before .before .before .before .before .before in
+    let k = c .before .before .before .before .before .before .before .before .before .before .before .before .before .before .before .before .before .before .before .before .before .before in
     j .judge .ensures .answers ∙ ap programmerCheck (is k)
 
 pub judge-spec : {M : Type 1} → statement M
@@ -88,4 +91,5 @@ judge-spec =
     same-length-4
     same-length-5
     same-length-6
+    same-length-7
     returns)

@@ -14,7 +14,7 @@ use Rattle.convert.proofs.write_checked.Statement.{statement}
 use Rattle.convert.proofs.write_checked.Tie as tie
 
 abbrev start : tie.After-write → tie.Start
-start w = w .before .before .before .before .before .before .before .before .before .before .before .before
+start w = w .before .before .before .before .before .before .before .before .before .before .before .before .before
 
 -- what the writer leaves
 module _ (w : tie.After-write) where
@@ -37,7 +37,7 @@ module _ (w : tie.After-write) where
 
 write-requires : tie.Need-write-requires
 write-requires c κs =
-    let s = c .before .before .before .before .before .before .before .before .before .before .before in
+    let s = c .before .before .before .before .before .before .before .before .before .before .before .before in
     let p = s .pre in
     let n = p .1 .1 .1 .0 in (
       p .0,
@@ -55,7 +55,7 @@ slice-aggregate-judge c = let w = c .before .before .before in sym (length-take-
 
 judge-requires : tie.Need-judge-requires
 judge-requires c κs =
-    let w = c .before .before .before .before .before .before .before .before .before in
+    let w = c .before .before .before .before .before .before .before .before .before .before in
     let p = start w .pre in
     let q = p .1 .1 .1 .1 .1 in (
       p .0,
@@ -65,7 +65,7 @@ judge-requires c κs =
           p .1 .1 .0,
           (
             front w,
-            (q .0, (p .1 .1 .1 .0 .given-are refl .size, (q .1 .0, (q .1 .1 .0, (q .1 .1 .1 .0, q .1 .1 .1 .1))))),
+            (q .0, (p .1 .1 .1 .0 .given-are refl .size, (q .1 .0, (q .1 .1 .0, (q .1 .1 .1 .0, (q .1 .1 .1 .1 .0, q .1 .1 .1 .1 .1)))))),
           ),
         ),
       ),
@@ -95,17 +95,17 @@ same-length-6 c = search needs
 same-length-7 : tie.Need-same-length-7
 same-length-7 c = search needs
 
+same-length-8 : tie.Need-same-length-8
+same-length-8 c = search needs
+
 returns : tie.Need-returns
 returns c =
-    let w = c .before .before .before .before .before .before .before .before .before .before .before .before .before .before .before .before .before .before .before .before .before .before .before .before .before in
+    let w = c .before .before .before .before .before .before .before .before .before .before .before .before .before .before .before .before .before .before .before .before .before .before .before .before .before .before .before .before in
     let s = start w in
-    programmer-refused (s .args .file .now) (s .pre .0 .passed) (s .pre .1 .0) (s .pre .1 .1 .0) (c .before .before .before .before .before .before .before .before .before .before .before .before .before .before .before .judge .ensures) (c .before .judged .given .1)
+    programmer-refused (s .args .file .now) (s .pre .0 .passed) (s .pre .1 .0) (s .pre .1 .1 .0) (c .before .before .before .before .before .before .before .before .before .before .before .before .before .before .before .before .before .judge .ensures) (c .before .judged .given .1)
 
 enum-told : tie.Need-enum-told
 enum-told c = search needs
-
-same-length-8 : tie.Need-same-length-8
-same-length-8 c = search needs
 
 same-length-9 : tie.Need-same-length-9
 same-length-9 c = search needs
@@ -125,11 +125,17 @@ same-length-13 c = search needs
 same-length-14 : tie.Need-same-length-14
 same-length-14 c = search needs
 
+same-length-15 : tie.Need-same-length-15
+same-length-15 c = search needs
+
+same-length-16 : tie.Need-same-length-16
+same-length-16 c = search needs
+
 returns-2 : tie.Need-returns-2
 returns-2 c =
-    let w = c .before .before .before .before .before .before .before .before .before .before .before .before .before .before .before .before .before .before .before .before .before .before .before .before in
+    let w = c .before .before .before .before .before .before .before .before .before .before .before .before .before .before .before .before .before .before .before .before .before .before .before .before .before .before .before in
     let s = start w in
-    prepared (s .args .file .now) (s .pre .0 .passed) (s .pre .1 .0) (s .pre .1 .1 .0) (c .before .before .before .before .before .before .before .before .before .before .before .before .before .before .judge .ensures) (c .enum-told .given .1) (w .write .ensures .0) (within w) (front w)
+    prepared (s .args .file .now) (s .pre .0 .passed) (s .pre .1 .0) (s .pre .1 .1 .0) (c .before .before .before .before .before .before .before .before .before .before .before .before .before .before .before .before .judge .ensures) (c .enum-told .given .1) (w .write .ensures .0) (within w) (front w)
 
 pub write-checked-spec : {M : Type 1} → statement M
 write-checked-spec =
@@ -147,13 +153,15 @@ write-checked-spec =
     same-length-5
     same-length-6
     same-length-7
+    same-length-8
     returns
     enum-told
-    same-length-8
     same-length-9
     same-length-10
     same-length-11
     same-length-12
     same-length-13
     same-length-14
+    same-length-15
+    same-length-16
     returns-2)

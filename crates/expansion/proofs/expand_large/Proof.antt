@@ -1,8 +1,8 @@
 -- `expand_large` meets its contract: the work slices are arrays of the largest sizes.
 -- Assumes nothing.
 use native.Mathlib.Omega.{arith}
-use borrow.Author.Needs.{needs}
 use Rattle.expansion.proofs.Ways.{fits}
+use borrow.Author.Needs.{needs}
 use Rattle.expansion.proofs.expand_large.Statement.{statement}
 use Rattle.expansion.proofs.expand_large.Tie as tie
 
@@ -24,10 +24,17 @@ slice-aggregate-expand-within-5 c = search needs
 slice-aggregate-expand-within-6 : tie.Need-slice-aggregate-expand-within-6
 slice-aggregate-expand-within-6 c = search needs
 
+slice-aggregate-expand-within-7 : tie.Need-slice-aggregate-expand-within-7
+slice-aggregate-expand-within-7 c = search needs
+
 expand-within-requires : tie.Need-expand-within-requires
 expand-within-requires c κs =
-    let p = c .before .before .before .before .before .before .before .before .before .before .pre in
-    (p .0, (p .1 .0, (p .1 .1 .0, (p .1 .1 .1 .0, (omega (arith, fits (p .1 .0), p .1 .1 .1 .1), (omega (arith, p .0 .heads .vertices-are, p .0 .heads .edges-are, p .0 .well .laid .limits .few-vertices, p .1 .0 .few-edges), (omega (arith, p .0 .heads .vertices-are, p .0 .heads .edges-are, p .0 .well .laid .limits .few-vertices, p .1 .0 .few-edges), (omega (arith, p .0 .heads .vertices-are, p .0 .heads .edges-are, p .0 .well .laid .limits .few-vertices, p .1 .0 .few-edges), (omega (arith, p .0 .heads .vertices-are, p .0 .heads .edges-are, p .0 .well .laid .limits .few-vertices, p .1 .0 .few-edges), (omega (arith, p .0 .heads .vertices-are, p .0 .heads .edges-are, p .0 .well .laid .limits .few-vertices, p .1 .0 .few-edges), omega (arith, p .0 .heads .vertices-are, p .0 .heads .edges-are, p .0 .well .laid .limits .few-vertices, p .1 .0 .few-edges)))))))))))
+    let p = c .before .before .before .before .before .before .before .before .before .before .before .pre in
+    let n = p .0 .heads .vertices-are in
+    let e = p .0 .heads .edges-are in
+    let v = p .0 .well .laid .limits .few-vertices in
+    let l = p .1 .0 .few-edges in
+    (p .0, (p .1 .0, (p .1 .1 .0, (p .1 .1 .1 .0, (omega (arith, fits (p .1 .0), p .1 .1 .1 .1), (omega (arith, n, e, v, l), (omega (arith, n, e, v, l), (omega (arith, n, e, v, l), (omega (arith, n, e, v, l), (omega (arith, n, e, v, l), (omega (arith, n, e, v, l), omega (arith, n, e, v, l))))))))))))
 
 same-length : tie.Need-same-length
 same-length c = search needs
@@ -45,6 +52,7 @@ expand-large-spec =
     slice-aggregate-expand-within-4
     slice-aggregate-expand-within-5
     slice-aggregate-expand-within-6
+    slice-aggregate-expand-within-7
     expand-within-requires
     same-length
     returns)

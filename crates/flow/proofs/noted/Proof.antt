@@ -10,7 +10,7 @@ use Rattle.sets.specs.Sets.{minus}
 use Rattle.words.proofs.Filling.{Filling, fill-begin, fill-next, fill-end}
 use Rattle.flow.proofs.noted.Statement.{statement}
 use Rattle.flow.proofs.noted.Tie as tie
-use Rattle.sets.proofs.difference.Reads as difference-reads
+use Rattle.sets.proofs.half_difference.Reads as half-difference-reads
 
 abbrev Inv-loop : tie.InvT-loop
 Inv-loop note brought held new₀ a₀ new a = Filling (λ b. bitOr (getD note b 0) (minus (getD brought b 0) (getD held b 0))) 8 new₀ new a
@@ -27,20 +27,20 @@ mul-new c = omega arith
 array-read-new : tie.Need-array-read-new Inv-loop μ-loop
 array-read-new c = omega arith
 
-mul-difference : tie.Need-mul-difference Inv-loop μ-loop
-mul-difference c = omega arith
+mul-half-difference : tie.Need-mul-half-difference Inv-loop μ-loop
+mul-half-difference c = omega arith
 
-array-read-difference : tie.Need-array-read-difference Inv-loop μ-loop
-array-read-difference c = omega arith
+array-read-half-difference : tie.Need-array-read-half-difference Inv-loop μ-loop
+array-read-half-difference c = omega arith
 
-mul-difference-2 : tie.Need-mul-difference-2 Inv-loop μ-loop
-mul-difference-2 c = omega arith
+mul-half-difference-2 : tie.Need-mul-half-difference-2 Inv-loop μ-loop
+mul-half-difference-2 c = omega arith
 
-array-read-difference-2 : tie.Need-array-read-difference-2 Inv-loop μ-loop
-array-read-difference-2 c = omega arith
+array-read-half-difference-2 : tie.Need-array-read-half-difference-2 Inv-loop μ-loop
+array-read-half-difference-2 c = omega arith
 
-difference-requires : tie.Need-difference-requires Inv-loop μ-loop
-difference-requires c κs = search needs
+half-difference-requires : tie.Need-half-difference-requires Inv-loop μ-loop
+half-difference-requires c κs = search needs
 
 mul-new-2 : tie.Need-mul-new-2 Inv-loop μ-loop
 mul-new-2 c = omega arith
@@ -57,7 +57,7 @@ loop-less c = omega arith
 loop-again : tie.Need-loop-again Inv-loop μ-loop
 loop-again c =
     let l = c .before .before in
-    fill-next (l .loop .inv) (c .before .loop-test .taken) (ap (bitOr (getD (l .before .args .t1) (l .loop .a) 0)) (c .difference .ensures))
+    fill-next (l .loop .inv) (c .before .loop-test .taken) (ap (bitOr (getD (l .before .args .t1) (l .loop .a) 0)) (c .half-difference .ensures))
 
 returns : tie.Need-returns Inv-loop μ-loop
 returns c = fill-end (c .before .loop .inv) (c .loop-test .left)
@@ -71,11 +71,11 @@ noted-spec =
     loop-holds
     mul-new
     array-read-new
-    mul-difference
-    array-read-difference
-    mul-difference-2
-    array-read-difference-2
-    difference-requires
+    mul-half-difference
+    array-read-half-difference
+    mul-half-difference-2
+    array-read-half-difference-2
+    half-difference-requires
     mul-new-2
     array-write-new
     add-a

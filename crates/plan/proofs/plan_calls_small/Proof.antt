@@ -34,6 +34,12 @@ slice-aggregate-plan-calls-within-7 c = search needs
 slice-aggregate-plan-calls-within-8 : tie.Need-slice-aggregate-plan-calls-within-8
 slice-aggregate-plan-calls-within-8 c = search needs
 
+slice-aggregate-plan-calls-within-9 : tie.Need-slice-aggregate-plan-calls-within-9
+slice-aggregate-plan-calls-within-9 c = search needs
+
+slice-aggregate-plan-calls-within-10 : tie.Need-slice-aggregate-plan-calls-within-10
+slice-aggregate-plan-calls-within-10 c = search needs
+
 can : (s : tie.Start) → Expandable (s .args .file .now)
 can s = record {
   well = s .pre .0 .read .well;
@@ -44,12 +50,12 @@ can s = record {
 
 plan-calls-within-requires : tie.Need-plan-calls-within-requires
 plan-calls-within-requires c κs =
-    let s = c .before .before .before .before .before .before .before .before .before .before .before .before .before in
+    let s = c .before .before .before .before .before .before .before .before .before .before .before .before .before .before .before in
     let p = s .pre in
     let v = p .1 .1 .1 .1 .0 in
     let e = p .1 .1 .1 .1 .1 in
     let h = p .0 .read .heads in
-    (p .0, (p .1 .0, (p .1 .1 .0, (can s .few-vertices, (omega (arith, small-fits (can s) (omega (arith, p .1 .1 .0, v)) (omega (arith, p .1 .1 .0, e, h .vertices-are, h .edges-are))), (omega (arith, more-edges (can s), p .1 .1 .0, e, h .vertices-are, h .edges-are), (omega (arith, p .1 .1 .0, v), (omega (arith, p .1 .1 .0, v), (omega (arith, p .1 .1 .0, v), (omega (arith, p .1 .1 .0, v), (omega (arith, p .1 .1 .0, v, p .1 .1 .1 .0), (omega (arith, p .1 .1 .0, v), omega (arith, p .1 .1 .0, v)))))))))))))
+    (p .0, (p .1 .0, (p .1 .1 .0, (can s .few-vertices, (omega (arith, small-fits (can s) (omega (arith, p .1 .1 .0, v)) (omega (arith, p .1 .1 .0, e, h .vertices-are, h .edges-are))), (omega (arith, more-edges (can s), p .1 .1 .0, e, h .vertices-are, h .edges-are), (omega (arith, p .1 .1 .0, v), (omega (arith, p .1 .1 .0, v), (omega (arith, p .1 .1 .0, v), (omega (arith, p .1 .1 .0, v), (omega (arith, p .1 .1 .0, v), (omega (arith, p .1 .1 .0, v, p .1 .1 .1 .0), (omega (arith, p .1 .1 .0, v), (omega (arith, p .1 .1 .0, v), omega (arith, p .1 .1 .0, v)))))))))))))))
 
 same-length : tie.Need-same-length
 same-length c = search needs
@@ -72,6 +78,8 @@ plan-calls-small-spec =
     slice-aggregate-plan-calls-within-6
     slice-aggregate-plan-calls-within-7
     slice-aggregate-plan-calls-within-8
+    slice-aggregate-plan-calls-within-9
+    slice-aggregate-plan-calls-within-10
     plan-calls-within-requires
     same-length
     same-length-2

@@ -29,12 +29,20 @@ slice-aggregate-plan-within-7 c = search needs
 slice-aggregate-plan-within-8 : tie.Need-slice-aggregate-plan-within-8
 slice-aggregate-plan-within-8 c = search needs
 
+slice-aggregate-plan-within-9 : tie.Need-slice-aggregate-plan-within-9
+slice-aggregate-plan-within-9 c = search needs
+
+slice-aggregate-plan-within-10 : tie.Need-slice-aggregate-plan-within-10
+slice-aggregate-plan-within-10 c = search needs
+
 plan-within-requires : tie.Need-plan-within-requires
 plan-within-requires c κs =
-    let p = c .before .before .before .before .before .before .before .before .before .before .before .pre in
+    let p = c .before .before .before .before .before .before .before .before .before .before .before .before .before .pre in
+    let n = p .heads .vertices-are in
+    let e = p .heads .edges-are in
     let v = p .well .laid .limits .few-vertices in
-    let e = p .well .laid .limits .few-edges in
-    (p, (omega (arith, p .heads .vertices-are, p .heads .edges-are, v, e), (omega (arith, p .heads .vertices-are, p .heads .edges-are, v, e), (omega (arith, p .heads .vertices-are, p .heads .edges-are, v, e), (omega (arith, p .heads .vertices-are, p .heads .edges-are, v, e), (omega (arith, p .heads .vertices-are, p .heads .edges-are, v, e), (omega (arith, p .heads .vertices-are, p .heads .edges-are, v, e), (omega (arith, p .heads .vertices-are, p .heads .edges-are, v, e), omega (arith, p .heads .vertices-are, p .heads .edges-are, v, e)))))))))
+    let l = p .well .laid .limits .few-edges in
+    (p, (omega (arith, n, e, v, l), (omega (arith, n, e, v, l), (omega (arith, n, e, v, l), (omega (arith, n, e, v, l), (omega (arith, n, e, v, l), (omega (arith, n, e, v, l), (omega (arith, n, e, v, l), (omega (arith, n, e, v, l), (omega (arith, n, e, v, l), omega (arith, n, e, v, l)))))))))))
 
 same-length : tie.Need-same-length
 same-length c = search needs
@@ -54,6 +62,8 @@ plan-large-spec =
     slice-aggregate-plan-within-6
     slice-aggregate-plan-within-7
     slice-aggregate-plan-within-8
+    slice-aggregate-plan-within-9
+    slice-aggregate-plan-within-10
     plan-within-requires
     same-length
     returns)

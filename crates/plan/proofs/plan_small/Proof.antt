@@ -1,4 +1,4 @@
--- `plan_small` meets its contract: the work slices are arrays of a small routine's sizes.
+-- `plan_small` meets its contract: the work slices are arrays for a small routine.
 -- Assumes nothing.
 use native.Mathlib.Omega.{arith}
 use borrow.Author.Needs.{needs}
@@ -29,12 +29,20 @@ slice-aggregate-plan-within-7 c = search needs
 slice-aggregate-plan-within-8 : tie.Need-slice-aggregate-plan-within-8
 slice-aggregate-plan-within-8 c = search needs
 
+slice-aggregate-plan-within-9 : tie.Need-slice-aggregate-plan-within-9
+slice-aggregate-plan-within-9 c = search needs
+
+slice-aggregate-plan-within-10 : tie.Need-slice-aggregate-plan-within-10
+slice-aggregate-plan-within-10 c = search needs
+
 plan-within-requires : tie.Need-plan-within-requires
 plan-within-requires c κs =
-    let p = c .before .before .before .before .before .before .before .before .before .before .before .pre in
+    let p = c .before .before .before .before .before .before .before .before .before .before .before .before .before .pre in
+    let n = p .0 .heads .vertices-are in
+    let e = p .0 .heads .edges-are in
     let v = p .1 .0 in
-    let e = p .1 .1 in
-    (p .0, (omega (arith, p .0 .heads .vertices-are, p .0 .heads .edges-are, v, e), (omega (arith, p .0 .heads .vertices-are, p .0 .heads .edges-are, v, e), (omega (arith, p .0 .heads .vertices-are, p .0 .heads .edges-are, v, e), (omega (arith, p .0 .heads .vertices-are, p .0 .heads .edges-are, v, e), (omega (arith, p .0 .heads .vertices-are, p .0 .heads .edges-are, v, e), (omega (arith, p .0 .heads .vertices-are, p .0 .heads .edges-are, v, e), (omega (arith, p .0 .heads .vertices-are, p .0 .heads .edges-are, v, e), omega (arith, p .0 .heads .vertices-are, p .0 .heads .edges-are, v, e)))))))))
+    let l = p .1 .1 in
+    (p .0, (omega (arith, n, e, v, l), (omega (arith, n, e, v, l), (omega (arith, n, e, v, l), (omega (arith, n, e, v, l), (omega (arith, n, e, v, l), (omega (arith, n, e, v, l), (omega (arith, n, e, v, l), (omega (arith, n, e, v, l), (omega (arith, n, e, v, l), omega (arith, n, e, v, l)))))))))))
 
 same-length : tie.Need-same-length
 same-length c = search needs
@@ -54,6 +62,8 @@ plan-small-spec =
     slice-aggregate-plan-within-6
     slice-aggregate-plan-within-7
     slice-aggregate-plan-within-8
+    slice-aggregate-plan-within-9
+    slice-aggregate-plan-within-10
     plan-within-requires
     same-length
     returns)

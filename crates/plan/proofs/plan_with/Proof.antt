@@ -9,64 +9,60 @@ use Rattle.plan.proofs.plan_with.Tie as tie
 
 -- from each call to the one before
 abbrev start : tie.After-prepare → tie.Start
-start p = p .before .before .before .before .before .before .before .before .before .before .before .before .before .before .before .before .before .before
+start p = p .before .before .before .before .before .before .before .before .before .before .before .before .before .before .before .before .before .before .before .before .before
 
 abbrev prepared : tie.After-reply → tie.After-prepare
-prepared q = q .before .before .before .before .before .before .before .before .before .before .before .before .before .before .before .before .before
+prepared q = q .before .before .before .before .before .before .before .before .before .before .before .before .before .before .before .before .before .before .before
 
 abbrev replied : tie.After-kept → tie.After-reply
-replied t = t .before .before .before .before .before .before .before .before .before .before .before
-
-abbrev keeps : tie.After-write → tie.After-kept
-keeps w = w .before .before .before .before .before .before .before .before .before .before .before .before .before
+replied t = t .before .before .before .before .before .before .before .before .before .before .before .before
 
 prepare-requires : tie.Need-prepare-requires
 prepare-requires c κs =
-    let p = c .before .before .before .before .before .before .before .before .before .before .before .before .before .before .before .before .before .pre in
-    (p .0, (p .1 .0, (p .1 .1 .0, (p .1 .1 .1 .0, (p .1 .1 .1 .1 .0, (p .1 .1 .1 .1 .1 .0, (p .1 .1 .1 .1 .1 .1 .1 .0, p .1 .1 .1 .1 .1 .1 .1 .1)))))))
+    let p = c .before .before .before .before .before .before .before .before .before .before .before .before .before .before .before .before .before .before .before .before .pre in
+    (p .0, (p .1 .0, (p .1 .1 .0, (p .1 .1 .1 .0, (p .1 .1 .1 .1 .0, (p .1 .1 .1 .1 .1 .0, (p .1 .1 .1 .1 .1 .1 .1 .1 .0, (p .1 .1 .1 .1 .1 .1 .1 .1 .1 .0, p .1 .1 .1 .1 .1 .1 .1 .1 .1 .1))))))))
 
 reply-requires : tie.Need-reply-requires
 reply-requires c κs =
-    let k = c .before .before .before .before .before .before .before .before .before .before .before .before .before .before .before .before in
+    let k = c .before .before .before .before .before .before .before .before .before .before .before .before .before .before .before .before .before .before in
     let p = start k .pre in
-    (p .0, (k .prepare .ensures .1 .1 .answers, (k .prepare .ensures .1 .0, p .1 .1 .1 .1 .1 .1 .0)))
-
--- ---- a refusal
+    (p .0, (k .prepare .ensures .1 .1 .answers, (k .prepare .ensures .1 .0, p .1 .1 .1 .1 .1 .1 .1 .0)))
 
 enum-told : tie.Need-enum-told
 enum-told c = search needs
 
 same-length : tie.Need-same-length
-same-length c = prepared (c .before .before .before .before) .prepare .kept .1 .1 .0
+same-length c = search needs
 
 same-length-2 : tie.Need-same-length-2
-same-length-2 c = prepared (c .before .before .before .before) .prepare .kept .1 .1 .1 .0
+same-length-2 c = search needs
 
 same-length-3 : tie.Need-same-length-3
-same-length-3 c = prepared (c .before .before .before .before) .prepare .kept .1 .1 .1 .1 .0
+same-length-3 c = search needs
 
 same-length-4 : tie.Need-same-length-4
-same-length-4 c = prepared (c .before .before .before .before) .prepare .kept .1 .1 .1 .1 .1 .0
+same-length-4 c = search needs
 
 same-length-5 : tie.Need-same-length-5
-same-length-5 c = prepared (c .before .before .before .before) .prepare .kept .1 .1 .1 .1 .1 .1 .0
+same-length-5 c = search needs
 
 same-length-6 : tie.Need-same-length-6
-same-length-6 c = c .before .before .before .before .reply .kept .1 .1 .1 .1 .1 .0
+same-length-6 c = search needs
 
 same-length-7 : tie.Need-same-length-7
-same-length-7 c = prepared (c .before .before .before .before) .prepare .kept .1 .1 .1 .1 .1 .1 .1 .0
+same-length-7 c = search needs
 
 same-length-8 : tie.Need-same-length-8
-same-length-8 c = prepared (c .before .before .before .before) .prepare .kept .1 .1 .1 .1 .1 .1 .1 .1 .0
+same-length-8 c = search needs
+
+same-length-9 : tie.Need-same-length-9
+same-length-9 c = search needs
 
 returns : tie.Need-returns
 returns c =
     let q = c .before .before .before .before in
     let a = start (prepared q) .args in
     denied-planned (a .file .now) (a .out .now) (q .reply .ensures .answer) (c .enum-told .given .1)
-
--- ---- the plan
 
 enum-told-2 : tie.Need-enum-told-2
 enum-told-2 c = search needs
@@ -81,16 +77,16 @@ passed c =
 
 kept-requires : tie.Need-kept-requires
 kept-requires c κs =
-    let e = c .before .before .before .before .before .before in
+    let e = c .before .before .before .before .before .before .before in
     let x = prepared (e .before .before .before .before) in
     let p = start x .pre in
     let k = x .prepare in
-    (p .0, (k .ensures .0, (k .ensures .1 .0, (k .ensures .1 .1 .letters-are (passed e), (k .kept .1 .1 .1 .1 .0 ∙ p .1 .1 .1 .0, (k .kept .1 .1 .1 .1 .1 .1 .1 .0 ∙ p .1 .1 .1 .1 .1 .1 .1 .0, k .kept .1 .1 .1 .1 .1 .1 .1 .1 .0 ∙ p .1 .1 .1 .1 .1 .1 .1 .1))))))
+    (p .0, (k .ensures .0, (k .ensures .1 .0, (k .ensures .1 .1 .letters-are (passed e), (p .1 .1 .1 .1 .1 .1 .0, (k .kept .1 .1 .1 .1 .1 .1 .1 .0 ∙ p .1 .1 .1 .1 .1 .1 .1 .1 .0, (k .kept .1 .1 .1 .1 .1 .1 .1 .1 .0 ∙ p .1 .1 .1 .1 .1 .1 .1 .1 .1 .0, k .kept .1 .1 .1 .1 .1 .1 .1 .1 .1 .0 ∙ p .1 .1 .1 .1 .1 .1 .1 .1 .1 .1)))))))
 
 write-requires : tie.Need-write-requires
 write-requires c κs =
-    let t = c .before .before .before .before .before .before .before .before .before .before .before .before in
-    let e = t .before .before .before .before .before .before .before in
+    let t = c .before .before .before .before .before .before .before .before .before .before .before .before .before .before in
+    let e = t .before .before .before .before .before .before .before .before in
     let q = replied t in
     let x = prepared q in
     let s = start x in
@@ -109,39 +105,45 @@ write-requires c κs =
       ),
     )
 
-same-length-9 : tie.Need-same-length-9
-same-length-9 c = c .before .before .write .kept .1 .1 .1 .1 .1 .1 .1 .0
-
 same-length-10 : tie.Need-same-length-10
-same-length-10 c = prepared (replied (keeps (c .before .before))) .prepare .kept .1 .1 .0
+same-length-10 c = search needs
 
 same-length-11 : tie.Need-same-length-11
-same-length-11 c = prepared (replied (keeps (c .before .before))) .prepare .kept .1 .1 .1 .0
+same-length-11 c = c .before .before .before .before .before .before .before .before .before .before .before .before .before .before .before .before .before .before .before .before .before .before .before .before .before .before .before .before .before .before .before .before .before .before .before .before .before .before .before .before .before .before .before .before .before .before .before .before .prepare .kept .1 .1 .0
 
 same-length-12 : tie.Need-same-length-12
-same-length-12 c = keeps (c .before .before) .kept .kept .1 .1 .1 .1 .1 .0 ∙ prepared (replied (keeps (c .before .before))) .prepare .kept .1 .1 .1 .1 .0
+same-length-12 c = c .before .before .before .before .before .before .before .before .before .before .before .before .before .before .before .before .before .before .before .before .before .before .before .before .before .before .before .before .before .before .before .before .before .before .before .before .before .before .before .before .before .before .before .before .before .before .before .before .prepare .kept .1 .1 .1 .0
 
 same-length-13 : tie.Need-same-length-13
-same-length-13 c = prepared (replied (keeps (c .before .before))) .prepare .kept .1 .1 .1 .1 .1 .0
+same-length-13 c = c .before .before .before .before .before .before .before .before .before .before .before .before .before .before .before .before .before .before .before .before .before .before .before .before .before .before .before .before .before .before .before .before .before .before .before .before .before .before .before .before .before .before .before .before .before .before .before .before .prepare .kept .1 .1 .1 .1 .0
 
 same-length-14 : tie.Need-same-length-14
-same-length-14 c = prepared (replied (keeps (c .before .before))) .prepare .kept .1 .1 .1 .1 .1 .1 .0
+same-length-14 c = c .before .before .before .before .before .before .before .before .before .before .before .before .before .before .before .before .before .before .before .before .before .before .before .before .before .before .before .before .before .before .before .before .before .before .before .before .before .before .before .before .before .before .before .before .before .before .before .before .prepare .kept .1 .1 .1 .1 .1 .0
 
 same-length-15 : tie.Need-same-length-15
-same-length-15 c = replied (keeps (c .before .before)) .reply .kept .1 .1 .1 .1 .1 .0
+same-length-15 c = c .before .before .before .before .before .before .before .before .before .before .before .before .before .before .before .before .before .before .before .before .before .before .before .before .before .before .before .before .before .before .before .before .before .before .before .before .before .before .before .before .before .before .before .before .before .before .before .before .prepare .kept .1 .1 .1 .1 .1 .1 .0
 
 same-length-16 : tie.Need-same-length-16
-same-length-16 c = keeps (c .before .before) .kept .kept .1 .1 .1 .1 .1 .1 .0 ∙ prepared (replied (keeps (c .before .before))) .prepare .kept .1 .1 .1 .1 .1 .1 .1 .0
+same-length-16 c = search needs
 
 same-length-17 : tie.Need-same-length-17
-same-length-17 c = keeps (c .before .before) .kept .kept .1 .1 .1 .1 .1 .1 .1 .0 ∙ prepared (replied (keeps (c .before .before))) .prepare .kept .1 .1 .1 .1 .1 .1 .1 .1 .0
+same-length-17 c = search needs
+
+same-length-18 : tie.Need-same-length-18
+same-length-18 c = c .before .before .before .before .before .before .before .before .before .before .before .before .before .before .before .before .before .kept .kept .1 .1 .1 .1 .1 .1 .0 ∙ c .before .before .before .before .before .before .before .before .before .before .before .before .before .before .before .before .before .before .before .before .before .before .before .before .before .before .before .before .before .before .before .before .before .before .before .before .before .before .before .before .before .before .before .before .before .before .before .before .prepare .kept .1 .1 .1 .1 .1 .1 .1 .0
+
+same-length-19 : tie.Need-same-length-19
+same-length-19 c = c .before .before .before .before .before .before .before .before .before .before .before .before .before .before .before .before .before .kept .kept .1 .1 .1 .1 .1 .1 .1 .0 ∙ c .before .before .before .before .before .before .before .before .before .before .before .before .before .before .before .before .before .before .before .before .before .before .before .before .before .before .before .before .before .before .before .before .before .before .before .before .before .before .before .before .before .before .before .before .before .before .before .before .prepare .kept .1 .1 .1 .1 .1 .1 .1 .1 .0
+
+same-length-20 : tie.Need-same-length-20
+same-length-20 c = c .before .before .before .before .before .before .before .before .before .before .before .before .before .before .before .before .before .kept .kept .1 .1 .1 .1 .1 .1 .1 .1 .0 ∙ c .before .before .before .before .before .before .before .before .before .before .before .before .before .before .before .before .before .before .before .before .before .before .before .before .before .before .before .before .before .before .before .before .before .before .before .before .before .before .before .before .before .before .before .before .before .before .before .before .prepare .kept .1 .1 .1 .1 .1 .1 .1 .1 .1 .0
 
 returns-2 : tie.Need-returns-2
 returns-2 c =
-    let t = keeps (c .before .before) in
+    let t = c .before .before .before .before .before .before .before .before .before .before .before .before .before .before .before .before .before in
     let q = replied t in
     let s = start (prepared q) in
-    written-planned (s .args .file .now) (s .args .out .now) (q .reply .ensures .answer) (t .before .before .before .before .before .before .before .enum-told2 .given .1) (c .before .before .write .ensures)
+    written-planned (s .args .file .now) (s .args .out .now) (q .reply .ensures .answer) (t .before .before .before .before .before .before .before .before .enum-told2 .given .1) (c .before .before .write .ensures)
 
 pub plan-with-spec : {M : Type 1} → statement M
 plan-with-spec =
@@ -158,11 +160,11 @@ plan-with-spec =
     same-length-6
     same-length-7
     same-length-8
+    same-length-9
     returns
     enum-told-2
     kept-requires
     write-requires
-    same-length-9
     same-length-10
     same-length-11
     same-length-12
@@ -171,4 +173,7 @@ plan-with-spec =
     same-length-15
     same-length-16
     same-length-17
+    same-length-18
+    same-length-19
+    same-length-20
     returns-2)

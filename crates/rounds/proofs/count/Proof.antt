@@ -26,12 +26,17 @@ slice-aggregate-count-within-6 c = search needs
 slice-aggregate-count-within-7 : tie.Need-slice-aggregate-count-within-7
 slice-aggregate-count-within-7 c = search needs
 
+slice-aggregate-count-within-8 : tie.Need-slice-aggregate-count-within-8
+slice-aggregate-count-within-8 c = search needs
+
 count-within-requires : tie.Need-count-within-requires
 count-within-requires c κs =
-    let p = c .before .before .before .before .before .before .before .before .pre in
+    let p = c .before .before .before .before .before .before .before .before .before .pre in
+    let n = p .heads .vertices-are in
+    let e = p .heads .edges-are in
     let v = p .well .laid .limits .few-vertices in
-    let e = p .well .laid .limits .few-edges in
-    (p, (omega (arith, p .heads .vertices-are, p .heads .edges-are, v, e), (omega (arith, p .heads .vertices-are, p .heads .edges-are, v, e), (omega (arith, p .heads .vertices-are, p .heads .edges-are, v, e), (omega (arith, p .heads .vertices-are, p .heads .edges-are, v, e), (omega (arith, p .heads .vertices-are, p .heads .edges-are, v, e), (omega (arith, p .heads .vertices-are, p .heads .edges-are, v, e), omega (arith, p .heads .vertices-are, p .heads .edges-are, v, e))))))))
+    let l = p .well .laid .limits .few-edges in
+    (p, (omega (arith, n, e, v, l), (omega (arith, n, e, v, l), (omega (arith, n, e, v, l), (omega (arith, n, e, v, l), (omega (arith, n, e, v, l), (omega (arith, n, e, v, l), (omega (arith, n, e, v, l), omega (arith, n, e, v, l)))))))))
 
 returns : tie.Need-returns
 returns c = search needs
@@ -47,5 +52,6 @@ count-spec =
     slice-aggregate-count-within-5
     slice-aggregate-count-within-6
     slice-aggregate-count-within-7
+    slice-aggregate-count-within-8
     count-within-requires
     returns)

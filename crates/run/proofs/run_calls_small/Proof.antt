@@ -41,6 +41,9 @@ slice-aggregate-run-calls-within-9 c = search needs
 slice-aggregate-run-calls-within-10 : tie.Need-slice-aggregate-run-calls-within-10
 slice-aggregate-run-calls-within-10 c = search needs
 
+slice-aggregate-run-calls-within-11 : tie.Need-slice-aggregate-run-calls-within-11
+slice-aggregate-run-calls-within-11 c = search needs
+
 can : (s : tie.Start) → Expandable (s .args .file .now)
 can s = record {
   well = s .pre .0 .read .well;
@@ -51,12 +54,12 @@ can s = record {
 
 run-calls-within-requires : tie.Need-run-calls-within-requires
 run-calls-within-requires c κs =
-    let s = c .before .before .before .before .before .before .before .before .before .before .before .before .before .before .before in
+    let s = c .before .before .before .before .before .before .before .before .before .before .before .before .before .before .before .before in
     let p = s .pre in
     let v = p .1 .1 .1 .0 in
     let e = p .1 .1 .1 .1 in
     let h = p .0 .read .heads in
-    (p .0, (p .1 .0, (p .1 .1 .0, (can s .few-vertices, (omega (arith, small-fits (can s) (omega (arith, p .1 .1 .0, v)) (omega (arith, p .1 .1 .0, e, h .vertices-are, h .edges-are))), (omega (arith, more-edges (can s), p .1 .1 .0, e, h .vertices-are, h .edges-are), (omega (arith, p .1 .1 .0, v), (omega (arith, p .1 .1 .0, v), (omega (arith, p .1 .1 .0, v), (omega (arith, p .1 .1 .0, v), (omega (arith, p .1 .1 .0, v), (omega (arith, p .1 .1 .0, v), (omega (arith, p .1 .1 .0, v), (omega (arith, more-edges (can s), p .1 .1 .0, e, h .vertices-are, h .edges-are), refl))))))))))))))
+    (p .0, (p .1 .0, (p .1 .1 .0, (can s .few-vertices, (omega (arith, small-fits (can s) (omega (arith, p .1 .1 .0, v)) (omega (arith, p .1 .1 .0, e, h .vertices-are, h .edges-are))), (omega (arith, more-edges (can s), p .1 .1 .0, e, h .vertices-are, h .edges-are), (omega (arith, p .1 .1 .0, v), (omega (arith, p .1 .1 .0, v), (omega (arith, p .1 .1 .0, v), (omega (arith, p .1 .1 .0, v), (omega (arith, p .1 .1 .0, v), (omega (arith, p .1 .1 .0, v), (omega (arith, p .1 .1 .0, v), (omega (arith, p .1 .1 .0, v), (omega (arith, more-edges (can s), p .1 .1 .0, e, h .vertices-are, h .edges-are), refl)))))))))))))))
 
 same-length : tie.Need-same-length
 same-length c = search needs
@@ -78,6 +81,7 @@ run-calls-small-spec =
     slice-aggregate-run-calls-within-8
     slice-aggregate-run-calls-within-9
     slice-aggregate-run-calls-within-10
+    slice-aggregate-run-calls-within-11
     run-calls-within-requires
     same-length
     returns)

@@ -33,12 +33,17 @@ slice-aggregate-run-within-8 c = search needs
 slice-aggregate-run-within-9 : tie.Need-slice-aggregate-run-within-9
 slice-aggregate-run-within-9 c = search needs
 
+slice-aggregate-run-within-10 : tie.Need-slice-aggregate-run-within-10
+slice-aggregate-run-within-10 c = search needs
+
 run-within-requires : tie.Need-run-within-requires
 run-within-requires c κs =
-    let p = c .before .before .before .before .before .before .before .before .before .before .before .before .before .pre in
+    let p = c .before .before .before .before .before .before .before .before .before .before .before .before .before .before .pre in
+    let n = p .heads .vertices-are in
+    let e = p .heads .edges-are in
     let v = p .well .laid .limits .few-vertices in
-    let e = p .well .laid .limits .few-edges in
-    (p, (omega (arith, p .heads .vertices-are, p .heads .edges-are, v, e), (omega (arith, p .heads .vertices-are, p .heads .edges-are, v, e), (omega (arith, p .heads .vertices-are, p .heads .edges-are, v, e), (omega (arith, p .heads .vertices-are, p .heads .edges-are, v, e), (omega (arith, p .heads .vertices-are, p .heads .edges-are, v, e), (omega (arith, p .heads .vertices-are, p .heads .edges-are, v, e), (omega (arith, p .heads .vertices-are, p .heads .edges-are, v, e), (omega (arith, p .heads .vertices-are, p .heads .edges-are, v, e), (omega (arith, p .heads .vertices-are, p .heads .edges-are, v, e), refl))))))))))
+    let l = p .well .laid .limits .few-edges in
+    (p, (omega (arith, n, e, v, l), (omega (arith, n, e, v, l), (omega (arith, n, e, v, l), (omega (arith, n, e, v, l), (omega (arith, n, e, v, l), (omega (arith, n, e, v, l), (omega (arith, n, e, v, l), (omega (arith, n, e, v, l), (omega (arith, n, e, v, l), (omega (arith, n, e, v, l), refl)))))))))))
 
 same-length : tie.Need-same-length
 same-length c = search needs
@@ -59,6 +64,7 @@ run-large-spec =
     slice-aggregate-run-within-7
     slice-aggregate-run-within-8
     slice-aggregate-run-within-9
+    slice-aggregate-run-within-10
     run-within-requires
     same-length
     returns)

@@ -1,4 +1,4 @@
--- `run_small` meets its contract: the work slices are arrays of a small routine's sizes.
+-- `run_small` meets its contract: the work slices are arrays for a small routine.
 -- Assumes nothing.
 use mathlib.Core.Path.{refl}
 use native.Mathlib.Omega.{arith}
@@ -33,12 +33,17 @@ slice-aggregate-run-within-8 c = search needs
 slice-aggregate-run-within-9 : tie.Need-slice-aggregate-run-within-9
 slice-aggregate-run-within-9 c = search needs
 
+slice-aggregate-run-within-10 : tie.Need-slice-aggregate-run-within-10
+slice-aggregate-run-within-10 c = search needs
+
 run-within-requires : tie.Need-run-within-requires
 run-within-requires c κs =
-    let p = c .before .before .before .before .before .before .before .before .before .before .before .before .before .pre in
+    let p = c .before .before .before .before .before .before .before .before .before .before .before .before .before .before .pre in
+    let n = p .0 .heads .vertices-are in
+    let e = p .0 .heads .edges-are in
     let v = p .1 .0 in
-    let e = p .1 .1 in
-    (p .0, (omega (arith, p .0 .heads .vertices-are, p .0 .heads .edges-are, v, e), (omega (arith, p .0 .heads .vertices-are, p .0 .heads .edges-are, v, e), (omega (arith, p .0 .heads .vertices-are, p .0 .heads .edges-are, v, e), (omega (arith, p .0 .heads .vertices-are, p .0 .heads .edges-are, v, e), (omega (arith, p .0 .heads .vertices-are, p .0 .heads .edges-are, v, e), (omega (arith, p .0 .heads .vertices-are, p .0 .heads .edges-are, v, e), (omega (arith, p .0 .heads .vertices-are, p .0 .heads .edges-are, v, e), (omega (arith, p .0 .heads .vertices-are, p .0 .heads .edges-are, v, e), (omega (arith, p .0 .heads .vertices-are, p .0 .heads .edges-are, v, e), refl))))))))))
+    let l = p .1 .1 in
+    (p .0, (omega (arith, n, e, v, l), (omega (arith, n, e, v, l), (omega (arith, n, e, v, l), (omega (arith, n, e, v, l), (omega (arith, n, e, v, l), (omega (arith, n, e, v, l), (omega (arith, n, e, v, l), (omega (arith, n, e, v, l), (omega (arith, n, e, v, l), (omega (arith, n, e, v, l), refl)))))))))))
 
 same-length : tie.Need-same-length
 same-length c = search needs
@@ -59,6 +64,7 @@ run-small-spec =
     slice-aggregate-run-within-7
     slice-aggregate-run-within-8
     slice-aggregate-run-within-9
+    slice-aggregate-run-within-10
     run-within-requires
     same-length
     returns)

@@ -98,8 +98,8 @@ mul-gives c = let t = c .before .before in omega (arith, small-a t, small-v t)
 slice-write-gives : tie.Need-slice-write-gives Inv-loop μ-loop
 slice-write-gives c = let t = c .before .before in omega (arith, small-a t, s t .pre .1 .0, s t .pre .1 .1 .1 .0, t .before .loop .inv .0 .sized)
 
-set-if-requires : tie.Need-set-if-requires Inv-loop μ-loop
-set-if-requires c κs = tt
+half-if-requires : tie.Need-half-if-requires Inv-loop μ-loop
+half-if-requires c κs = tt
 
 mul-passes : tie.Need-mul-passes Inv-loop μ-loop
 mul-passes c = let t = c .before .before .before in omega (arith, small-a t, small-v t)
@@ -122,7 +122,7 @@ loop-again c =
     let file = s t .args .file .now in
     let v = s t .args .v in (
       replacing-next (l .inv .0) (in-a t) refl (gives-if file (l .a) v (aligner r) (found .is-reached .ensures) (found .before .at .ensures) (c .before .given .ensures)),
-      replacing-next (l .inv .1) (in-a t) refl (passes-if file (l .a) v (aligner r) (c .set-if .ensures)),
+      replacing-next (l .inv .1) (in-a t) refl (passes-if file (l .a) v (aligner r) (c .half-if .ensures)),
     )
 
 same-length : tie.Need-same-length Inv-loop μ-loop
@@ -151,7 +151,7 @@ fill-row-spec =
     given-requires
     mul-gives
     slice-write-gives
-    set-if-requires
+    half-if-requires
     mul-passes
     slice-write-passes
     add-a

@@ -9,7 +9,7 @@ use Rattle.flow.specs.Cells.{Cells}
 use Rattle.flow.proofs.Cells.{rowsTo, rows-none, rows-next, rows-all}
 use Rattle.directives.specs.Layout.{vertices}
 use Rattle.directives.proofs.Limits.{read-heads}
-use Rattle.brought.specs.Cells.{spreadGives, spreadPasses}
+use Rattle.brought.specs.Cells.{spreadGives, spreadHalves}
 use Rattle.brought.proofs.spreads.fill.Statement.{statement}
 use Rattle.brought.proofs.spreads.fill.Tie as tie
 
@@ -18,7 +18,7 @@ abbrev givesAt : List ℕ → ℕ → ℕ → ℕ → ℕ
 givesAt file t c v = spreadGives file t c v
 
 abbrev passesAt : List ℕ → ℕ → ℕ → ℕ → ℕ
-passesAt file t c v = spreadPasses file t v
+passesAt file t c v = spreadHalves file t v
 
 abbrev Inv-loop : tie.InvT-loop
 Inv-loop file h t reached gives₀ passes₀ n v₀ gives passes v =

@@ -6,7 +6,7 @@ use native.Mathlib.Omega.{arith}
 use Rattle.words.proofs.Replaced.{Replacing, replacing-begin, replacing-next, replacing-end}
 use Rattle.directives.proofs.Limits.{read-heads}
 use Rattle.mappings.specs.Computed.{redistributes}
-use Rattle.brought.specs.Cells.{spreadGives, spreadPasses}
+use Rattle.brought.specs.Cells.{spreadGives, spreadHalves}
 use Rattle.brought.proofs.SpreadRows.{spread-gives, spread-passes}
 use Rattle.brought.proofs.spreads.fill_row.Statement.{statement}
 use Rattle.brought.proofs.spreads.fill_row.Tie as tie
@@ -14,7 +14,7 @@ use Rattle.brought.proofs.spreads.fill_row.Tie as tie
 abbrev Inv-loop : tie.InvT-loop
 Inv-loop file t v reached gives₀ passes₀ gave given column set c₀ gives passes c =
     Replacing gives₀ (8 * v) (λ b. spreadGives file t b v) 8 gives c
-    × Replacing passes₀ (8 * v) (λ b. spreadPasses file t v) 8 passes c
+    × Replacing passes₀ (8 * v) (λ b. spreadHalves file t v) 8 passes c
 
 abbrev μ-loop : tie.MeasureT-loop
 μ-loop file t v reached gives₀ passes₀ gave given column set c₀ gives passes c = 8 - c

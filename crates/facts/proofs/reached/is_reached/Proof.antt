@@ -22,6 +22,9 @@ mul-member c = search needs
 shared-slice-read-member : tie.Need-shared-slice-read-member
 shared-slice-read-member c = search needs
 
+cast-member : tie.Need-cast-member
+cast-member c = omega (arith, c .shared-slice-known3 .given (8 * c .before .before .before .args .v))
+
 member-requires : tie.Need-member-requires
 member-requires c κs = search needs
 
@@ -35,4 +38,4 @@ returns c =
 
 pub is-reached-spec : {M : Type 1} → statement M
 is-reached-spec =
-    tie.close (tie.spec mul-at mul-member shared-slice-read-member member-requires returns)
+    tie.close (tie.spec mul-at mul-member shared-slice-read-member cast-member member-requires returns)

@@ -12,16 +12,16 @@ is-asked-requires c κs = search needs
 
 returns : tie.Need-returns
 returns c =
-    let s = c .before .before .before .before .before .before .before .before .before in
+    let s = c .before .before .before .before .before .before .before .before .before .before in
     others-unasked (s .args .file .now) (s .args .t) (sym (c .before .is-asked .ensures) ∙ not-true (c .before .is-asked .result) (c .if1 .taken)) (s .pre .1 .1 .1 .0)
 
 solve-requires : tie.Need-solve-requires
 solve-requires c κs =
-    let p = c .before .before .before .before .before .before .before .before .before .before .before .before .pre in
+    let p = c .before .before .before .before .before .before .before .before .before .before .before .before .before .before .pre in
     (p .0, (p .1 .0, (p .1 .1 .0, p .1 .1 .1 .1)))
 
 join-requires : tie.Need-join-requires
-join-requires c κs = search needs
+join-requires c κs = let p = c .before .before .before .before .before .before .before .before .before .before .before .before .before .before .before .before .before .before .before .before .before .before .before .before .before .pre in (p .0, (c .before .before .before .before .before .before .before .before .before .before .solve .ensures .0, p .1 .1 .1 .0))
 
 same-length : tie.Need-same-length
 same-length c = search needs
@@ -34,6 +34,9 @@ same-length-3 c = search needs
 
 same-length-4 : tie.Need-same-length-4
 same-length-4 c = search needs
+
+same-length-5 : tie.Need-same-length-5
+same-length-5 c = search needs
 
 returns-2 : tie.Need-returns-2
 returns-2 c = search needs
@@ -50,4 +53,5 @@ add-template-spec =
     same-length-2
     same-length-3
     same-length-4
+    same-length-5
     returns-2)

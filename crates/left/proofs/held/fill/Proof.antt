@@ -11,7 +11,7 @@ use Rattle.directives.proofs.Limits.{read-heads}
 use Rattle.directives.specs.Layout.{arrays, vertices}
 use Rattle.mappings.specs.Tables.{ArrayCells}
 use Rattle.facts.proofs.Rounds.{none-next}
-use Rattle.left.specs.Cells.{heldGives, heldPasses}
+use Rattle.left.specs.Cells.{heldGives, heldHalves}
 use Rattle.left.proofs.Cells.{few-columns}
 use Rattle.left.proofs.held.fill.Statement.{statement}
 use Rattle.left.proofs.held.fill.Tie as tie
@@ -22,8 +22,8 @@ givesAt file t given a v = heldGives file t a v (getD given (8 * v + a) 0)
 
 abbrev Inv-loop : tie.InvT-loop
 Inv-loop file h t given gives₀ passes₀ n v₀ gives passes v =
-    ArrayCells file (rowsTo (givesAt file t given) gives₀ v) gives × ArrayCells file (rowsTo (heldPasses file t) passes₀ v) passes
-    × NoneBeyond (arrays file) (vertices file) gives
+    ArrayCells file (rowsTo (givesAt file t given) gives₀ v) gives × ArrayCells file (rowsTo (heldHalves file t) passes₀ v) passes
+    × NoneBeyond (arrays file) (vertices file) gives × NoneBeyond (arrays file) (vertices file) passes
 
 abbrev μ-loop : tie.MeasureT-loop
 μ-loop file h t given gives₀ passes₀ n v₀ gives passes v = n - v
@@ -39,7 +39,7 @@ module _ (c : tie.In-loop Inv-loop μ-loop) where
 loop-holds : tie.Need-loop-holds Inv-loop μ-loop
 loop-holds c =
     let p = c .before .before .before .before .pre in
-    (rows-none (few-columns (p .0)) _ _ (p .1 .1 .0), rows-none (few-columns (p .0)) _ _ (p .1 .1 .1 .0), p .1 .1 .1 .1)
+    (rows-none (few-columns (p .0)) _ _ (p .1 .1 .0), rows-none (few-columns (p .0)) _ _ (p .1 .1 .1 .0), p .1 .1 .1 .1 .0, p .1 .1 .1 .1 .1)
 
 fill-row-requires : tie.Need-fill-row-requires Inv-loop μ-loop
 fill-row-requires c κs =
@@ -60,8 +60,9 @@ loop-again c =
     let g = s t .args in
     let few = few-columns (s t .pre .0) in (
       rows-next few (givesAt (g .file .now) (g .t) (g .given .now)) (g .gives .now) (l .v) (in-v t) (l .inv .0) (f .fill-row .ensures .0),
-      rows-next few (heldPasses (g .file .now) (g .t)) (g .passes .now) (l .v) (in-v t) (l .inv .1) (f .fill-row .ensures .1),
+      rows-next few (heldHalves (g .file .now) (g .t)) (g .passes .now) (l .v) (in-v t) (l .inv .1) (f .fill-row .ensures .1),
       none-next few (λ a. givesAt (g .file .now) (g .t) (g .given .now) a (l .v)) (l .v) (l .inv .2) (f .fill-row .ensures .0),
+      none-next few (λ a. heldHalves (g .file .now) (g .t) a (l .v)) (l .v) (l .inv .3) (f .fill-row .ensures .1),
     )
 
 same-length : tie.Need-same-length Inv-loop μ-loop
@@ -78,7 +79,7 @@ returns c =
     let few = few-columns (s .pre .0) in
     let all : vertices (g .file .now) ≤ l .v = omega (arith, read-heads (s .pre .0) .vertices-are) in (
       rows-all few (givesAt (g .file .now) (g .t) (g .given .now)) (g .gives .now) (l .v) all (l .inv .0),
-      (rows-all few (heldPasses (g .file .now) (g .t)) (g .passes .now) (l .v) all (l .inv .1), l .inv .2),
+      (rows-all few (heldHalves (g .file .now) (g .t)) (g .passes .now) (l .v) all (l .inv .1), (l .inv .2, l .inv .3)),
     )
 
 pub fill-spec : {M : Type 1} → statement M

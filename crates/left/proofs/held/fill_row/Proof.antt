@@ -8,11 +8,11 @@ use borrow.Author.Needs.{needs}
 use lib.ListN.{getD}
 use Rattle.words.proofs.Replaced.{Replacing, replacing-begin, replacing-next, replacing-end}
 use Rattle.words.proofs.Tests.{cond-not}
-use Rattle.sets.specs.Sets.{everyVersion}
+use Rattle.sets.specs.Sets.{everyHalf}
 use Rattle.directives.proofs.Limits.{read-heads}
 use Rattle.directives.specs.Layout.{arrays}
 use Rattle.mappings.specs.Computed.{realigns, redistributes}
-use Rattle.left.specs.Cells.{heldGives, heldPasses}
+use Rattle.left.specs.Cells.{heldGives, heldHalves}
 use Rattle.left.proofs.Cells.{few-cells, in-table}
 use Rattle.left.proofs.held.fill_row.Statement.{statement}
 use Rattle.left.proofs.held.fill_row.Tie as tie
@@ -20,7 +20,7 @@ use Rattle.left.proofs.held.fill_row.Tie as tie
 abbrev Inv-loop : tie.InvT-loop
 Inv-loop file h t v given gives₀ passes₀ d spread m a₀ gives passes a =
     Replacing gives₀ (8 * v) (λ b. heldGives file t b v (getD given (8 * v + b) 0)) (arrays file) gives a
-    × Replacing passes₀ (8 * v) (λ b. heldPasses file t b v) (arrays file) passes a
+    × Replacing passes₀ (8 * v) (λ b. heldHalves file t b v) (arrays file) passes a
 
 abbrev μ-loop : tie.MeasureT-loop
 μ-loop file h t v given gives₀ passes₀ d spread m a₀ gives passes a = m - a
@@ -89,7 +89,7 @@ loop-less : tie.Need-loop-less Inv-loop μ-loop
 loop-less c = omega arith
 
 loop-again : tie.Need-loop-again Inv-loop μ-loop
-unfolding heldPasses
+unfolding heldHalves
 loop-again c =
     let t = c .before .before .before .before in
     let f = t .before .before in
@@ -97,7 +97,7 @@ loop-again c =
     let is = f .before .at .ensures in
     let changed = c .before .realigns .result || f .redistributes .result in
     let changes = ap₂ _||_ (c .before .realigns .ensures ∙ ap (realigns a) is) (f .redistributes .ensures ∙ ap (redistributes (s t .args .t)) is) in
-    let passed = sym (cond-not changed 0 everyVersion) ∙ ap (λ (b : Bool). cond b 0 everyVersion) changes in (
+    let passed = sym (cond-not changed 0 everyHalf) ∙ ap (λ (b : Bool). cond b 0 everyHalf) changes in (
       replacing-next (t .before .loop .inv .0) (in-a t) refl (c .before .before .gives-at .ensures),
       replacing-next (t .before .loop .inv .1) (in-a t) refl (c .every-if .ensures ∙ passed),
     )

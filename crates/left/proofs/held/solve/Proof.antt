@@ -1,4 +1,4 @@
--- `held::solve` meets its contract: one table is emptied, both are filled and solved.
+-- `held::solve` meets its contract: two tables are emptied, both are filled and solved.
 -- Assumes nothing.
 use mathlib.Core.Path.{_∙_}
 use borrow.Author.Needs.{needs}
@@ -7,55 +7,66 @@ use Rattle.flow.proofs.Cells.{none-cleared}
 use Rattle.mappings.specs.Computed.{givenSet}
 use Rattle.facts.proofs.Rounds.{pass-stops}
 use Rattle.left.specs.Cells.{heldGives, heldPasses}
-use Rattle.left.proofs.Cells.{few-columns, gives-held, cells-held}
+use Rattle.left.proofs.Cells.{few-columns, held-passing, gives-held, cells-held}
 use Rattle.left.proofs.held.solve.Statement.{statement}
 use Rattle.left.proofs.held.solve.Tie as tie
 
--- from each call to the one before
-abbrev start : tie.After-clear → tie.Start
-start k = k .before .before .before .before .before .before .before .before
-
-abbrev cleared : tie.After-fill → tie.After-clear
-cleared f = f .before .before .before .before .before
-
 clear-requires : tie.Need-clear-requires
-clear-requires c κs = search needs
+clear-requires c κs = tt
+
+clear-requires-2 : tie.Need-clear-requires-2
+clear-requires-2 c κs = tt
 
 fill-requires : tie.Need-fill-requires
 fill-requires c κs =
-    let k = c .before .before .before .before in
-    let s = start k in
+    let s = c .before .before .before .before .before .before .before .before .before .before .before .before .before .before .before .before .before in
     let p = s .pre in
-    (p .0, (p .1 .1 .0, (k .clear .kept .0 ∙ p .1 .1 .1 .1 .0, (p .1 .1 .1 .1 .1, none-cleared (few-columns (p .0)) (length (s .args .gives .now)) (k .clear .ensures)))))
+    let q = p .1 .1 .1 in
+    let few = few-columns (p .0) in
+    let k = c .before .before .before .before .before .before .before .before .clear in
+    let l = c .before .before .before .before .clear2 in (
+      p .0,
+      (
+        p .1 .1 .0,
+        (
+          k .kept .0 ∙ q .0,
+          (l .kept .0 ∙ q .1 .1 .0, (none-cleared few (length (s .args .held .now)) (k .ensures), none-cleared few (length (s .args .passes .now)) (l .ensures))),
+        ),
+      ),
+    )
 
-solve-requires : tie.Need-solve-requires
-solve-requires c κs =
-    let f = c .before .before .before .before .before .before .before in
-    let p = start (cleared f) .pre in
-    (p .0, (p .1 .0, (f .fill .ensures .0 .size, (f .fill .ensures .1 .0 .size, p .1 .1 .1 .0))))
+solve-sets-requires : tie.Need-solve-sets-requires
+solve-sets-requires c κs =
+    let s = c .before .before .before .before .before .before .before .before .before .before .before .before .before .before .before .before .before .before .before .before .before .before .before .before .before .before in
+    let p = s .pre in
+    let q = p .1 .1 .1 .1 in
+    let filled = c .before .before .before .before .before .before .before .before .fill .ensures in
+    let passed = held-passing (p .0) (s .args .t) (filled .1 .0) (filled .1 .1 .1) in
+    (p .0, (p .1 .0, (passed .size, (passed .halves, (filled .0 .size, (q .0, q .1 .1))))))
 
 same-length : tie.Need-same-length
 same-length c = search needs
 
 same-length-2 : tie.Need-same-length-2
-same-length-2 c =
-    let f = c .before .before .before .before .before .before .before .before .before .before in
-    f .fill .kept .1 .1 .1 .1 .0 ∙ cleared f .clear .kept .0
+same-length-2 c = search needs
 
 same-length-3 : tie.Need-same-length-3
 same-length-3 c = search needs
 
+same-length-4 : tie.Need-same-length-4
+same-length-4 c = search needs
+
 returns : tie.Need-returns
 returns c =
-    let e = c .before .before in
-    let f = e .before .before .before .before .before .before .before .before in
-    let s = start (cleared f) in
+    let e = c .before .before .before .before .before .before in
+    let s = e .before .before .before .before .before .before .before .before .before .before .before .before .before .before .before .before .before .before .before .before .before .before .before .before .before .before .before in
     let file = s .args .file .now in
     let t = s .args .t in
-    let filled = f .fill .ensures in
-    let given = gives-held file t (s .pre .1 .1 .0) (filled .0) in (
-      cells-held (s .pre .0) t given (filled .1 .0) (e .solve .ensures .0),
-      pass-stops (λ a v. heldGives file t a v (givenSet file a v)) (heldPasses file t) (s .pre .0) (few-columns (s .pre .0)) (s .pre .1 .0) given (filled .1 .0) (filled .1 .1) (e .solve .ensures .1),
+    let filled = e .before .before .before .before .before .before .before .before .before .fill .ensures in
+    let given = gives-held file t (s .pre .1 .1 .0) (filled .0) in
+    let passed = held-passing (s .pre .0) t (filled .1 .0) (filled .1 .1 .1) .cells in (
+      cells-held (s .pre .0) t given passed (e .solve-sets .ensures .0),
+      pass-stops (λ a v. heldGives file t a v (givenSet file a v)) (heldPasses file t) (s .pre .0) (few-columns (s .pre .0)) (s .pre .1 .0) given passed (filled .1 .1 .0) (e .solve-sets .ensures .1),
     )
 
 pub solve-spec : {M : Type 1} → statement M
@@ -63,9 +74,11 @@ solve-spec =
     tie.close
     (tie.spec
     clear-requires
+    clear-requires-2
     fill-requires
-    solve-requires
+    solve-sets-requires
     same-length
     same-length-2
     same-length-3
+    same-length-4
     returns)

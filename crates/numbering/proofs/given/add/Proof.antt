@@ -78,6 +78,9 @@ shared-slice-read-redistributed c =
     let s = c .before .before .before .before .before .before .before .before .before in
     omega (arith, s .pre .1 .1 .1 .0 .size, in-cells (read-heads (s .pre .0) .limits .few-arrays) (s .pre .1 .0) (s .pre .1 .1 .0))
 
+cast-redistributed : tie.Need-cast-redistributed
+cast-redistributed c = let a = c .before .before .before .before .before .before .before .before .before .args in omega (arith, c .shared-slice-known4 .given (8 * a .v + a .a))
+
 is-redistribute : (c : tie.After-d) → let s = c .before .before .before .before .before .before .before in
     directive (s .args .file .now) (s .args .v) ≡ Redistribute (c .d .given .0 .0) (c .d .given .0 .1 .0)
 is-redistribute c = sym (c .before .before .at .ensures) ∙ c .d .given .1
@@ -148,6 +151,7 @@ add-spec =
     add-at
     mul-redistributed
     shared-slice-read-redistributed
+    cast-redistributed
     redistributed-requires
     same-length
     returns

@@ -13,12 +13,12 @@ use native.Mathlib.Omega.{arith}
 use borrow.Author.Needs.{needs}
 use Rattle.passes.proofs.kept.fill.Statement.{statement}
 use Rattle.passes.proofs.kept.fill.Tie as tie
-use Rattle.sets.specs.Sets.{everyVersion}
+use Rattle.sets.specs.Sets.{everyHalf}
 
 abbrev Inv-loop : tie.InvT-loop
 Inv-loop versions letters gives₀ passes₀ n i₀ gives passes i =
     Filling (λ i. cond (not (isN (useOfByte (getD letters i 0)))) (getD versions i 0) 0) n gives₀ gives i
-    × Filling (λ i. cond (eqb (getD versions i 0) 0 || isNOrR (useOfByte (getD letters i 0))) everyVersion 0) n passes₀ passes i
+    × Filling (λ i. cond (eqb (getD versions i 0) 0 || isNOrR (useOfByte (getD letters i 0))) everyHalf 0) n passes₀ passes i
 
 abbrev μ-loop : tie.MeasureT-loop
 μ-loop versions letters gives₀ passes₀ n i₀ gives passes i = n - i
@@ -70,7 +70,7 @@ loop-again c =
     let l = c .before .before .before .before .before .before .before in
     let version = getD (l .before .before .before .before .before .args .versions .now) (l .loop .i) 0 in (
       fill-next (l .loop .inv .0) (c .before .before .before .before .before .before .loop-test .taken) (c .before .before .set-if .ensures ∙ ap (λ (b : Bool). cond b version 0) (c .before .before .before .leaves .ensures)),
-      fill-next (l .loop .inv .1) (c .before .before .before .before .before .before .loop-test .taken) (c .every-if .ensures ∙ ap (λ (b : Bool). cond (eqb version 0 || b) everyVersion 0) (c .before .goes-on .ensures)),
+      fill-next (l .loop .inv .1) (c .before .before .before .before .before .before .loop-test .taken) (c .every-if .ensures ∙ ap (λ (b : Bool). cond (eqb version 0 || b) everyHalf 0) (c .before .goes-on .ensures)),
     )
 
 same-length : tie.Need-same-length Inv-loop μ-loop

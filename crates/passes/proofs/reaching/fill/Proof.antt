@@ -13,12 +13,12 @@ use native.Mathlib.Omega.{arith}
 use borrow.Author.Needs.{needs}
 use Rattle.passes.proofs.reaching.fill.Statement.{statement}
 use Rattle.passes.proofs.reaching.fill.Tie as tie
-use Rattle.sets.specs.Sets.{everyVersion}
+use Rattle.sets.specs.Sets.{everyHalf}
 
 abbrev Inv-loop : tie.InvT-loop
 Inv-loop versions reached letters gives₀ passes₀ n i₀ gives passes i =
     Filling (λ i. cond (reachedCell i (getD reached i 0)) (cond (not (isN (useOfByte (getD letters i 0)))) (getD versions i 0) 0) 0) n gives₀ gives i
-    × Filling (λ i. cond (eqb (cond (not (isN (useOfByte (getD letters i 0)))) (getD versions i 0) 0) 0) everyVersion 0) n passes₀ passes i
+    × Filling (λ i. cond (eqb (cond (not (isN (useOfByte (getD letters i 0)))) (getD versions i 0) 0) 0) everyHalf 0) n passes₀ passes i
 
 abbrev μ-loop : tie.MeasureT-loop
 μ-loop versions reached letters gives₀ passes₀ n i₀ gives passes i = n - i
@@ -80,7 +80,7 @@ loop-again c =
     let version = getD (l .before .before .before .before .before .before .args .versions .now) (l .loop .i) 0 in
     let kept = c .before .before .before .before .set-if .ensures ∙ ap (λ (b : Bool). cond b version 0) (c .before .before .before .before .before .before .leaves .ensures) in (
       fill-next (l .loop .inv .0) (c .before .before .before .before .before .before .before .before .loop-test .taken) (c .before .set-if2 .ensures ∙ ap₂ (λ (b : Bool) (x : ℕ). cond b x 0) (c .before .before .is-reached .ensures) kept),
-      fill-next (l .loop .inv .1) (c .before .before .before .before .before .before .before .before .loop-test .taken) (c .every-if .ensures ∙ ap (λ (x : ℕ). cond (eqb x 0) everyVersion 0) kept),
+      fill-next (l .loop .inv .1) (c .before .before .before .before .before .before .before .before .loop-test .taken) (c .every-if .ensures ∙ ap (λ (x : ℕ). cond (eqb x 0) everyHalf 0) kept),
     )
 
 same-length : tie.Need-same-length Inv-loop μ-loop

@@ -11,12 +11,12 @@ use native.Mathlib.Omega.{arith}
 use borrow.Author.Needs.{needs}
 use Rattle.passes.proofs.reaching.fill_brought.Statement.{statement}
 use Rattle.passes.proofs.reaching.fill_brought.Tie as tie
-use Rattle.sets.specs.Sets.{everyVersion}
+use Rattle.sets.specs.Sets.{everyHalf}
 
 abbrev Inv-loop : tie.InvT-loop
 Inv-loop versions reached gives₀ passes₀ n i₀ gives passes i =
     Filling (λ i. cond (reachedCell i (getD reached i 0)) (getD versions i 0) 0) n gives₀ gives i
-    × Filling (λ i. cond (eqb (getD versions i 0) 0) everyVersion 0) n passes₀ passes i
+    × Filling (λ i. cond (eqb (getD versions i 0) 0) everyHalf 0) n passes₀ passes i
 
 abbrev μ-loop : tie.MeasureT-loop
 μ-loop versions reached gives₀ passes₀ n i₀ gives passes i = n - i

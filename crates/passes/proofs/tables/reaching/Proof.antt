@@ -5,22 +5,16 @@ use mathlib.Core.List.{_++_}
 use mathlib.Core.Logic.{inl, inr}
 use Prim.Native.Nat.{_≤_}
 use native.Mathlib.Omega.{arith}
-use borrow.Author.Needs.{needs}
 use lib.ListN.{length, take, drop}
 use lib.Seq.{length-take-le}
 use Rattle.passes.proofs.Marks.{marks-back}
+use borrow.Author.Needs.{needs}
 use Rattle.passes.proofs.tables.reaching.Statement.{statement}
 use Rattle.passes.proofs.tables.reaching.Tie as tie
 
--- from each call to the one before
+-- from the marks to the start
 abbrev start : tie.After-all → tie.Start
-start m = m .before .before .before .before .before .before .before .before .before
-
-abbrev marked : tie.After-reaching-everywhere → tie.After-all
-marked r = r .before .before .before .before .before .before .before
-
-abbrev unmarked : tie.After-reaching-after-pass → tie.After-all
-unmarked r = r .before .before .before .before .before .before .before
+start m = m .before .before .before .before .before .before .before .before .before .before
 
 -- ---- the part of `gives` that the marks take
 
@@ -39,61 +33,56 @@ slice-relend-prefix-all : tie.Need-slice-relend-prefix-all
 slice-relend-prefix-all c = search needs
 
 slice-aggregate-all : tie.Need-slice-aggregate-all
-slice-aggregate-all c = sym (part (c .before .before .before .before .before .before .before .before))
+slice-aggregate-all c = sym (part (c .before .before .before .before .before .before .before .before .before))
 
 all-requires : tie.Need-all-requires
-all-requires c κs =
-    let s = c .before .before .before .before .before .before .before .before in
-    (s .pre .0, part s ∙ s .pre .0 .heads .vertices-are)
-
--- ---- every vertex is reached
+all-requires c κs = let s = c .before .before .before .before .before .before .before .before .before in (s .pre .0, part s ∙ s .pre .0 .heads .vertices-are)
 
 reaching-everywhere-requires : tie.Need-reaching-everywhere-requires
 reaching-everywhere-requires c κs =
-    let m = c .before .before .before .before .before .before in
+    let m = c .before .before .before .before .before .before .before in
     let p = start m .pre in
-    (p .0, (m .all .ensures (c .before .before .before .if1 .taken), (p .1 .0, (p .1 .1 .0, (p .1 .1 .1 .0, (p .1 .1 .1 .1 .0, (left m ∙ p .1 .1 .1 .1 .1 .0, p .1 .1 .1 .1 .1 .1)))))))
+    let q = p .1 .1 .1 .1 in
+    (p .0, (m .all .ensures (c .before .before .before .before .if1 .taken), (p .1 .0, (p .1 .1 .0, (p .1 .1 .1 .0, (q .0, (left m ∙ q .1 .0, q .1 .1)))))))
 
 same-length : tie.Need-same-length
-same-length c = c .before .before .before .before .before .before .reaching-everywhere .kept .1 .1 .1 .1 .1 .0
+same-length c = search needs
 
 same-length-2 : tie.Need-same-length-2
-same-length-2 c =
-    let r = c .before .before .before .before .before .before in
-    r .reaching-everywhere .kept .1 .1 .1 .1 .1 .1 .0 ∙ left (marked r)
+same-length-2 c = search needs
 
 same-length-3 : tie.Need-same-length-3
-same-length-3 c = c .before .before .before .before .before .before .reaching-everywhere .kept .1 .1 .1 .1 .1 .1 .1 .0
+same-length-3 c = search needs
+
+same-length-4 : tie.Need-same-length-4
+same-length-4 c = search needs
 
 returns : tie.Need-returns
 returns c =
-    let r = c .before .before .before .before .before .before in
-    let e = r .reaching-everywhere .ensures in
-    (e .0, (inr (refl, marked r .all .ensures (r .before .before .before .before .if1 .taken)), e .1))
-
--- ---- a pass is to find it
+    let e = c .before .before .before .before .before .before .before .before .reaching-everywhere .ensures in
+    (e .0, (inr (refl, c .before .before .before .before .before .before .before .before .before .before .before .before .before .before .before .before .all .ensures (c .before .before .before .before .before .before .before .before .before .before .before .before .before .if1 .taken)), e .1))
 
 reaching-after-pass-requires : tie.Need-reaching-after-pass-requires
 reaching-after-pass-requires c κs =
-    let m = c .before .before .before .before .before .before in
+    let m = c .before .before .before .before .before .before .before in
     let p = start m .pre in
-    (p .0, (p .1 .0, (p .1 .1 .0, (p .1 .1 .1 .0, (p .1 .1 .1 .1 .0, (left m ∙ p .1 .1 .1 .1 .1 .0, p .1 .1 .1 .1 .1 .1))))))
-
-same-length-4 : tie.Need-same-length-4
-same-length-4 c = c .before .before .before .before .before .before .reaching-after-pass .kept .1 .1 .1 .1 .1 .0
+    let q = p .1 .1 .1 .1 in
+    (p .0, (p .1 .0, (p .1 .1 .0, (p .1 .1 .1 .0, (q .0, (left m ∙ q .1 .0, q .1 .1))))))
 
 same-length-5 : tie.Need-same-length-5
-same-length-5 c =
-    let r = c .before .before .before .before .before .before in
-    r .reaching-after-pass .kept .1 .1 .1 .1 .1 .1 .0 ∙ left (unmarked r)
+same-length-5 c = search needs
 
 same-length-6 : tie.Need-same-length-6
-same-length-6 c = c .before .before .before .before .before .before .reaching-after-pass .kept .1 .1 .1 .1 .1 .1 .1 .0
+same-length-6 c = search needs
+
+same-length-7 : tie.Need-same-length-7
+same-length-7 c = search needs
+
+same-length-8 : tie.Need-same-length-8
+same-length-8 c = search needs
 
 returns-2 : tie.Need-returns-2
-returns-2 c =
-    let e = c .before .before .before .before .before .before .reaching-after-pass .ensures in
-    (e .0, (inl (e .1 .0), e .1 .1))
+returns-2 c = let e = c .before .before .before .before .before .before .before .before .reaching-after-pass .ensures in (e .0, (inl (e .1 .0), e .1 .1))
 
 pub reaching-spec : {M : Type 1} → statement M
 reaching-spec =
@@ -106,9 +95,11 @@ reaching-spec =
     same-length
     same-length-2
     same-length-3
+    same-length-4
     returns
     reaching-after-pass-requires
-    same-length-4
     same-length-5
     same-length-6
+    same-length-7
+    same-length-8
     returns-2)
