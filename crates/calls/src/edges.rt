@@ -16,7 +16,7 @@ use routine::header::Header;
 
 // How far the edges are written: those before the ones of this vertex, those inside it, and of those that leave it the ones before this
 // edge of the file; and how many these are.
-#[derive(Drop)]
+#[derive(Clone, Copy)]
 pub struct Place {
     pub vertex: usize,
     pub edge: usize,

@@ -18,7 +18,7 @@ use routine::{action, array};
 use sets::Set;
 
 // A row of those that a call becomes: the remaps to the versions in which it passes the arrays, its references, and the remaps back.
-#[derive(Drop)]
+#[derive(Clone, Copy)]
 enum Row {
     Passing,
     Calling,

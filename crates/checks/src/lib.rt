@@ -1,4 +1,6 @@
 // Refusals 20 and 21, first by vertex, then by array (document 01, "Who can cause a refusal").
+#![tactic(auto)]
+
 ghost use Rattle.std.specs.Prelude.{◌≡◌, not, ◌&&◌, ◌+◌, ◌*◌, ◌≤◌, ◌<◌, eqb, length, get_or};
 ghost use Rattle.std.specs.Int.Bits.{bit_and};
 ghost use Rattle.labels.specs.Ambiguity.{is_ambiguous};
@@ -21,7 +23,7 @@ use sets::{Half, Set};
 
 // What `prepare` answers, and the rounds of the passes that it made: those for the letters, the vertices that are reached (0 if it was not
 // needed) and the reaching sets. All are 0 where 20 refuses, since none is made.
-#[derive(Drop)]
+#[derive(Clone, Copy)]
 pub struct Prepared {
     pub verdict: Verdict,
     pub letters: usize,
@@ -31,7 +33,7 @@ pub struct Prepared {
 
 // What `judge` answers, and the rounds of the passes that it made: that for the vertices that are reached, 0 if it was not needed, and that
 // for the versions that paths bring. Both are 0 where 20 refuses.
-#[derive(Drop)]
+#[derive(Clone, Copy)]
 pub struct Judgement {
     pub verdict: Verdict,
     pub reached: usize,

@@ -1,5 +1,7 @@
 // The converter program: reads a directive file from standard input and writes the routine file that it becomes, or prints the refusal. A
 // refusal, a read that fails and a write that fails have a line on standard error too.
+#![tactic(auto)]
+
 use libc::{STDERR_FILENO, STDIN_FILENO, STDOUT_FILENO};
 use refusal::Reply;
 

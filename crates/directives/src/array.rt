@@ -11,7 +11,7 @@ use refusal::Verdict;
 use routine::array::ArrayRecord;
 
 // With a template, straight (0) or with the two dimensions exchanged (1).
-#[derive(Drop)]
+#[derive(Clone, Copy)]
 pub struct Alignment {
     pub template: usize,
     pub exchanged: usize,

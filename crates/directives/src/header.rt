@@ -11,7 +11,7 @@ use routine::array::ArrayRecord;
 use routine::edge::Edge;
 
 // How many templates, arrays, vertices and edges the file has.
-#[derive(Drop)]
+#[derive(Clone, Copy)]
 pub struct Header {
     pub templates: usize,
     pub arrays: usize,

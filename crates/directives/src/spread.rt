@@ -10,7 +10,7 @@ use crate::header::Header;
 use refusal::Verdict;
 
 // Each dimension as it is written: 0 not spread, 1 block, 2 + 256 b cyclic(b).
-#[derive(Drop)]
+#[derive(Clone, Copy)]
 pub struct Mapping {
     pub first: usize,
     pub second: usize,

@@ -14,7 +14,7 @@ use refusal::Verdict;
 use routine::action::Action;
 
 // What a vertex says: nothing, realign an array, or redistribute a template.
-#[derive(Drop)]
+#[derive(Clone, Copy)]
 pub enum Directive {
     Nothing,
     Realign(usize, Alignment),

@@ -1,5 +1,7 @@
 // What `plan` and `run` do first with a file that has calls (document 02, request 3): 22; then 20 and 21, of the file with each call read as
 // the reference of its intent; then the expanded routine.
+#![tactic(auto)]
+
 ghost use Rattle.std.specs.Prelude.{◌≡◌, ◌*◌, ◌≤◌, ◌<◌, length};
 ghost use Rattle.calls.specs.Expanded.{expanded};
 ghost use Rattle.calls.specs.Interfaces.{Interfaces, Expandable};
@@ -18,7 +20,7 @@ use sets::{Half, Set};
 
 // What becomes of a file with calls, and the rounds of the passes that were made for it: that for the vertices that are reached, 0 if it was
 // not needed, and that for the versions that arrive. Both are 0 where 22 or 20 refuses.
-#[derive(Drop)]
+#[derive(Clone, Copy)]
 pub struct Expanded {
     pub answer: Answer,
     pub reached: usize,

@@ -108,13 +108,19 @@ module _ (gives passes s : List ℕ) where
     Brought along = (i v w : ℕ) → i < edge_count es → near es along i ≡ v → far es along i ≡ w → T (has (handed gives passes s w) k) → T (has (get_or s v 0) k)
 
     -- then what a path brings is held
+    complete-along : Brought true → (v w : ℕ) → Leads es true (λ u. has (get_or passes u 0) k) v w → T (has (handed gives passes s w) k) → T (has (get_or s v 0) k)
+    complete-along brought v w (last e) h = brought e.place v w e.listed e.leaves e.enters h
+    complete-along brought v w (next {u} e p t) h =
+        brought e.place v u e.listed e.leaves e.enters ((handed-iff u k).1 (inr (complete-along brought u w t h, p)))
+
+    complete-against : Brought false → (v w : ℕ) → Leads es false (λ u. has (get_or passes u 0) k) v w → T (has (handed gives passes s w) k) → T (has (get_or s v 0) k)
+    complete-against brought v w (last e) h = brought e.place v w e.listed e.enters e.leaves h
+    complete-against brought v w (next {u} e p t) h =
+        complete-against brought v u t ((handed-iff u k).1 (inr (brought e.place u w e.listed e.enters e.leaves h, p)))
+
     complete : (along : Bool) → Brought along → (v w : ℕ) → Leads es along (λ u. has (get_or passes u 0) k) v w → T (has (handed gives passes s w) k) → T (has (get_or s v 0) k)
-    complete true brought v w (last e) h = brought e.place v w e.listed e.leaves e.enters h
-    complete true brought v w (next {u} e p t) h =
-        brought e.place v u e.listed e.leaves e.enters ((handed-iff u k).1 (inr (complete true brought u w t h, p)))
-    complete false brought v w (last e) h = brought e.place v w e.listed e.enters e.leaves h
-    complete false brought v w (next {u} e p t) h =
-        complete false brought v u t ((handed-iff u k).1 (inr (brought e.place u w e.listed e.enters e.leaves h, p)))
+    complete true brought v w t h = complete-along brought v w t h
+    complete false brought v w t h = complete-against brought v w t h
 
 module _ (es : List ℕ) (along : Bool) (gives passes : List ℕ) {order : List ℕ} (ord : Order (edge_count es) order) where
   -- edge i taken, the first j edges of a round taken, a whole round, and r rounds over the empty sets of n vertices

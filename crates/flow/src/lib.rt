@@ -1,6 +1,8 @@
 // Paths over the edges of a routine, and rounds over these edges that fill in sets: bit k is in the set of a vertex if a path from it,
 // through vertices that pass k, arrives at a vertex that gives k.
 // A table has eight columns, one for each array that a routine may have: the set of vertex v in column a stands at 8 v + a.
+#![tactic(auto)]
+
 ghost use Rattle.std.specs.Prelude.{◌≡◌, true, false, not, ◌+◌, ◌*◌, ◌≤◌, ◌<◌, eqb, length, get_or, replicate};
 ghost use Rattle.std.specs.Int.Bits.{bit_and, bit_or};
 ghost use Rattle.flow.specs.Order.{Order};
@@ -50,7 +52,7 @@ pub fn far_end(edges: &[u8], along: bool, i: usize) -> usize
 
 // What the edges that were taken leave beside the sets: the vertex whose sets grew last, these sets, and a note of what was added. On a
 // chain the next edge asks for these sets, and has them here without reading what was just written.
-#[derive(Drop)]
+#[derive(Clone, Copy)]
 pub struct Carry {
     pub vertex: usize,
     pub row: [Half; COLUMNS],

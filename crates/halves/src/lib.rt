@@ -1,5 +1,7 @@
 // One pass of the solver over tables of sets, by their halves. Bits never meet in a pass, so the low halves are solved by themselves, and the
 // high ones by the same pass again, where there are any: a routine whose arrays have at most 16 versions does not pay for 32.
+#![tactic(auto)]
+
 ghost use Rattle.std.specs.Prelude.{◌≡◌, false, ℕ, ◌≤◌, ◌<◌, max, length, get_or, replicate};
 ghost use Rattle.flow.specs.Order.{Order, max_edges};
 ghost use Rattle.flow.specs.Paths.{edge_count};

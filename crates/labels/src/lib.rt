@@ -1,5 +1,7 @@
 // The label rules of document 01 by paths, and as computed: for each label its use, leaving version, reaching set and kept set; and
 // refusals 20 and 21. Here are events and letters; the rules are computed in `passes`.
+#![tactic(auto)]
+
 pub mod event;
 pub mod letter;
 
@@ -7,7 +9,7 @@ ghost use Rattle.std.specs.Prelude.{◌≡◌};
 ghost use Rattle.labels.specs.Letters.{letter_byte, use_of_byte};
 
 // Use, one letter.
-#[derive(Drop)]
+#[derive(Clone, Copy)]
 pub enum Use {
     N,
     D,

@@ -1,4 +1,6 @@
 // What the library answers, a line for each case: the case's name and numbers.
+#![tactic(auto)]
+
 mod build;
 mod plans;
 mod print;

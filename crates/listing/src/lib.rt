@@ -1,4 +1,6 @@
 // What the programs print: each line as text, at the front of a buffer that is lent.
+#![tactic(auto)]
+
 ghost use Rattle.std.specs.Prelude.{◌≡◌, ◌≤◌, length, get_or};
 ghost use Rattle.io.specs.Counts.{IsPrefixLen};
 ghost use Rattle.listing.specs.Lines.{label_line, entry_line, record_line, count_line, outcome_line};

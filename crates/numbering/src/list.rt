@@ -9,7 +9,7 @@ use directives::spread::Mapping;
 use sets::Set;
 
 // How many versions there are, `width` + 1 for more, and the set of those that the directive at hand gives.
-#[derive(Drop)]
+#[derive(Clone, Copy)]
 pub struct Numbered {
     pub count: usize,
     pub given: Set,

@@ -1,6 +1,8 @@
 // Orders in which the solver takes the edges: by their numbers, or by the place of the vertex that they leave in a reverse postorder, so
 // that a round by rising place carries a fact along every path without a retreating edge.
 // Vertices are below 256: the low byte of an edge's end names it.
+#![tactic(auto)]
+
 mod rising;
 mod search;
 

@@ -14,7 +14,7 @@ use routine::header::Header;
 use sets::{Half, Set};
 
 // How many rounds two passes took: that for the vertices which a path from the entry reaches, 0 if it was not made, and that for the sets.
-#[derive(Drop)]
+#[derive(Clone, Copy)]
 pub struct Rounds {
     pub reached: usize,
     pub sets: usize,

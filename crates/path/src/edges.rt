@@ -10,7 +10,7 @@ use routine::edge;
 use routine::header::Header;
 
 // An edge's place in the list, or that there is no such edge.
-#[derive(Drop)]
+#[derive(Clone, Copy)]
 pub enum Found {
     At(usize),
     Nothing,

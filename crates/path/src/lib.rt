@@ -1,5 +1,7 @@
 // The path: 16-bit vertices, an odd last byte ignored; refusals 30 to 32 (document 01, "Who can cause a refusal"), and how often each edge is
 // passed (document 02, request 8).
+#![tactic(auto)]
+
 pub mod edges;
 
 ghost use Rattle.std.specs.Prelude.{◌≡◌, ◌+◌, ◌≤◌, ◌<◌, replicate};

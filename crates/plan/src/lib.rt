@@ -1,4 +1,6 @@
 // The call that plans a routine (document 01).
+#![tactic(auto)]
+
 ghost use Rattle.std.specs.Prelude.{◌≡◌, ◌+◌, ◌*◌, ◌≤◌, ◌<◌, length};
 ghost use Rattle.calls.specs.Checks.{CallsRead};
 ghost use Rattle.calls.specs.Expanded.{expanded_edges, expanded};

@@ -4,7 +4,7 @@ ghost use Rattle.planbytes.specs.Plan.{twelve_bytes};
 
 use sets::Set;
 
-#[derive(Drop)]
+#[derive(Clone, Copy)]
 pub struct Label {
     pub array: u8,
     pub letter: u8,

@@ -1,4 +1,6 @@
 // The bytes of the plan (document 01, "Plan and report").
+#![tactic(auto)]
+
 pub mod contents;
 mod label;
 pub mod writer;

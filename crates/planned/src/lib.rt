@@ -1,4 +1,6 @@
 // What the call `plan` answers: its checks in their order, and the reply of a routine that was read (document 01, "Who can cause a refusal").
+#![tactic(auto)]
+
 ghost use Rattle.std.specs.Prelude.{◌≡◌, ◌<◌, length};
 ghost use Rattle.labels.specs.Checks.{programmer_check};
 ghost use Rattle.labels.specs.Routines.{ReadAs};

@@ -1,5 +1,7 @@
 // The planner program (document 01, "Routine P and others"): reads a routine from standard input and prints the labels of its plan, or the
 // refusal. A refusal, a read that fails and a write that fails have a line on standard error too; nothing is printed after a write that failed.
+#![tactic(auto)]
+
 ghost use Rattle.std.specs.Prelude.{◌≤◌};
 
 use libc::{STDERR_FILENO, STDIN_FILENO, STDOUT_FILENO};

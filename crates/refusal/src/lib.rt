@@ -1,10 +1,12 @@
 // Refusals: a case for each reason, named for what it says (document 01, "Who can cause a refusal"; document 02, requests 2 to 4).
+#![tactic(auto)]
+
 ghost use Rattle.std.specs.Prelude.{◌≡◌};
 ghost use Rattle.refusal.specs.Checks.{◌and_then◌};
 ghost use Rattle.refusal.specs.Refusals.{outcome_of};
 ghost use Rattle.refusal.specs.Replies.{reply_outcome};
 
-#[derive(Drop)]
+#[derive(Clone, Copy)]
 pub enum Refusal {
     // The file's writer.
     TooShort { length: usize },
@@ -39,7 +41,7 @@ pub enum Refusal {
 }
 
 // What one check, or a row of them, says.
-#[derive(Drop)]
+#[derive(Clone, Copy)]
 pub enum Verdict {
     Passed,
     Failed(Refusal),
@@ -58,7 +60,7 @@ impl Verdict {
 }
 
 // What a public call answers: the length written, or the refusal.
-#[derive(Drop)]
+#[derive(Clone, Copy)]
 pub enum Reply {
     Written(usize),
     Denied(Refusal),
@@ -66,7 +68,7 @@ pub enum Reply {
 
 // What a public call answers, in numbers: its number and two places; number 0 is success, with the length written as the first place.
 #[repr(C)]
-#[derive(Drop)]
+#[derive(Clone, Copy)]
 pub struct Outcome {
     pub number: u64,
     pub first: u64,

@@ -1,4 +1,6 @@
 // The C interface: `include/hpf_remap.h` documents it for its users. Each call is the proved call, its answer given in numbers.
+#![tactic(auto)]
+
 ghost use Rattle.remap.specs.Interface.{PlannedC, RoundedC, RanC, ConvertedC};
 
 use refusal::Outcome;

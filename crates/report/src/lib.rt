@@ -1,5 +1,7 @@
 // The report: the entries of the arrays, the records, and how many references a vertex has (document 01, "Plan and report"); the counts of the
 // edges (document 02, request 8).
+#![tactic(auto)]
+
 pub mod record;
 
 ghost use Rattle.std.specs.Prelude.{◌≡◌, cond, ◌*◌, ◌<◌, ◌≤◌, length};

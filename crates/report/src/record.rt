@@ -1,5 +1,5 @@
 // One reference on the path (document 01, "Plan and report").
-#[derive(Drop)]
+#[derive(Clone, Copy)]
 pub struct Record {
     pub step: u16,
     pub array: u8,

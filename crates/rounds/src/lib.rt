@@ -1,4 +1,6 @@
 // The call that tells how many rounds each pass of the planner takes (document 02, request 5).
+#![tactic(auto)]
+
 ghost use Rattle.std.specs.Prelude.{◌≡◌, false, ◌++◌, ◌*◌, ◌≤◌, ◌<◌, length};
 ghost use Rattle.calls.specs.Calls.{has_calls};
 ghost use Rattle.calls.specs.Checks.{CallsRead};
@@ -24,7 +26,7 @@ const FOUR: usize = 8;
 const SIX: usize = 12;
 
 // Refusals 20 and 21, and the rounds of the four passes, 0 where 20 or 21 refuses; that of the reached vertices also if it was not needed.
-#[derive(Drop)]
+#[derive(Clone, Copy)]
 pub struct Passes {
     pub verdict: Verdict,
     pub letters: usize,

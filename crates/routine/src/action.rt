@@ -13,7 +13,7 @@ use crate::header::Header;
 use refusal::{Refusal, Verdict};
 
 // A reference: a read, a define (all of it rewritten, nothing read), a modify (old value needed) or a kill (a define whose new stamp is 0).
-#[derive(Drop)]
+#[derive(Clone, Copy)]
 pub enum Access {
     Read,
     Define,
@@ -22,7 +22,7 @@ pub enum Access {
 }
 
 // What a vertex does with an array.
-#[derive(Drop)]
+#[derive(Clone, Copy)]
 pub enum Action {
     Nothing,
     Reference(Access),

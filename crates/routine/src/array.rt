@@ -7,7 +7,7 @@ ghost use Rattle.routine.specs.Reader.{Laid, Heads};
 use crate::header::Header;
 use refusal::{Refusal, Verdict};
 
-#[derive(Drop)]
+#[derive(Clone, Copy)]
 pub struct ArrayRecord {
     pub kind: u8,
     pub versions: u8,

@@ -7,7 +7,7 @@ ghost use Rattle.routine.specs.Reader.{Heads};
 use crate::header::Header;
 use refusal::{Refusal, Verdict};
 
-#[derive(Drop)]
+#[derive(Clone, Copy)]
 pub struct Edge {
     pub from: usize,
     pub to: usize,

@@ -10,7 +10,7 @@ use crate::edge::Edge;
 use refusal::{Refusal, Verdict};
 
 // How many arrays, vertices and edges the routine has.
-#[derive(Drop)]
+#[derive(Clone, Copy)]
 pub struct Header {
     pub arrays: usize,
     pub vertices: usize,

@@ -7,7 +7,7 @@ use crate::{action, array, edge, header};
 use refusal::{Refusal, Reply, Verdict};
 
 // The routine's header, or the refusal.
-#[derive(Drop)]
+#[derive(Clone, Copy)]
 pub enum Answer {
     Routine(Header),
     Refused(Refusal),

@@ -1,4 +1,6 @@
 // The call `run` of document 01: a path through a routine, checked and run, and its report.
+#![tactic(auto)]
+
 pub mod edges;
 
 ghost use Rattle.std.specs.Prelude.{◌≡◌, ◌+◌, ◌*◌, ◌≤◌, length, replicate};

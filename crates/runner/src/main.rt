@@ -1,6 +1,8 @@
 // The run program (document 01, "Routine P and others"): reads the files `routine` and `path` and prints the report of the run, or the
 // refusal; a path beyond 512 vertices prints `long` and no more. A refusal, `long`, a file that cannot be opened or read and a write that fails
 // have a line on standard error too; nothing is printed after a write that failed.
+#![tactic(auto)]
+
 ghost use Rattle.std.specs.Prelude.{◌≤◌};
 ghost use Rattle.io.specs.Counts.{IsPrefixLen};
 

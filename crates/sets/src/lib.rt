@@ -1,6 +1,8 @@
 // Version sets: a set of versions is a mask, bit k for version k (document 01, "Labels").
 //
 // The laws of masks are stated once for any width, in `proofs/Laws.antt`; the functions here are those laws at the width of a set.
+#![tactic(auto)]
+
 ghost use Rattle.std.specs.Prelude.{◌≡◌, ◌<◌, ◌^◌};
 ghost use Rattle.std.specs.Int.Count.{count_trailing_zeros};
 ghost use Rattle.sets.specs.Sets.{width, low_half, high_half, of_halves, has, minus, several};

@@ -1,5 +1,7 @@
 // The solver: rounds over the edges until one alters no set. The first rounds take every edge. If more are needed, the edges are cut
 // into blocks, and a round takes only the blocks that may alter a set.
+#![tactic(auto)]
+
 ghost use Rattle.std.specs.Prelude.{◌≡◌, true, false, ◌≤◌, ◌<◌, ◌^◌, length, get_or, set};
 ghost use Rattle.std.specs.Int.Bits.{bit_or};
 ghost use Rattle.flow.specs.Order.{Order, max_edges};
@@ -24,7 +26,7 @@ const BLOCKS: usize = 64;
 const ALL: u64 = 0xffff_ffff_ffff_ffff;
 
 // What a round over pending blocks has come to: the set of blocks that are pending, and whether a set was altered.
-#[derive(Drop)]
+#[derive(Clone, Copy)]
 pub struct Progress {
     pub pending: u64,
     pub altered: bool,
@@ -106,7 +108,7 @@ fn mark_all(edges: &[u8], order: &[u16], along: bool, marks: &mut [u64])
 }
 
 // What a turn leaves beside the sets.
-#[derive(Drop)]
+#[derive(Clone, Copy)]
 struct Turn {
     progress: Progress,
     last: Carry,

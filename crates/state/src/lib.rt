@@ -1,5 +1,7 @@
 // One array's run state, and the run rules over it (document 01, "Run"): by value, with the stamp of its current copy; the stamps of all
 // other versions stand in one table beside the states.
+#![tactic(auto)]
+
 ghost use Rattle.std.specs.Prelude.{◌≡◌, cond, ℕ, ◌+◌, ◌*◌, ◌<◌, eqb, length};
 ghost use Rattle.labels.specs.Letters.{use_of_byte};
 ghost use Rattle.sets.specs.Sets.{width};
@@ -19,7 +21,7 @@ use sets::{Set, WIDTH};
 
 // An array's state as it is carried along the path: the current version, or 255 for none; the set of live versions; the copies counted;
 // the stamp of the current copy.
-#[derive(Drop)]
+#[derive(Clone, Copy)]
 pub struct Carried {
     pub current: u8,
     pub live: Set,

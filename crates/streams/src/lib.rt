@@ -1,4 +1,6 @@
 // What the programs share of reading and writing: a file read to its end, and a refusal's line for standard error.
+#![tactic(auto)]
+
 ghost use Rattle.std.specs.Prelude.{◌≡◌, ◌++◌, ◌≤◌, length};
 ghost use Rattle.io.specs.Counts.{IsPrefixLen};
 ghost use Rattle.listing.specs.Lines.{outcome_line};

@@ -1,5 +1,7 @@
 // Following the path: at each step the references of all arrays, a record for each, and then the labels (document 01, "Run"). The
 // report of an accepted path, and before that its length.
+#![tactic(auto)]
+
 ghost use Rattle.std.specs.Prelude.{◌≡◌, ◌++◌, ℕ, ◌+◌, ◌*◌, ◌≤◌, ◌<◌, length, get_or, replicate};
 ghost use Rattle.labels.specs.Events.{event};
 ghost use Rattle.labels.specs.Routines.{ReadAs};
@@ -150,7 +152,7 @@ fn refer(
 }
 
 // What a vertex leaves before its labels: the bytes written, and whether it may have labels.
-#[derive(Drop)]
+#[derive(Clone, Copy)]
 struct Row {
     bytes: usize,
     labels: bool,

@@ -1,0 +1,16 @@
+-- `flow::noted` meets its contract: a row is filled.
+use mathlib.Core.Path.{refl, ap}
+use lib.Bits.{bit_or}
+use lib.ListN.{get_or}
+use Prim.Native.Nat.{◌-◌}
+use Rattle.words.proofs.Filling.{fill-begin, fill-next, fill_end}
+use Rattle.flow.proofs.noted.Goals as goal
+
+pub loop-a-init : goal.loop-a-init
+loop-a-init c = fill-begin _ refl
+
+pub loop-a-preserved : goal.loop-a-preserved
+loop-a-preserved c = fill-next c.loop-a.invariant c.loop-a-test.true (ap (bit_or (get_or c.args.note c.loop-a.a 0)) c.half_difference.ensures)
+
+pub returns : goal.returns
+returns c = fill_end c.loop-a.invariant c.loop-a-test.false

@@ -1,0 +1,68 @@
+-- `flow::relax` meets its contract: both ends of the edge are vertices, and the row that grows is the one that `relaxed_row` makes.
+use mathlib.Core.Path.{ap, ap₂, ◌∙◌}
+use mathlib.Core.List.{List}
+use Prim.Native.Nat.{ℕ, ◌+◌, ◌*◌, ◌≤◌}
+use native.Mathlib.Omega.{arith}
+use lib.ListN.{length}
+use Rattle.flow.specs.Solver.{handed_row, grown, noted}
+use Rattle.flow.proofs.Rounds.{near-lt, far_lt}
+use Rattle.flow.proofs.Rows.{handed-by, noted-by, grown-by, recent-by}
+use Rattle.flow.proofs.relax.Goals as goal
+use Rattle.flow.proofs.relax.Goals.{After-far_end-far}
+
+-- the rows of both ends are within the tables
+module _ (c : After-far_end-far) where
+  near-row : 8 * c.near_end-near.result + 8 ≤ length c.args.sets.now
+  near-row =
+      let h = c.requires.tables in
+      omega (arith, c.near_end-near.ensures, near-lt h.ends c.args.along c.args.i c.requires.i_bound, h.whole)
+
+  far-row : 8 * c.far_end-far.result + 8 ≤ length c.args.sets.now
+  far-row =
+      let h = c.requires.tables in
+      omega (arith, c.far_end-far.ensures, far_lt h.ends c.args.along c.args.i c.requires.i_bound, h.whole)
+
+pub near_end-near-requires : goal.near_end-near-requires
+near_end-near-requires c = c.requires.i_bound
+
+pub far_end-far-requires : goal.far_end-far-requires
+far_end-far-requires c = c.requires.i_bound
+
+pub held_row-requires : goal.held_row-requires
+held_row-requires c =
+    record {
+      v_in_bounds = far-row (goal.at.held_row-requires c).After-far_end-far;
+      recent = c.requires.recent;
+    }
+
+pub handed-brought-requires : goal.handed-brought-requires
+handed-brought-requires c =
+    let h = c.requires.tables in
+    record {
+      u_in_bounds = omega (arith, far-row (goal.at.handed-brought-requires c).After-far_end-far, h.gives_all);
+      u_in_bounds_2 = omega (arith, far-row (goal.at.handed-brought-requires c).After-far_end-far, h.passes-all);
+    }
+
+pub held_row-held-requires : goal.held_row-held-requires
+held_row-held-requires c =
+    record {
+      v_in_bounds = near-row (goal.at.held_row-held-requires c).After-far_end-far;
+      recent = c.requires.recent;
+    }
+
+pub put-requires : goal.put-requires
+put-requires c = near-row (goal.at.put-requires c).After-far_end-far
+
+pub returns : goal.returns
+returns c =
+    let a = c.args in
+    let sets = a.sets.now in
+    let row = c.handed-brought.ensures ∙ handed-by sets c.far_end-far.result c.held_row.ensures a.gives.now a.passes.now
+    ∙ ap (handed_row a.gives.now a.passes.now sets) c.far_end-far.ensures in
+    let made = c.put.ensures ∙ grown-by sets c.near_end-near.result c.held_row-held.ensures c.handed-brought.result c.joined-row.ensures in
+    record {
+      note_value = c.noted-note.ensures ∙ noted-by sets c.near_end-near.result c.held_row-held.ensures a.last.note c.handed-brought.result ∙ ap₂ (noted a.last.note sets) c.near_end-near.ensures row;
+      vertex_value = c.near_end-near.ensures;
+      recent_2 = recent-by sets c.near_end-near.result c.held_row-held.ensures c.handed-brought.result c.joined-row.ensures (near-row (goal.at.returns c).After-far_end-far) made;
+      sets_after = made ∙ ap₂ (λ (v : ℕ) (r : List ℕ). grown sets v r 8) c.near_end-near.ensures row;
+    }
