@@ -58,6 +58,7 @@ class Fn:
         self.clauses = d["clauses"]
         self.asked = d["asked"]
         self.args = {a: b for a, b in d["args"]}
+        self.arms = d["arms"]
 
     def up(self, i, n):
         for _ in range(n):
@@ -84,7 +85,7 @@ def blocks(text):
             first = next(l for l in now if not l.startswith("--") and l)
             head = re.match(r"(?:abbrev |unfoldable |pub |abbrev pub )*(" + NAME + ")", first)
             name = head[1] if head else ""
-            if line.startswith("unfolding ") or re.match(re.escape(name) + r"(\s|$)", line) and ":" in first and not re.match(r"(module|record|data|use|pub record|pub data)", first):
+            if line.startswith("unfolding ") or re.match(re.escape(name) + r"(\s|$)", line) and ":" in first and not re.match(r"(pub )?(module|record|data|use)\s", first):
                 now.append(line)
                 continue
             out.append(now)
@@ -206,6 +207,13 @@ class Turn:
             self.notes.append(f"no step {f}")
             return ".".join([root, f, *rest])
         old, new = fn.places[found][2]
+        arm = fn.arms[found]
+        for i in [found, *[i for i in self.below(found, root)]]:
+            arm = fn.arms[i]
+            if arm:
+                for name, step, old_path in sorted(arm[2], key=lambda x: -len(x[2])):
+                    if plain(step) == plain(f) and old_path and rest[: len(old_path)] == old_path:
+                        return ".".join([root, arm[0], name, *rest[len(old_path) :]])
         if rest and rest[0] == "given":
             for var, known in fn.typed[found]:
                 if plain(known) == plain(f):
@@ -225,6 +233,10 @@ class Turn:
                 if at is not None:
                     return ".".join([f"{root}.{new}.new.{names[at[0]]}", *at[1]])
         return ".".join([root, new, *rest])
+
+    def below(self, i, root):
+        """The places of the root's chain."""
+        return list(self.fn.chain(self.env[root][1]))
 
     def clause_names(self, i):
         c = self.fn.clauses[i]
@@ -468,7 +480,8 @@ def turn_file(crate, path, fn, muts):
                 invs.append(s + f"\n-- TODO: {len(given)} variables, and {len(fields)} fields {fields}")
                 continue
             table = dict(zip(given, fields))
-            # Bound variables hide.
+            body = unhidden(body, set(table))
+
             def var(w, table=table):
                 return table.get(w[0], w[0])
             body = re.sub(r"(?<![A-Za-z0-9_.'₀-])[^\s(){}.;,\[\]]+", var, body)
@@ -575,15 +588,16 @@ def turn_file(crate, path, fn, muts):
                 for l in lines2:
                     h = re.match(r"(" + re.escape(nm[1]) + r"(?:\s+" + NAME + r")*?\s+=)(.*)$", l) if nm else None
                     out2.append((h[1], h[2]) if h else ("", l))
-                joined = "\n".join(a + "\2" + z for a, z in out2)
-                segs = re.split(r"(^[^\2\n]*\2)", joined, flags=re.M)
-                body = "".join(x[:-1] if x.endswith("\2") else t.body_keep(x) for x in segs)
+                joined = "\n".join(a + "\x02" + z if a else z for a, z in out2)
+                segs = re.split("(^[^\x02\n]*\x02)", joined, flags=re.M)
+                body = "".join(x[:-1] if x.endswith("\x02") else t.body_keep(x) for x in segs)
                 note = "".join(f"-- TODO: {n}\n" for n in dict.fromkeys(t.notes))
                 kept.append(lead + note + body)
                 continue
             kept.append("-- TODO: over a place\n" + s)
             continue
         kept.append(s)
+    kept = [re.sub(r"(?:not-true|not-false) \S+ (c\.if-not-\S+\.(?:true|false))", r"\1", k) for k in kept]
     all_kept = "\n\n".join(kept)
     helpers = []
     inv_text = answers = None
@@ -607,6 +621,32 @@ def body_keep(self, text):
 
 
 Turn.body_keep = body_keep
+
+
+def unhidden(body, names):
+    """The term with each binder of one of the names renamed, in its scope."""
+    done = 0
+    while True:
+        m = re.compile(r"λ ((?:[^.()]|\([^)]*\))*)\.").search(body, done)
+        if not m:
+            return body
+        bound = re.findall(r"(?<![\w'])(" + W + r")(?= :|[ ]|$)", re.sub(r":[^)]*", " :", m[1]) + " ")
+        end = m.end()
+        depth = 0
+        while end < len(body):
+            if body[end] in "([{":
+                depth += 1
+            elif body[end] in ")]}":
+                depth -= 1
+                if depth < 0:
+                    break
+            end += 1
+        scope = body[m.start() : end]
+        for b in bound:
+            if b in names:
+                scope = re.sub(r"(?<![A-Za-z0-9_.'₀-])" + re.escape(b) + r"(?![A-Za-z0-9_'₀-])", b + "'", scope)
+        body = body[: m.start()] + scope + body[end:]
+        done = m.start() + 1
 
 
 def recorded(term, fields):
@@ -635,6 +675,10 @@ def recorded(term, fields):
     if len(parts) == len(fields) - 1:
         parts.append(left)
         inner = "".join(f"\n      {f} = {p};" for f, p in zip(fields, parts))
+        pad = "\n    " if head else ""
+        return f"{head}{pad}record {{{inner}\n    }}"
+    if re.match(r"\(*(omega|search|grind|simp|rw|cc)\b", last):
+        inner = "".join(f"\n      {f} = {last};" for f in fields)
         pad = "\n    " if head else ""
         return f"{head}{pad}record {{{inner}\n    }}"
     paths = [".".join(["1"] * k + (["0"] if k < len(fields) - 1 else [])) for k in range(len(fields))]

@@ -1,0 +1,20 @@
+-- `edge::check_all` meets its contract: a scan of the edges.
+use Prim.Native.Nat.{◌-◌}
+use native.Mathlib.Omega.{arith}
+use Rattle.routine.specs.Edges.{check16}
+use Rattle.refusal.proofs.Checks.{scan-start, scan-stop, scan-next, scan-done}
+use Rattle.routine.proofs.edge.check_all.Goals as goal
+
+pub loop-i-init : goal.loop-i-init
+loop-i-init c = scan-start _ _
+
+pub returns-in-Failed : goal.returns-in-Failed
+unfolding check16
+returns-in-Failed c = scan-stop c.loop-i.invariant (omega arith) c.check-verdict.ensures c.in-Failed.is
+
+pub loop-i-preserved : goal.loop-i-preserved
+loop-i-preserved c = scan-next c.loop-i.invariant (omega arith) c.check-verdict.ensures c.in_default.is
+
+pub returns : goal.returns
+unfolding check16
+returns c = scan-done c.loop-i.invariant (omega arith)
