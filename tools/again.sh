@@ -3,10 +3,8 @@
 set -e
 cd "$(dirname "$0")/.."
 c=$1
-for f in $(git ls-files crates/$c/proofs | grep Proof.antt); do :; done
 rm -rf crates/$c/proofs
-git checkout -q f16579c -- crates/$c/proofs
-git reset -q crates/$c/proofs
+git archive f16579c crates/$c/proofs | tar x
 (cd crates/$c && rt check --generated /tmp/names-$c --old-names >/tmp/names-$c.log 2>&1) || true
 tail -1 /tmp/names-$c.log
 python3 tools/answers.py $c /tmp/names-$c/names.json

@@ -59,6 +59,7 @@ class Fn:
         self.asked = d["asked"]
         self.args = {a: b for a, b in d["args"]}
         self.arms = d["arms"]
+        self.params = d["params"]
 
     def up(self, i, n):
         for _ in range(n):
@@ -173,10 +174,12 @@ class Turn:
         fn = self.fn
         if not fields:
             name = fn.new[place]
+            if self.goal and self.env[root][1] == place:
+                return root
             self.types.add(name)
             if self.goal:
                 return f"(goal.at.{self.goal} {root}).{name}"
-            return root if self.env[root][1] == place else f"{root}.{name}"
+            return root if self.env[root][1] == place else f"(goal.at.{fn.new[self.env[root][1]]} {root}).{name}"
         f, rest = fields[0], fields[1:]
         if f in ("requires", "pre"):
             names = fn.pre["fields"] if fn.pre else []
@@ -187,6 +190,8 @@ class Turn:
                     return self.tupled(f"{root}.requires", names) if not rest else "TODO"
                 return ".".join([f"{root}.requires.{names[at[0]]}", *at[1]])
             return ".".join([root, "requires", *rest])
+        if f == "good":
+            return ".".join([root, "well_formed", *rest])
         if f in ("args", "ranges"):
             if rest:
                 new = fn.args.get(f".{f} .{rest[0]}")
@@ -206,6 +211,10 @@ class Turn:
         if found is None:
             self.notes.append(f"no step {f}")
             return ".".join([root, f, *rest])
+        if rest and rest[0] == "inv":
+            rest = ["invariant", *rest[1:]]
+        if rest and rest[0] == "taken" and "test" in f:
+            rest = ["true", *rest[1:]]
         old, new = fn.places[found][2]
         arm = fn.arms[found]
         for i in [found, *[i for i in self.below(found, root)]]:
@@ -227,12 +236,25 @@ class Turn:
                 return ".".join([f"{root}.{new}.ensures.{names[at[0]]}", *at[1]])
         if rest and rest[0] == "new" and len(rest) > 1 and re.fullmatch(r"[01]", rest[1]):
             callee = fn.places[found][3]
-            names = self.muts.get(callee) if callee else None
+            names = fn.params.get(callee) if callee else None
             if names:
-                at = projection(rest[1:], len(names)) if len(names) > 1 else (0, rest[2:] if rest[1] == "0" else rest[1:])
+                at = projection(rest[1:], len(names) + 1)
                 if at is not None:
                     return ".".join([f"{root}.{new}.new.{names[at[0]]}", *at[1]])
         return ".".join([root, new, *rest])
+
+    def flat(self, text):
+        """The term with a name for each (f x) that is a place."""
+        while True:
+            for m in re.finditer(r"(?<![A-Za-z0-9_.'-])\((" + NAME + r") (" + NAME + r")((?:\.before)*)\)", text):
+                if m[1] in self.macros and (m[2] in self.env or m[2] in self.inner):
+                    root, _ = self.env.get(m[2]) or self.inner[m[2]]
+                    name = f"PLACE{len(self.env)}"
+                    self.env[name] = (root, self.macros[m[1]][1])
+                    text = text[: m.start()] + name + text[m.end() :]
+                    break
+            else:
+                return text
 
     def below(self, i, root):
         """The places of the root's chain."""
@@ -248,6 +270,7 @@ class Turn:
     def body(self, text):
         """Today's text of a term over the variables of self.env."""
         self.aliases = {}
+        text = self.flat(text)
         # Local names of places.
         while True:
             ok = False
@@ -266,19 +289,22 @@ class Turn:
                 # Drop the let and the blank after it.
                 rest = text[end:]
                 rest = re.sub(r"^\s+", "", rest) if not re.match(r"^\n", rest) or True else rest
-                text = text[:start] + rest
+                text = self.flat(text[:start] + rest)
                 ok = True
                 break
             if not ok:
                 # A local name of a step, or of clauses: written out.
-                for m in re.finditer(r"let (" + NAME + r") = (" + NAME + r")((?:\.before)*)((?:\.[^\s(){}.;,]+){1,2}) in(\s)", text):
+                for m in re.finditer(r"let (" + NAME + r") = (" + NAME + r")((?:\.before)*)((?:\.[^\s(){}.;,]+)+) in(\s)", text):
                     at = self.env.get(m[2])
                     if at is None:
                         continue
                     fields = m[4].split(".")[1:]
-                    if fields[0] in ("args", "ranges", "type_inv") or len(fields) == 2 and fields[1] != "ensures":
+                    if fields[0] in ("args", "ranges", "type_inv") or len(fields) > 1 and fields[1] not in ("ensures", "0", "1"):
                         continue
-                    if fields[0] in ("requires", "pre") and len(fields) > 1:
+                    names = self.fn.pre["fields"] if self.fn.pre else []
+                    if fields[0] in ("requires", "pre") and len(fields) > 1 and (len(names) < 2 or projection(fields[1:], len(names))):
+                        continue
+                    if fields[0] not in ("requires", "pre") and len(fields) > 2 and not all(x in "01" for x in fields[2:]):
                         continue
                     root, place = at
                     up = self.fn.up(place, m[3].count(".before"))
@@ -294,11 +320,15 @@ class Turn:
             if at is None or m[3] in self.aliases:
                 return m[0]
             name = self.fn.new[self.over[m[1]]]
-            self.types.add(name)
             root = at[0]
+            if self.goal and self.env[root][1] == self.over[m[1]]:
+                return f"{m[1]} \3{root}"
+            self.types.add(name)
             if self.goal:
                 return f"{m[1]} (goal.at.{self.goal} \3{root}).{name}"
-            return m[0] if self.env[root][1] == self.over[m[1]] else f"{m[1]} \3{root}.{name}"
+            if self.env[root][1] == self.over[m[1]]:
+                return f"{m[1]} \3{root}"
+            return f"{m[1]} (goal.at.{self.fn.new[self.env[root][1]]} \3{root}).{name}"
 
         if self.over:
             words = "|".join(re.escape(x) for x in sorted(self.over, key=len, reverse=True))
@@ -364,9 +394,9 @@ class Turn:
             if a in self.inner:
                 return self.inner[a]
             return None
-        if a in self.macros and b in self.env:
+        if a in self.macros and (b in self.env or b in self.inner):
             of, to = self.macros[a]
-            root, place = self.env[b]
+            root, place = self.env.get(b) or self.inner[b]
             return root, to
         return None
 
@@ -445,6 +475,14 @@ def turn_file(crate, path, fn, muts):
     old = {plain(a): k for k, (a, b) in enumerate(fn.needs)}
     new = {plain(b): k for k, (a, b) in enumerate(fn.needs)}
     inv_names = {}
+    goal_of = {}
+    for name, key in sigs.items():
+        k = position.get(name)
+        if k is None:
+            k = next((x for x in (old.get(plain(key)), old.get(plain(re.sub(r"^overflow-", "", key))), new.get(plain(key))) if x is not None), None)
+        if k is not None:
+            goal_of[name] = k
+            t.over[name] = fn.by[fn.asked_at[k][0]]
     for b in decls:
         s = "\n".join(b).rstrip()
         head = next((l for l in b if l.strip() and not l.startswith("--")), "")
@@ -546,9 +584,12 @@ def turn_file(crate, path, fn, muts):
                         t.inner[x[1]] = (mm[1], target)
                         return ""
                     return x[0]
-                body = re.sub(r"^  (?:abbrev )?(?:pub )?(" + NAME + r") : tie\.(\S+?)((?: (?:invariant|decreases)-\S+)*)\n  \1 = [^\n]*\n\n?", macro, body, flags=re.M)
+                body = re.sub(r"^  (?:abbrev )?(?:pub )?(" + NAME + r") : tie\.(\S+?)((?: (?:invariant|decreases)-\S+)*)\n  \1 = [^\n]*(?:\n\n?|$)", macro, body, flags=re.M)
                 for x in re.finditer(r"^  (?:abbrev )?(?:pub )?(" + NAME + r") : ", body, re.M):
                     t.over[x[1]] = place
+                if not body.strip():
+                    t.inner = {}
+                    continue
                 body = t.body(body)
                 t.types.add(fn.new[place])
                 t.inner = {}
@@ -597,6 +638,10 @@ def turn_file(crate, path, fn, muts):
             kept.append("-- TODO: over a place\n" + s)
             continue
         kept.append(s)
+    renamed = {name: fn.needs[k][1] for name, k in goal_of.items() if fn.needs[k][1] != name}
+    if renamed:
+        words = "|".join(re.escape(x) for x in sorted(renamed, key=len, reverse=True))
+        kept = [re.sub(r"(?<![A-Za-z0-9_.'-])(" + words + r") (?=[a-z]\b|\(goal\.at)(?!\w+ =)", lambda m: renamed[m[1]] + " ", k) if "\n" in k else k for k in kept]
     kept = [re.sub(r"(?:not-true|not-false) \S+ (c\.if-not-\S+\.(?:true|false))", r"\1", k) for k in kept]
     all_kept = "\n\n".join(kept)
     helpers = []

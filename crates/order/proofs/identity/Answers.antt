@@ -1,0 +1,17 @@
+-- `order::identity` meets its contract: a table is filled.
+use mathlib.Core.Path.{refl}
+use Prim.Native.Nat.{◌-◌}
+use Rattle.words.proofs.Filling.{fill-begin, fill-length, fill-next, fill_end}
+use Rattle.order.proofs.identity.Goals as goal
+
+pub loop-j-init : goal.loop-j-init
+loop-j-init c = fill-begin _ refl
+
+pub loop-j-preserved : goal.loop-j-preserved
+loop-j-preserved c = fill-next c.loop-j.invariant c.loop-j-test.true refl
+
+pub shape_of-t : goal.shape_of-t
+shape_of-t c = fill-length c.loop-j.invariant
+
+pub returns : goal.returns
+returns c = fill_end c.loop-j.invariant c.loop-j-test.false

@@ -1,0 +1,30 @@
+-- `count_falling` meets its contract: the invariant counts the falling edges passed.
+use mathlib.Core.Path.{◌≡◌, ap, ◌∙◌}
+use Prim.Native.Nat.{◌+◌, ◌-◌}
+use native.Mathlib.Omega.{arith}
+use Rattle.flow.specs.Paths.{edge_count}
+use Rattle.words.specs.Sums.{count_of}
+use Rattle.words.proofs.Sums.{total-none, total-more, count-few}
+use Rattle.order.specs.Falling.{is_falling}
+use Rattle.order.proofs.rising.count_falling.Goals as goal
+use Rattle.order.proofs.rising.count_falling.Goals.{After-falling-count}
+
+pub loop-i-init : goal.loop-i-init
+loop-i-init c = (omega arith, total-none _)
+
+-- with the edge of this turn
+counted : (c : After-falling-count) →
+    c.loop-i.count + c.falling-count.result ≡ count_of (is_falling c.args.edges.now) (c.loop-i.i + 1)
+counted c = total-more _ _ c.loop-i.invariant.1 c.falling-count.ensures
+
+pub overflow_add-count : goal.overflow_add-count
+overflow_add-count c = omega (arith, counted c, count-few (is_falling c.args.edges.now) (c.loop-i.i + 1))
+
+pub loop-i-preserved : goal.loop-i-preserved
+loop-i-preserved c = (omega arith, counted c)
+
+pub returns : goal.returns
+returns c =
+    let es = c.args.edges.now in
+    let all : c.loop-i.i ≡ edge_count es = omega arith in
+    c.loop-i.invariant.1 ∙ ap (count_of (is_falling es)) all
