@@ -65,7 +65,8 @@ class Fn:
         for _ in range(n):
             parent = self.places[i][1]
             if parent is None:
-                return None
+                # The older chain had more places.
+                return i
             i = self.by[parent]
         return i
 
@@ -81,7 +82,7 @@ def blocks(text):
     out, now = [], []
     lines = text.split("\n")
     for i, line in enumerate(lines):
-        starts = line and not line[0].isspace()
+        starts = line and not line[0].isspace() and line[0] not in ")]}"
         if starts and now and not all(l.startswith("--") or not l for l in now):
             first = next(l for l in now if not l.startswith("--") and l)
             head = re.match(r"(?:abbrev |unfoldable |pub |abbrev pub )*(" + NAME + ")", first)
@@ -180,7 +181,7 @@ class Turn:
             if self.goal:
                 return f"(goal.at.{self.goal} {root}).{name}"
             return root if self.env[root][1] == place else f"(goal.at.{fn.new[self.env[root][1]]} {root}).{name}"
-        f, rest = fields[0], fields[1:]
+        f, rest = fields[0].removesuffix("_lem"), fields[1:]
         if f in ("requires", "pre"):
             names = fn.pre["fields"] if fn.pre else []
             if len(names) > 1:

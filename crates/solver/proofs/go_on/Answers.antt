@@ -2,6 +2,7 @@
 -- alters none. The measure is what is left of the rounds that there can be.
 use mathlib.Core.Path.{◌≡◌, sym, ap, subst, ◌∙◌}
 use Prim.Native.Nat.{ℕ, ◌-◌, ◌/◌, ◌≤◌}
+use borrow.Author.Tests.{not-true, not-false}
 use native.Mathlib.Omega.{arith}
 use lib.ListN.{length}
 use Rattle.flow.specs.Solver.{row_count}
@@ -41,7 +42,7 @@ pub returns-then-not-p : goal.returns-then-not-p
 returns-then-not-p c =
     let a = c.args in
     going-stops a.edges.now a.order.now a.along a.gives.now a.passes.now (row_count a.sets.now) c.requires.order c.requires.tables.ends c.loop-p.sets _ _ c.loop-p.done c.loop-p.invariant.0
-    (round-done a.edges.now a.along a.gives.now a.passes.now a.order.now c.round-p.ensures) (c.if-not-p.true)
+    (round-done a.edges.now a.along a.gives.now a.passes.now a.order.now c.round-p.ensures) (not-true _ c.if-not-p.true)
 
 pub shape_of-sets-then-not-p : goal.shape_of-sets-then-not-p
 shape_of-sets-then-not-p c = (returns-then-not-p c).size ∙ sym c.requires.tables.whole
@@ -51,7 +52,7 @@ loop-p-preserved c =
     let a = c.args in
     (
       going_more a.edges.now a.order.now a.along a.gives.now a.passes.now (row_count a.sets.now) c.requires.order c.requires.tables.ends c.loop-p.sets _ _ c.loop-p.done c.loop-p.invariant.0
-          (round-done a.edges.now a.along a.gives.now a.passes.now a.order.now c.round-p.ensures) (c.if-not-p.false),
+          (round-done a.edges.now a.along a.gives.now a.passes.now a.order.now c.round-p.ensures) (not-false _ c.if-not-p.false),
       closed-next a.edges.now a.along a.gives.now a.passes.now a.order.now c.round-p.ensures,
     )
 

@@ -1,0 +1,15 @@
+-- `halves::take_high` meets its contract: a table is filled.
+use Prim.Native.Nat.{◌-◌}
+use native.Mathlib.Omega.{arith}
+use Rattle.words.proofs.Filling.{fill-begin, fill-next, fill_end}
+use Rattle.sets.specs.Sets.{high_half}
+use Rattle.halves.proofs.take_high.Goals as goal
+
+pub loop-i-init : goal.loop-i-init
+loop-i-init c = fill-begin _ (omega arith)
+
+pub loop-i-preserved : goal.loop-i-preserved
+loop-i-preserved c = fill-next c.loop-i.invariant c.loop-i-test.true c.high_half.ensures
+
+pub returns : goal.returns
+returns c = fill_end c.loop-i.invariant c.loop-i-test.false
