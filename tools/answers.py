@@ -192,7 +192,6 @@ class Turn:
             if len(names) > 1:
                 at = projection(rest, len(names))
                 if at is None:
-                    self.notes.append("whole requires")
                     k = partial(rest)
                     return self.tupled(f"{root}.requires", names[k:]) if k is not None else "TODO"
                 return ".".join([f"{root}.requires.{names[at[0]]}", *at[1]])

@@ -32,7 +32,6 @@ all-everywhere-requires c =
       marks_len = part (goal.at.all-everywhere-requires c).Start ∙ c.requires.read_as.heads.vertices-are;
     }
 
--- TODO: whole requires
 pub brought_everywhere-rounds-requires : goal.brought_everywhere-rounds-requires
 brought_everywhere-rounds-requires c =
     record {
@@ -55,7 +54,6 @@ returns-then-everywhere c =
       brought_stops = c.brought_everywhere-rounds.ensures.brought_stops;
     }
 
--- TODO: whole requires
 pub brought_after_pass-requires : goal.brought_after_pass-requires
 brought_after_pass-requires c =
     record {

@@ -33,7 +33,6 @@ all-everywhere-requires c =
       marks_len = part (goal.at.all-everywhere-requires c).Start ∙ c.requires.read_as.heads.vertices-are;
     }
 
--- TODO: whole requires
 pub reaching_everywhere-rounds-requires : goal.reaching_everywhere-rounds-requires
 reaching_everywhere-rounds-requires c =
     record {
@@ -56,7 +55,6 @@ returns-then-everywhere c =
       reaching_stops = c.reaching_everywhere-rounds.ensures.reaching_stops;
     }
 
--- TODO: whole requires
 pub reaching_after_pass-requires : goal.reaching_after_pass-requires
 reaching_after_pass-requires c =
     record {
