@@ -314,7 +314,7 @@ class Turn:
                         fields = first + fields
                     if at is None:
                         continue
-                    if fields[0] in ("args", "ranges", "type_inv") or len(fields) > 1 and fields[1] not in ("ensures", "0", "1"):
+                    if fields[0] in ("args", "ranges", "type_inv") or len(fields) > 1 and fields[1] not in ("ensures", "auto", "kept", "new", "last", "0", "1"):
                         continue
                     names = self.fn.pre["fields"] if self.fn.pre else []
                     if fields[0] in ("requires", "pre") and len(fields) > 1 and (len(names) < 2 or projection(fields[1:], len(names))):
