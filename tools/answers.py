@@ -132,6 +132,11 @@ def split_tuple(s):
     return None
 
 
+def partial(path):
+    """How many .1 a path of only these has, or None."""
+    return len(path) if all(x == "1" for x in path) else None
+
+
 def projection(path, n):
     """Which of n clauses a path of .0 and .1 names: index and what is left, or None for the whole."""
     parts = path
@@ -187,11 +192,11 @@ class Turn:
             if len(names) > 1:
                 at = projection(rest, len(names))
                 if at is None:
-                    self.notes.append("whole requires")
-                    return self.tupled(f"{root}.requires", names) if not rest else "TODO"
+                    k = partial(rest)
+                    return self.tupled(f"{root}.requires", names[k:]) if k is not None else "TODO"
                 return ".".join([f"{root}.requires.{names[at[0]]}", *at[1]])
             return ".".join([root, "requires", *rest])
-        if f == "good":
+        if f in ("good", "well-formed", "well_formed"):
             return ".".join([root, "well_formed", *rest])
         if f in ("args", "ranges"):
             if rest:
@@ -201,17 +206,21 @@ class Turn:
         found = None
         order = [place] + [i for i in fn.chain(fn.by_root(self.env, root)) if i != place] if False else [place, *[i for i in fn.chain(place) if i != place], *[i for i in fn.chain(self.env[root][1])]]
         for i in order:
-            if plain(fn.places[i][2][0]) == plain(f):
+            if plain(fn.places[i][2][0]).lower() == plain(f).lower():
                 found = i
                 break
         if found is None:
             for i in order:
-                if plain(fn.places[i][2][1]) == plain(f):
+                if plain(fn.places[i][2][1]).lower() == plain(f).lower():
                     found = i
                     break
         if found is None:
             self.notes.append(f"no step {f}")
             return ".".join([root, f, *rest])
+        if rest and rest[0] == "last" and len(rest) > 1:
+            rest = ["new", *rest[1:]]
+        if rest and rest[0] == "kept":
+            rest = ["auto", *rest[1:]]
         if rest and rest[0] == "inv":
             rest = ["invariant", *rest[1:]]
         if rest and rest[0] == "taken" and "test" in f:
@@ -233,15 +242,16 @@ class Turn:
             if names and len(names) > 1:
                 at = projection(rest[1:], len(names))
                 if at is None:
-                    return self.tupled(f"{root}.{new}.ensures", names)
+                    k = partial(rest[1:])
+                    return self.tupled(f"{root}.{new}.ensures", names[k:]) if k is not None else "TODO"
                 return ".".join([f"{root}.{new}.ensures.{names[at[0]]}", *at[1]])
-        if rest and rest[0] == "new" and len(rest) > 1 and re.fullmatch(r"[01]", rest[1]):
+        if rest and rest[0] in ("new", "auto") and len(rest) > 1 and re.fullmatch(r"[01]", rest[1]):
             callee = fn.places[found][3]
             names = fn.params.get(callee) if callee else None
             if names:
                 at = projection(rest[1:], len(names) + 1)
                 if at is not None:
-                    return ".".join([f"{root}.{new}.new.{names[at[0]]}", *at[1]])
+                    return ".".join([f"{root}.{new}.{rest[0]}.{names[at[0]]}", *at[1]])
         return ".".join([root, new, *rest])
 
     def flat(self, text):
@@ -297,9 +307,13 @@ class Turn:
                 # A local name of a step, or of clauses: written out.
                 for m in re.finditer(r"let (" + NAME + r") = (" + NAME + r")((?:\.before)*)((?:\.[^\s(){}.;,]+)+) in(\s)", text):
                     at = self.env.get(m[2])
+                    fields = m[4].split(".")[1:]
+                    if m[2] in self.aliases and not m[3]:
+                        root, place, first = self.aliases[m[2]]
+                        at = (root, place)
+                        fields = first + fields
                     if at is None:
                         continue
-                    fields = m[4].split(".")[1:]
                     if fields[0] in ("args", "ranges", "type_inv") or len(fields) > 1 and fields[1] not in ("ensures", "0", "1"):
                         continue
                     names = self.fn.pre["fields"] if self.fn.pre else []
@@ -557,7 +571,7 @@ def turn_file(crate, path, fn, muts):
             t.env = {params[0]: (params[0], place)} if params else {}
             t.notes = []
             term = t.body(term)
-            fields = fn.asked.get(goal) or fn.asked.get(fn.needs[k][0])
+            fields = fn.asked.get(fn.needs[k][0])
             if fields and len(fields) > 1:
                 term = recorded(term, fields)
             note = "".join(f"-- TODO: {n}\n" for n in dict.fromkeys(t.notes))
@@ -604,6 +618,22 @@ def turn_file(crate, path, fn, muts):
             if a is not None and z is not None:
                 t.macros[mm[1]] = (a, z)
                 continue
+        x = re.match(r"(?:abbrev )?(?:pub )?(" + NAME + r") : tie\.(\S+?)((?: (?:invariant|decreases)-\S+)*) → ", head)
+        if x and t.place_of(x[2]) is not None and "tie." not in s.replace(x[0], "", 1):
+            # A definition or a lemma whose first argument is a place.
+            place = t.place_of(x[2])
+            clause = re.search(r"^" + re.escape(x[1]) + r" (" + NAME + r")\b", s, re.M)
+            if clause:
+                name = fn.new[place]
+                t.types.add(name)
+                t.over[x[1]] = place
+                t.env = {clause[1]: (clause[1], place)}
+                body = s[len(lead) :].replace(f"tie.{x[2]}{x[3]} → ", f"{name} → ", 1)
+                at = re.search(r"^" + re.escape(x[1]) + r" [^\n]*? =", body, re.M)
+                body = body[: at.end()] + t.body(body[at.end() :])
+                note = "".join(f"-- TODO: {n}\n" for n in dict.fromkeys(t.notes))
+                kept.append(lead + note + body)
+                continue
         if "tie." in s:
             # A lemma with binders over places.
             for x in re.finditer(r"\((" + NAME + r") : tie\.(\S+?)((?: (?:invariant|decreases)-\S+)*)\)", s):
@@ -643,18 +673,35 @@ def turn_file(crate, path, fn, muts):
     if renamed:
         words = "|".join(re.escape(x) for x in sorted(renamed, key=len, reverse=True))
         kept = [re.sub(r"(?<![A-Za-z0-9_.'-])(" + words + r") (?=[a-z]\b|\(goal\.at)(?!\w+ =)", lambda m: renamed[m[1]] + " ", k) if "\n" in k else k for k in kept]
+    for a, z in fn.args.items():
+        m = re.match(r"\.args \.(t\d+)$", a)
+        if m:
+            kept = [re.sub(r"(?<=[\w'])\." + m[1] + r"\b", "." + z.split(".")[-1], k) for k in kept]
     kept = [re.sub(r"(?:not-true|not-false) \S+ (c\.if-not-\S+\.(?:true|false))", r"\1", k) for k in kept]
     all_kept = "\n\n".join(kept)
     helpers = []
     inv_text = answers = None
     header = "\n".join(comments)
     if invs:
-        body = "\n\n".join(invs)
+        used = []
+        grown = True
+        text_of = "\n\n".join(invs)
+        while grown:
+            grown = False
+            for k in kept:
+                m = re.match(r"(?:--[^\n]*\n)*(?:abbrev |unfoldable )?(?:pub )?(" + NAME + r") :", k)
+                if m and " : goal." not in k.split("\n")[0] and not re.match(r"(?:--[^\n]*\n)*pub \S+ : goal\.", k) and k not in used:
+                    if re.search(r"(?<![A-Za-z0-9_.'-])" + re.escape(m[1]) + r"(?![A-Za-z0-9_'-])", text_of):
+                        used.append(k)
+                        text_of += k
+                        grown = True
+        body = "\n\n".join([k for k in kept if k in used] + invs)
+        body = body.replace("abbrev pub invariant", "abbrev pub invariant")
         inv_text = assemble(header, uses, body, f"use {goals_module}.Given as goal")
     if kept:
         extra = [f"use {goals_module}.Goals as goal"]
         types = sorted(x for x in t.types if re.search(r"(?<![\w.-])" + re.escape(x) + r"(?![\w-])", all_kept.replace(").", " .")))
-        used = [x for x in types if re.search(r": " + re.escape(x) + r"\)", all_kept)]
+        used = [x for x in types if re.search(r": " + re.escape(x) + r"(\)| →)", all_kept)]
         if used:
             extra.append(f"use {goals_module}.Goals.{{{', '.join(used)}}}")
         answers = assemble(header, uses, all_kept, "\n".join(extra))
@@ -721,6 +768,12 @@ def recorded(term, fields):
     if len(parts) == len(fields) - 1:
         parts.append(left)
         inner = "".join(f"\n      {f} = {p};" for f, p in zip(fields, parts))
+        pad = "\n    " if head else ""
+        return f"{head}{pad}record {{{inner}\n    }}"
+    if parts and re.fullmatch(r"[^\s(){},;]+", left):
+        n = len(fields) - len(parts)
+        more = [".".join([left, *["1"] * k, *(["0"] if k < n - 1 else [])]) for k in range(n)]
+        inner = "".join(f"\n      {f} = {p};" for f, p in zip(fields, parts + more))
         pad = "\n    " if head else ""
         return f"{head}{pad}record {{{inner}\n    }}"
     if re.match(r"\(*(omega|search|grind|simp|rw|cc)\b", last):

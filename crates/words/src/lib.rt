@@ -1,6 +1,8 @@
 // 16-bit numbers in a list of bytes: unsigned, low byte first (document 01, first paragraph).
 #![tactic(auto)]
 
+pub mod bytes;
+
 ghost use Rattle.std.specs.Prelude.{◌≡◌, ◌+◌, ◌<◌, length};
 ghost use Rattle.words.specs.Words.{word};
 

@@ -1,0 +1,26 @@
+-- `kept::fill` meets its contract: two tables are filled.
+use mathlib.Core.Path.{ap, ◌∙◌}
+use mathlib.Core.Bool.{Bool, cond, ◌||◌}
+use Prim.Native.Nat.{◌-◌}
+use lib.Dec.{eqb}
+use lib.ListN.{get_or}
+use Rattle.words.proofs.Filling.{fill-begin, fill-next, fill_end}
+use Rattle.sets.specs.Sets.{every_half}
+use Rattle.passes.proofs.kept.fill.Goals as goal
+
+pub loop-i-init : goal.loop-i-init
+loop-i-init c = (fill-begin _ c.requires.gives_len, fill-begin _ c.requires.passes_len)
+
+pub loop-i-preserved : goal.loop-i-preserved
+loop-i-preserved c =
+    let version = get_or c.args.versions.now c.loop-i.i 0 in (
+      fill-next c.loop-i.invariant.0 c.loop-i-test.true (c.set_if.ensures ∙ ap (λ (b : Bool). cond b version 0) c.leaves.ensures),
+      fill-next c.loop-i.invariant.1 c.loop-i-test.true (c.every_if.ensures ∙ ap (λ (b : Bool). cond (eqb version 0 || b) every_half 0) c.goes_on.ensures),
+    )
+
+pub returns : goal.returns
+returns c =
+    record {
+      gives_after = fill_end c.loop-i.invariant.0 c.loop-i-test.false;
+      passes_after = fill_end c.loop-i.invariant.1 c.loop-i-test.false;
+    }

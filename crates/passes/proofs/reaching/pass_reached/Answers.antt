@@ -1,0 +1,21 @@
+-- `reaching::pass_reached` meets its contract: a table is filled.
+use mathlib.Core.Path.{refl}
+use Prim.Native.Nat.{◌-◌}
+use native.Mathlib.Omega.{arith}
+use Rattle.words.proofs.Filling.{fill-begin, fill-length, fill-next, fill_end}
+use Rattle.passes.proofs.reaching.pass_reached.Goals as goal
+
+pub loop-i-init : goal.loop-i-init
+loop-i-init c = fill-begin _ refl
+
+pub bounds-passes-i : goal.bounds-passes-i
+bounds-passes-i c = omega (arith, fill-length c.loop-i.invariant)
+
+pub loop-i-preserved : goal.loop-i-preserved
+loop-i-preserved c = fill-next c.loop-i.invariant c.loop-i-test.true refl
+
+pub shape_of-passes : goal.shape_of-passes
+shape_of-passes c = fill-length c.loop-i.invariant
+
+pub returns : goal.returns
+returns c = fill_end c.loop-i.invariant c.loop-i-test.false

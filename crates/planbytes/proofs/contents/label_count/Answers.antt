@@ -1,0 +1,70 @@
+-- `contents::label_count` meets its contract. The invariant: `count` is the number of labels of the vertices before v, and the index of the first label
+-- is filled in for each of these. The measure is what is left. Assumes nothing.
+use mathlib.Core.Path.{◌≡◌, refl, ap, ◌∙◌}
+use Prim.Native.Nat.{◌-◌, ◌≤◌}
+use native.Mathlib.Omega.{arith}
+use lib.ListN.{length, set, length-set}
+use Rattle.planbytes.specs.Plan.{labels_before, label_count}
+use Rattle.planbytes.proofs.Sizes.{before_more, before-few, firsts-done}
+use Rattle.routine.specs.Layout.{vertices}
+use Rattle.words.proofs.Filling.{fill-begin, fill-length, fill-next}
+use Rattle.planbytes.proofs.contents.label_count.Goals as goal
+use Rattle.planbytes.proofs.contents.label_count.Goals.{At-loop-v}
+
+-- ---- at each turn
+
+few : (c : At-loop-v) → c.loop-v.count ≤ 2048
+few c =
+    omega (arith, before-few c.args.file.now c.requires.read_as.heads.laid c.loop-v.v, c.loop-v.invariant.0, c.loop-v.invariant.1, c.requires.read_as.heads.vertices-are, c.requires.read_as.heads.laid.limits.few-vertices)
+
+pub loop-v-init : goal.loop-v-init
+unfolding labels_before
+loop-v-init c = (omega arith, refl, fill-begin _ refl)
+
+pub overflow_cast-firsts : goal.overflow_cast-firsts
+overflow_cast-firsts c = omega (arith, few (goal.at.overflow_cast-firsts c).At-loop-v)
+
+pub bounds-firsts-v : goal.bounds-firsts-v
+bounds-firsts-v c = omega (arith, fill-length c.loop-v.invariant.2, c.loop-v-test.true, c.requires.read_as.heads.vertices-are, c.requires.file_in_bounds)
+
+pub labels_at-count-requires : goal.labels_at-count-requires
+labels_at-count-requires c =
+    record {
+      read_as = c.requires.read_as;
+      versions = c.requires.versions;
+      v_bound = omega (arith, c.loop-v-test.true, c.requires.read_as.heads.vertices-are);
+    }
+
+pub overflow_add-count : goal.overflow_add-count
+overflow_add-count c = omega (arith, few (goal.at.overflow_add-count c).At-loop-v, c.labels_at-count.ensures.upper_bound)
+
+pub loop-v-preserved : goal.loop-v-preserved
+loop-v-preserved c =
+    let t = c.loop-v.invariant in (
+      omega arith,
+      before_more c.args.file.now c.loop-v.v t.1 c.labels_at-count.ensures.value,
+      fill-next t.2 (omega (arith, c.loop-v-test.true, c.requires.read_as.heads.vertices-are, c.requires.file_in_bounds)) t.1,
+    )
+
+-- ---- at the end
+pub overflow_cast-firsts-2 : goal.overflow_cast-firsts-2
+overflow_cast-firsts-2 c = omega (arith, few (goal.at.overflow_cast-firsts-2 c).At-loop-v)
+
+pub bounds-firsts-n : goal.bounds-firsts-n
+bounds-firsts-n c = omega (arith, fill-length c.loop-v.invariant.2, c.requires.read_as.heads.vertices-are, c.requires.file_in_bounds)
+
+pub shape_of-firsts : goal.shape_of-firsts
+shape_of-firsts c =
+    let t = c.loop-v.invariant.2 in
+    let e : length (set c.loop-v.firsts c.args.h.vertices c.loop-v.count) ≡ length c.args.firsts.now = simp length-set t.replacing.sized in e
+
+pub returns : goal.returns
+unfolding label_count
+returns c =
+    let is = c.requires.read_as.heads.vertices-are in
+    let end : c.loop-v.v ≡ c.args.h.vertices = omega (arith, c.loop-v.invariant.0, c.loop-v-test.false) in
+    record {
+      firsts = firsts-done c.args.file.now c.loop-v.invariant.2 end is c.requires.file_in_bounds c.loop-v.invariant.1;
+      value = c.loop-v.invariant.1 ∙ ap (labels_before c.args.file.now) (end ∙ is);
+      upper_bound = few (goal.at.returns c).At-loop-v;
+    }
