@@ -1,6 +1,5 @@
 -- `flow::handed` meets its contract: a row is filled.
 use mathlib.Core.Path.{refl}
-use Prim.Native.Nat.{◌-◌}
 use Rattle.words.proofs.Filling.{fill-begin, fill-next, fill_end}
 use Rattle.flow.proofs.handed.Goals as goal
 

@@ -2,7 +2,6 @@
 use mathlib.Core.Path.{refl, ap}
 use lib.Bits.{bit_or}
 use lib.ListN.{get_or}
-use Prim.Native.Nat.{◌-◌}
 use Rattle.words.proofs.Filling.{fill-begin, fill-next, fill_end}
 use Rattle.flow.proofs.noted.Goals as goal
 

@@ -1,6 +1,5 @@
 -- `flow::put` meets its contract: a row is replaced.
 use mathlib.Core.Path.{refl}
-use Prim.Native.Nat.{◌-◌}
 use Rattle.words.proofs.Replaced.{replacing-begin, replacing-next, replacing-end}
 use Rattle.flow.proofs.put.Goals as goal
 

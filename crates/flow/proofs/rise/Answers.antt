@@ -1,7 +1,6 @@
 -- `flow::rise` meets its contract. The invariant: the first j edges of the round were taken, and the note says what that added.
 -- The measure is what is left of the edges.
 use mathlib.Core.Bool.{false}
-use Prim.Native.Nat.{◌-◌}
 use native.Mathlib.Omega.{arith}
 use Rattle.flow.proofs.Rounds.{turn-lt}
 use Rattle.flow.proofs.Rows.{sweeping-none, sweeping-length, sweeping-more, sweeping-done, tables}

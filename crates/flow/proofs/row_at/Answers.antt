@@ -1,6 +1,5 @@
 -- `flow::row_at` meets its contract: a row is filled.
 use mathlib.Core.Path.{refl}
-use Prim.Native.Nat.{◌-◌}
 use Rattle.words.proofs.Filling.{fill-begin, fill-next, fill_end}
 use Rattle.flow.proofs.row_at.Goals as goal
 

@@ -1,5 +1,4 @@
 -- `action::check_all` meets its contract: a scan of the rows.
-use Prim.Native.Nat.{◌-◌}
 use native.Mathlib.Omega.{arith}
 use Rattle.routine.specs.Actions.{actions_check}
 use Rattle.refusal.proofs.Checks.{scan-start, scan-stop, scan-next, scan-done}

@@ -1,5 +1,4 @@
 -- `array::check_all` meets its contract: a scan of the arrays.
-use Prim.Native.Nat.{◌-◌}
 use native.Mathlib.Omega.{arith}
 use Rattle.routine.specs.Arrays.{check14}
 use Rattle.refusal.proofs.Checks.{scan-start, scan-stop, scan-next, scan-done}

@@ -1,5 +1,4 @@
 -- `edge::check_all` meets its contract: a scan of the edges.
-use Prim.Native.Nat.{◌-◌}
 use native.Mathlib.Omega.{arith}
 use Rattle.routine.specs.Edges.{check16}
 use Rattle.refusal.proofs.Checks.{scan-start, scan-stop, scan-next, scan-done}

@@ -1,0 +1,16 @@
+#!/usr/bin/env bash
+# Proves and builds what links and runs: target/staticlib/libremap.a, and planner, runner and converter in target/bin.
+set -euo pipefail
+cd "$(dirname "$0")/.."
+
+# Every crate, four at a time; what follows finds it proved.
+rt all check --jobs 4
+
+mkdir -p target/staticlib target/bin
+(cd crates/remap && rt lib)
+cp crates/remap/out/libremap.a target/staticlib/
+for program in planner runner converter; do
+  # A run builds the program; it is run on the crate's own input.
+  (cd "crates/$program" && rt run >/dev/null)
+  cp "crates/$program/out/$program" target/bin/
+done
