@@ -7,8 +7,10 @@ mod print;
 mod reads;
 mod runs;
 
-fn main() {
-    reads::all();
-    plans::all();
-    runs::all();
+use std::io;
+
+fn main(rt: HostRuntime) -> io::Result<()> {
+    reads::all(&rt)?;
+    plans::all(&rt)?;
+    runs::all(&rt)
 }

@@ -6,9 +6,10 @@
 ghost use Rattle.std.specs.Prelude.{◌≤◌};
 ghost use Rattle.io.specs.Counts.{IsPrefixLen};
 
-use libc::{STDERR_FILENO, STDOUT_FILENO};
 use refusal::Reply;
 use run::edges;
+use std::fs::File;
+use std::io;
 
 // More than the longest routine file, which has 6,194 bytes: a byte too many is seen, and no later one matters.
 const ROUTINE: usize = 6195;
@@ -21,155 +22,151 @@ const REPORT: usize = 43328;
 
 // The number of bytes read; a file that cannot be opened counts as empty. If it cannot be opened, `unopened` goes to standard error; if a read
 // fails, `unread`.
-fn read_file(name: &[u8], buf: &mut [u8], unopened: &[u8], unread: &[u8]) -> usize
+fn read_file(rt: &HostRuntime, name: &str, buf: &mut [u8], unopened: &[u8], unread: &[u8]) -> usize
     ensures { IsPrefixLen result buf.new }
 {
-    let fd = os::open_read(name);
-    if fd < 0 {
-        io::write_all(STDERR_FILENO, unopened);
-        return 0;
+    match File::open(rt, name) {
+        Ok(mut file) => streams::read_all(&mut file, buf, &mut rt.stderr(), unread),
+        Err(_) => {
+            let _ = rt.stderr().write_all(unopened);
+            0
+        }
     }
-    let n = streams::read_all(fd, buf, unread);
-    libc::close(fd);
-    n
 }
 
-// The functions that print answer whether all has been written.
-
 // An array's entry as a line: copies, live set, current version.
-fn print_entry(report: &[u8], at: usize) -> bool
+fn print_entry(rt: &HostRuntime, report: &[u8], at: usize) -> io::Result<()>
     requires { at ≤ 2000000 }
 {
     let mut line = [0u8; listing::ROOM];
     let n = listing::entry(&mut line, report, at);
-    io::write_all(STDOUT_FILENO, &line[..n])
+    rt.write_all(&line[..n])
 }
 
 // A record as a line: step, array, version, kind, stamp seen, new stamp.
-fn print_record(report: &[u8], at: usize) -> bool
+fn print_record(rt: &HostRuntime, report: &[u8], at: usize) -> io::Result<()>
     requires { at ≤ 2000000 }
 {
     let mut line = [0u8; listing::ROOM];
     let n = listing::record(&mut line, report, at);
-    io::write_all(STDOUT_FILENO, &line[..n])
+    rt.write_all(&line[..n])
 }
 
 // The count of an edge as a line.
-fn print_count(report: &[u8], at: usize) -> bool
+fn print_count(rt: &HostRuntime, report: &[u8], at: usize) -> io::Result<()>
     requires { at ≤ 2000000 }
 {
     let mut line = [0u8; listing::ROOM];
     let n = listing::count(&mut line, report, at);
-    io::write_all(STDOUT_FILENO, &line[..n])
+    rt.write_all(&line[..n])
 }
 
-fn print_entries(report: &[u8], arrays: u64) -> bool
+fn print_entries(rt: &HostRuntime, report: &[u8], arrays: u64) -> io::Result<()>
     requires { arrays ≤ 65535 }
 {
     let mut a: u64 = 0;
     while a < arrays {
-        if !print_entry(report, 8 * (a as usize)) {
-            return false;
-        }
+        print_entry(rt, report, 8 * (a as usize))?;
         a += 1;
     }
-    true
+    Ok(())
 }
 
 // The records from `from` on, up to where the counts start.
-fn print_records(report: &[u8], from: usize, end: usize) -> bool
+fn print_records(rt: &HostRuntime, report: &[u8], from: usize, end: usize) -> io::Result<()>
     requires { end ≤ 1000000 }
 {
     let mut at = from;
     while at < end {
-        if !print_record(report, at) {
-            return false;
-        }
+        print_record(rt, report, at)?;
         at += 10;
     }
-    true
+    Ok(())
 }
 
 // The counts from `from` on, up to the report's end.
-fn print_counts(report: &[u8], from: usize, length: usize) -> bool
+fn print_counts(rt: &HostRuntime, report: &[u8], from: usize, length: usize) -> io::Result<()>
     requires { length ≤ 1000000 }
 {
     let mut at = from;
     while at < length {
-        if !print_count(report, at) {
-            return false;
-        }
+        print_count(rt, report, at)?;
         at += 2;
     }
-    true
+    Ok(())
 }
 
-fn print_report(file: &[u8], report: &[u8], length: usize) -> bool {
+fn print_report(rt: &HostRuntime, file: &[u8], report: &[u8], length: usize) -> io::Result<()> {
     let arrays = listing::word(file, 8);
-    if !print_entries(report, arrays) {
-        return false;
-    }
+    print_entries(rt, report, arrays)?;
     // No report is longer than its buffer, or shorter than its counts; the loops' numbers ask for bounds.
     let n = edges::of(file);
     if length > REPORT {
-        return true;
+        return Ok(());
     }
     if n > length / 2 {
-        return true;
+        return Ok(());
     }
     let counts = length - 2 * n;
-    if !print_records(report, 8 * (arrays as usize), counts) {
-        return false;
-    }
-    print_counts(report, counts, length)
+    print_records(rt, report, 8 * (arrays as usize), counts)?;
+    print_counts(rt, report, counts, length)
 }
 
 // A refusal, on standard error and then on standard output.
-fn print_refusal(reply: Reply) -> bool {
+fn print_refusal(rt: &HostRuntime, reply: Reply) -> io::Result<()> {
     let mut line = [0u8; streams::ROOM];
     let told = streams::put_refusal(&mut line, b"runner: refused ", reply);
-    io::write_all(STDERR_FILENO, &line[..told]);
+    let _ = rt.stderr().write_all(&line[..told]);
     let n = listing::outcome(&mut line, reply);
-    io::write_all(STDOUT_FILENO, &line[..n])
+    rt.write_all(&line[..n])
 }
 
-fn print_run(file: &[u8], path: &[u8], report: &mut [u8]) -> bool {
+fn print_run(rt: &HostRuntime, file: &[u8], path: &[u8], report: &mut [u8]) -> io::Result<()> {
     let reply = run::run(file, path, report);
     match reply {
-        Reply::Written(length) => print_report(file, report, length),
-        Reply::Denied(_) => print_refusal(reply),
+        Reply::Written(length) => print_report(rt, file, report, length),
+        Reply::Denied(_) => print_refusal(rt, reply),
     }
 }
 
-fn print_long() -> bool {
-    io::write_all(STDERR_FILENO, b"runner: path too long\n");
-    io::write_all(STDOUT_FILENO, b"long\n")
+fn print_long(rt: &HostRuntime) -> io::Result<()> {
+    let _ = rt.stderr().write_all(b"runner: path too long\n");
+    rt.write_all(b"long\n")
 }
 
-fn run_files(file: &mut [u8], path: &mut [u8], report: &mut [u8]) -> bool {
+fn run_files(
+    rt: &HostRuntime,
+    file: &mut [u8],
+    path: &mut [u8],
+    report: &mut [u8],
+) -> io::Result<()> {
     let n = read_file(
-        b"path",
+        rt,
+        "path",
         path,
         b"runner: cannot open path\n",
         b"runner: cannot read path\n",
     );
     if n >= PATH {
-        return print_long();
+        return print_long(rt);
     }
     let k = read_file(
-        b"routine",
+        rt,
+        "routine",
         file,
         b"runner: cannot open routine\n",
         b"runner: cannot read routine\n",
     );
-    print_run(&file[..k], &path[..n], report)
+    print_run(rt, &file[..k], &path[..n], report)
 }
 
-fn main() {
+fn main(rt: HostRuntime) {
     let mut file = [0u8; ROUTINE];
     let mut path = [0u8; PATH];
     let mut report = [0u8; REPORT];
-    if !run_files(&mut file, &mut path, &mut report) {
-        io::write_all(STDERR_FILENO, b"runner: cannot write standard output\n");
+    if run_files(&rt, &mut file, &mut path, &mut report).is_err() {
+        let _ = rt
+            .stderr()
+            .write_all(b"runner: cannot write standard output\n");
     }
 }

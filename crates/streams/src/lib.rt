@@ -33,7 +33,7 @@ fn read_once<R: Read, E: Write>(
 }
 
 // Reads until `buf` is full, the input ends or a read fails, and answers how many bytes came. A read that fails has `failed` on `errors`:
-// `read_to_end` would lose what came before.
+// the end of the input has none.
 pub fn read_all<R: Read, E: Write>(
     from: &mut R,
     buf: &mut [u8],
