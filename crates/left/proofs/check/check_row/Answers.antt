@@ -1,7 +1,7 @@
 -- `check::check_row` meets its contract: a scan of the arrays.
 use mathlib.Core.Path.{◌≡◌, refl, sym, ap, ◌∙◌}
 use mathlib.Core.Bool.{Bool, not}
-use Prim.Native.Nat.{◌+◌, ◌-◌, ◌*◌, ◌<◌}
+use Prim.Native.Nat.{◌+◌, ◌*◌, ◌<◌}
 use native.Mathlib.Omega.{arith}
 use Rattle.directives.proofs.Limits.{read-heads}
 use Rattle.directives.specs.Layout.{arrays}

@@ -1,11 +1,10 @@
 -- `check::check_rows` meets its contract: a scan of the vertices.
-use Prim.Native.Nat.{◌-◌, ◌<◌}
+use Prim.Native.Nat.{◌<◌}
 use native.Mathlib.Omega.{arith}
 use Rattle.directives.proofs.Limits.{read-heads}
 use Rattle.directives.specs.Layout.{vertices}
 use Rattle.mappings.specs.Computed.{check42}
 use Rattle.refusal.proofs.Checks.{scan-start, scan-stop, scan-next, scan-done}
-use Rattle.refusal.specs.Checks.{holds}
 use Rattle.refusal.specs.Faults.{first_fault}
 use Rattle.left.proofs.check.check_rows.Goals as goal
 use Rattle.left.proofs.check.check_rows.Goals.{In-loop-v}

@@ -1,6 +1,5 @@
 -- `elsewhere::is_asked` meets its contract: a scan of the vertices.
 use mathlib.Core.Path.{sym, ap, ◌∙◌}
-use Prim.Native.Nat.{◌-◌}
 use native.Mathlib.Nat.{le_antisymm}
 use native.Mathlib.Omega.{arith}
 use Rattle.words.specs.Sums.{any_below}

@@ -1,6 +1,6 @@
 -- `elsewhere::join` meets its contract: row after row is joined, or is as it was.
 use mathlib.Core.Path.{◌≡◌, sym, ap, subst, ◌∙◌}
-use Prim.Native.Nat.{◌+◌, ◌-◌, ◌≤◌, ◌<◌}
+use Prim.Native.Nat.{◌+◌, ◌≤◌, ◌<◌}
 use native.Mathlib.Omega.{arith}
 use Rattle.flow.proofs.Cells.{rows_to, rows_none, rows_all}
 use Rattle.directives.proofs.Limits.{read-heads}
@@ -52,9 +52,9 @@ loop-v-preserved c =
     let file = g.file.now in
     let is = sym (test-is (goal.at.loop-v-preserved c).After-redistributes_other) in
     elim c.if-redistributes_other.branch [
-      then-redistributes_other w ↦ row-joined c.requires.directives_read g.t c.requires.array_cells c.requires.array_cells_2 c.loop-v.v (in-v (goal.at.loop-v-preserved c).In-loop-v) c.loop-v.invariant (is ∙ w.if-redistributes_other.true) (w.others-is ∙ w.join_row.ensures)
+      | then-redistributes_other w ↦ row-joined c.requires.directives_read g.t c.requires.array_cells c.requires.array_cells_2 c.loop-v.v (in-v (goal.at.loop-v-preserved c).In-loop-v) c.loop-v.invariant (is ∙ w.if-redistributes_other.true) (w.others-is ∙ w.join_row.ensures)
       | else-redistributes_other w ↦ subst (ArrayCells file (rows_to (others_to file (g.t + 1)) g.others.now (c.loop-v.v + 1))) (sym w.others-is)
-      (row-left c.requires.directives_read g.t c.requires.array_cells c.requires.array_cells_2 c.loop-v.v (in-v (goal.at.loop-v-preserved c).In-loop-v) c.loop-v.invariant (is ∙ w.if-redistributes_other.false))
+          (row-left c.requires.directives_read g.t c.requires.array_cells c.requires.array_cells_2 c.loop-v.v (in-v (goal.at.loop-v-preserved c).In-loop-v) c.loop-v.invariant (is ∙ w.if-redistributes_other.false))
     ]
 
 pub shape_of-others : goal.shape_of-others

@@ -1,6 +1,6 @@
 -- `elsewhere::join_row` meets its contract: a row is replaced.
 use mathlib.Core.Path.{refl, ap}
-use Prim.Native.Nat.{ℕ, ◌+◌, ◌-◌, ◌*◌}
+use Prim.Native.Nat.{ℕ, ◌+◌, ◌*◌}
 use lib.Bits.{bit_or}
 use lib.ListN.{get_or}
 use Rattle.words.proofs.Replaced.{replacing-begin, replacing-behind, replacing-next, replacing-end}

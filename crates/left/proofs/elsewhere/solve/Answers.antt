@@ -1,6 +1,5 @@
 -- `elsewhere::solve` meets its contract: template after template is joined to a table that was cleared.
 use mathlib.Core.Path.{refl, sym, ◌∙◌}
-use Prim.Native.Nat.{◌-◌}
 use native.Mathlib.Nat.{le_antisymm}
 use native.Mathlib.Omega.{arith}
 use Rattle.directives.proofs.Limits.{read-heads}

@@ -1,7 +1,7 @@
 -- `held::fill_row` meets its contract: two rows are replaced.
 use mathlib.Core.Path.{refl, sym, ap, ap₂, ◌∙◌}
 use mathlib.Core.Bool.{Bool, ◌||◌, cond}
-use Prim.Native.Nat.{◌+◌, ◌-◌, ◌*◌, ◌<◌}
+use Prim.Native.Nat.{◌+◌, ◌*◌, ◌<◌}
 use native.Mathlib.Omega.{arith}
 use Rattle.words.proofs.Replaced.{replacing-begin, replacing-next, replacing-end}
 use Rattle.words.proofs.Tests.{cond-not}
