@@ -5,6 +5,6 @@ cd "$(dirname "$0")/.."
 c=$1
 rm -rf crates/$c/proofs
 git archive f16579c crates/$c/proofs | tar x
-(cd crates/$c && rt check --generated /tmp/names-a-$c --old-names >/tmp/names-a-$c.log 2>&1) || true
-tail -1 /tmp/names-a-$c.log
-python3 tools/answers.py $c /tmp/names-a-$c/names.json
+(cd crates/$c && rt check --generated /tmp/names-$c --old-names >/tmp/names-$c.log 2>&1) || true
+tail -1 /tmp/names-$c.log
+python3 tools/answers.py $c /tmp/names-$c/names.json

@@ -196,7 +196,7 @@ class Turn:
                     return self.tupled(f"{root}.requires", names[k:]) if k is not None else "TODO"
                 return ".".join([f"{root}.requires.{names[at[0]]}", *at[1]])
             return ".".join([root, "requires", *rest])
-        if f == "good":
+        if f in ("good", "well-formed", "well_formed"):
             return ".".join([root, "well_formed", *rest])
         if f in ("args", "ranges"):
             if rest:
@@ -217,6 +217,8 @@ class Turn:
         if found is None:
             self.notes.append(f"no step {f}")
             return ".".join([root, f, *rest])
+        if rest and rest[0] == "last" and len(rest) > 1:
+            rest = ["new", *rest[1:]]
         if rest and rest[0] == "kept":
             rest = ["auto", *rest[1:]]
         if rest and rest[0] == "inv":
@@ -316,7 +318,7 @@ class Turn:
                         fields = first + fields
                     if at is None:
                         continue
-                    if fields[0] in ("args", "ranges", "type_inv") or len(fields) > 1 and fields[1] not in ("ensures", "0", "1"):
+                    if fields[0] in ("args", "ranges", "type_inv") or len(fields) > 1 and fields[1] not in ("ensures", "auto", "kept", "new", "last", "0", "1"):
                         continue
                     names = self.fn.pre["fields"] if self.fn.pre else []
                     if fields[0] in ("requires", "pre") and len(fields) > 1 and (len(names) < 2 or projection(fields[1:], len(names))):
@@ -573,7 +575,7 @@ def turn_file(crate, path, fn, muts):
             t.env = {params[0]: (params[0], place)} if params else {}
             t.notes = []
             term = t.body(term)
-            fields = fn.asked.get(goal) or fn.asked.get(fn.needs[k][0])
+            fields = fn.asked.get(fn.needs[k][0])
             if fields and len(fields) > 1:
                 term = recorded(term, fields)
             note = "".join(f"-- TODO: {n}\n" for n in dict.fromkeys(t.notes))
@@ -620,6 +622,22 @@ def turn_file(crate, path, fn, muts):
             if a is not None and z is not None:
                 t.macros[mm[1]] = (a, z)
                 continue
+        x = re.match(r"(?:abbrev )?(?:pub )?(" + NAME + r") : tie\.(\S+?)((?: (?:invariant|decreases)-\S+)*) → ", head)
+        if x and t.place_of(x[2]) is not None and "tie." not in s.replace(x[0], "", 1):
+            # A definition or a lemma whose first argument is a place.
+            place = t.place_of(x[2])
+            clause = re.search(r"^" + re.escape(x[1]) + r" (" + NAME + r")\b", s, re.M)
+            if clause:
+                name = fn.new[place]
+                t.types.add(name)
+                t.over[x[1]] = place
+                t.env = {clause[1]: (clause[1], place)}
+                body = s[len(lead) :].replace(f"tie.{x[2]}{x[3]} → ", f"{name} → ", 1)
+                at = re.search(r"^" + re.escape(x[1]) + r" [^\n]*? =", body, re.M)
+                body = body[: at.end()] + t.body(body[at.end() :])
+                note = "".join(f"-- TODO: {n}\n" for n in dict.fromkeys(t.notes))
+                kept.append(lead + note + body)
+                continue
         if "tie." in s:
             # A lemma with binders over places.
             for x in re.finditer(r"\((" + NAME + r") : tie\.(\S+?)((?: (?:invariant|decreases)-\S+)*)\)", s):
@@ -659,6 +677,10 @@ def turn_file(crate, path, fn, muts):
     if renamed:
         words = "|".join(re.escape(x) for x in sorted(renamed, key=len, reverse=True))
         kept = [re.sub(r"(?<![A-Za-z0-9_.'-])(" + words + r") (?=[a-z]\b|\(goal\.at)(?!\w+ =)", lambda m: renamed[m[1]] + " ", k) if "\n" in k else k for k in kept]
+    for a, z in fn.args.items():
+        m = re.match(r"\.args \.(t\d+)$", a)
+        if m:
+            kept = [re.sub(r"(?<=[\w'])\." + m[1] + r"\b", "." + z.split(".")[-1], k) for k in kept]
     kept = [re.sub(r"(?:not-true|not-false) \S+ (c\.if-not-\S+\.(?:true|false))", r"\1", k) for k in kept]
     all_kept = "\n\n".join(kept)
     helpers = []
@@ -683,7 +705,7 @@ def turn_file(crate, path, fn, muts):
     if kept:
         extra = [f"use {goals_module}.Goals as goal"]
         types = sorted(x for x in t.types if re.search(r"(?<![\w.-])" + re.escape(x) + r"(?![\w-])", all_kept.replace(").", " .")))
-        used = [x for x in types if re.search(r": " + re.escape(x) + r"\)", all_kept)]
+        used = [x for x in types if re.search(r": " + re.escape(x) + r"(\)| →)", all_kept)]
         if used:
             extra.append(f"use {goals_module}.Goals.{{{', '.join(used)}}}")
         answers = assemble(header, uses, all_kept, "\n".join(extra))

@@ -42,10 +42,6 @@ bytes-append : (s t : List Edge) → edges_bytes (s ++ t) ≡ edges_bytes s ++ e
 bytes-append [] t = refl
 bytes-append (e ∷ s) t = ap (λ (r : List ℕ). bytes16 e.from ++ (bytes16 e.to ++ r)) (bytes-append s t)
 
--- what `bytes::copy` leaves
-pub copied : (src old : List ℕ) {new : List ℕ} → new ≡ take (length src) src ++ drop (length src) old → new ≡ wrote old src
-copied src old e = e ∙ ap (λ (s : List ℕ). s ++ drop (length src) old) (take_all (length src) src (le_refl (length src)))
-
 -- fewer rows are no longer
 rows-up : {A : Type 0} (row : ℕ → List A) (n m : ℕ) → n ≤ m → length (rows row n) ≤ length (rows row m)
 unfolding rows

@@ -41,10 +41,10 @@ fn write_head(file: &[u8], h: Header, out: &mut [u8])
     requires arrays_in_bounds_2 { 18 + 4 * h.arrays ≤ length out.old }
     ensures { out.new ≡ wrote out.old (head_bytes file.now h) }
 {
-    bytes::copy(&file[..COUNTS], out);
+    words::bytes::copy(&file[..COUNTS], out);
     write_counts(&mut out[COUNTS..], h.vertices, h.edges_at(), h.edges);
     let end = h.actions_at();
-    bytes::copy(&file[Header::SIZE..end], &mut out[Header::SIZE..]);
+    words::bytes::copy(&file[Header::SIZE..end], &mut out[Header::SIZE..]);
 }
 
 // Writes the expanded routine, which has so many vertices, and returns its header. The edges come first, since its contents count them.

@@ -52,6 +52,6 @@ pub fn write(file: &[u8], h: Header, out: &mut [u8])
     requires out_len { length out.old ≡ length file.now }
     ensures { out.new ≡ referring file.now }
 {
-    bytes::copy(file, out);
+    words::bytes::copy(file, out);
     replace(file, h.actions_at(), h.vertices * h.arrays, out);
 }

@@ -119,7 +119,7 @@ fn write_plain(file: &[u8], h: Header, v: usize, out: &mut [u8])
 {
     let at = h.actions_at() + v * h.arrays;
     let end = at + h.arrays;
-    bytes::copy(&file[at..end], out);
+    words::bytes::copy(&file[at..end], out);
 }
 
 // Writes the rows of what vertex v becomes, and returns how many bytes these are.

@@ -325,7 +325,7 @@ fn deliver(reply: Reply, work: &[u8], out: &mut [u8]) -> Reply
     if n > out.len() {
         return Reply::Denied(Refusal::ShortRoutineBuffer { needed: n });
     }
-    bytes::copy(&work[..n], out);
+    words::bytes::copy(&work[..n], out);
     reply
 }
 

@@ -165,7 +165,7 @@ fn write_edges(file: &[u8], h: Header, out: &mut [u8])
     ensures { out.new ≡ wrote out.old (edge_bytes file.now) }
 {
     let from = h.edges_at();
-    bytes::copy(&file[from..], out);
+    words::bytes::copy(&file[from..], out);
 }
 
 // Writes the routine, and returns its length.

@@ -8,7 +8,7 @@ use native.Mathlib.Omega.{arith}
 use borrow.Author.Tests.{eq-eqb, ne_eqb}
 use lib.Dec.{eqb}
 use Rattle.labels.proofs.Rules.Proper.{edge-count, edge-from, edge_to_is}
-use Rattle.path.specs.Passes.{passes_of, passes_up_to, Counts}
+use Rattle.path.specs.Passes.{passes_up_to, Counts}
 use Rattle.path.specs.Paths.{steps, vertex_at, joins, path_check}
 use Rattle.path.proofs.Counted.{passes-few}
 use Rattle.path.proofs.Paths.{walk}
@@ -16,7 +16,7 @@ use Rattle.path.proofs.Rising.{only}
 use Rattle.refusal.specs.declared.Verdict.TheVariants.{Passed}
 use Rattle.routine.specs.Layout.{edges}
 use Rattle.routine.specs.Reader.{WellFormed}
-use Rattle.words.specs.Sums.{total, count_of}
+use Rattle.words.specs.Sums.{count_of}
 use Rattle.words.proofs.Sums.{total-same, total-const, total-turned, count-once}
 use Rattle.words.proofs.Tests.{by-test}
 

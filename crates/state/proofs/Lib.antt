@@ -2,5 +2,4 @@ pub mod Carrying
 pub mod Exit
 pub mod Fits
 pub mod Labels
-pub mod Lent
 pub mod States

@@ -46,7 +46,7 @@ bounds-masks-a c = in-eight c.requires.read_as.well (in-a (goal.at.bounds-masks-
 cell-is : (c : In-loop-a) →
     let s = c.args in
     let a = c.loop-a.a in
-    not (eqb (bit_and (get_or s.uses.now (8 * s.v + a) 0) (get_or s.t5 a 0)) 0) ≡ writes_in s.file.now a s.v
+    not (eqb (bit_and (get_or s.uses.now (8 * s.v + a) 0) (get_or s.masks a 0)) 0) ≡ writes_in s.file.now a s.v
 cell-is c =
     writes-cell c.requires.use_gives c.args.v c.requires.v_bound c.loop-a.a (in-a c) c.requires.in_masks
 

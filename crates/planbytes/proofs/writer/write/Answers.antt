@@ -12,14 +12,12 @@ use Rattle.planbytes.proofs.Sizes.{labels-few, labels_length, labels_at_is, plan
 use Rattle.planbytes.proofs.writer.write.Goals as goal
 use Rattle.planbytes.proofs.writer.write.Goals.{After-write, After-write_head, Start}
 
--- TODO: over a place
 -- ---- the buffer at the call, its first bytes at the end, and where the labels stand
 
-abbrev old : tie.Start → List ℕ
+abbrev old : Start → List ℕ
 old s = s.args.out.now
 
--- TODO: over a place
-abbrev first : tie.Start → List ℕ
+abbrev first : Start → List ℕ
 first s = plan_head (vertices s.args.file.now) (label_count s.args.file.now)
 
 room : (s : Start) → 8 + 4 * s.args.h.vertices + length (labels s.args.file.now) ≤ length (old s)
@@ -68,11 +66,10 @@ write-requires c =
       file_in_bounds = lends (head (goal.at.write-requires c).After-write_head) {at = 8} refl (omega (arith, room (goal.at.write-requires c).Start));
     }
 
--- TODO: over a place
-abbrev behind : tie.After-write → List ℕ
+abbrev behind : After-write → List ℕ
 behind c =
-    let out = c.before.before.before.before.write-head.new.0 in
-    take 8 out ++ (c.write.new.1.1.1.0 ++ drop (length out - 8) (drop 8 out))
+    let out = c.write_head.new.out in
+    take 8 out ++ (c.write.new.out ++ drop (length out - 8) (drop 8 out))
 
 both : (c : After-write) →
     Front (old (goal.at.After-write c).Start) (first (goal.at.After-write c).Start ++ contents c.args.file.now) (behind c)

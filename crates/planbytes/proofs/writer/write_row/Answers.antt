@@ -44,9 +44,8 @@ write_label-at-requires c =
       v_in_bounds = lent c.loop-a.invariant.0 c.loop-a.invariant.1 (omega arith);
     }
 
--- TODO: no step well-formed
 pub overflow_add-at : goal.overflow_add-at
-overflow_add-at c = omega (arith, row_room c.loop-a.invariant.0 c.loop-a.invariant.1 (omega arith), c.well-formed.1.1.1.1.1.1.1.0)
+overflow_add-at c = omega (arith, row_room c.loop-a.invariant.0 c.loop-a.invariant.1 (omega arith), c.well_formed.1.1.1.1.1.1.1.0)
 
 pub loop-a-preserved : goal.loop-a-preserved
 loop-a-preserved c =

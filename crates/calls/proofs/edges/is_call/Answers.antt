@@ -1,0 +1,9 @@
+-- `edges::is_call` meets its contract: the table says how many vertices v becomes.
+use mathlib.Core.Path.{ap₂, ◌∙◌}
+use Prim.Native.Nat.{ℕ, ◌+◌}
+use lib.Dec.{ltb}
+use Rattle.calls.proofs.Written.{more-than-one}
+use Rattle.calls.proofs.edges.is_call.Goals as goal
+
+pub returns : goal.returns
+returns c = ap₂ (λ (x y : ℕ). ltb (x + 1) y) c.first_of-first.ensures.value c.first_of-next.ensures.value ∙ more-than-one c.args.file.now c.args.v

@@ -1,0 +1,25 @@
+-- `expanded::write_counts` meets its contract: six stores from the front.
+use mathlib.Core.List.{◌++◌}
+use native.Mathlib.Omega.{arith}
+use lib.ListN.{length-set}
+use lib.Seq.{sets-eq}
+use Rattle.words.specs.Words.{bytes16}
+use Rattle.calls.proofs.expanded.write_counts.Goals as goal
+
+pub bounds-out-1 : goal.bounds-out-1
+bounds-out-1 c = simp length-set (omega arith)
+
+pub bounds-out-2 : goal.bounds-out-2
+bounds-out-2 c = simp length-set (omega arith)
+
+pub bounds-out-3 : goal.bounds-out-3
+bounds-out-3 c = simp length-set (omega arith)
+
+pub bounds-out-4 : goal.bounds-out-4
+bounds-out-4 c = simp length-set (omega arith)
+
+pub bounds-out-5 : goal.bounds-out-5
+bounds-out-5 c = simp length-set (omega arith)
+
+pub returns : goal.returns
+returns c = sets-eq (bytes16 c.args.vertices ++ (bytes16 c.args.offset ++ bytes16 c.args.edges)) c.args.out.now 0 c.requires.in_bounds

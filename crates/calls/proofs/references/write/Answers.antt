@@ -1,0 +1,36 @@
+-- `references::write` meets its contract: the file is copied, then its action bytes are replaced.
+use mathlib.Core.Path.{◌≡◌, ap, ap₂, ◌∙◌}
+use mathlib.Core.List.{List, ◌++◌, append-nil}
+use Prim.Native.Nat.{ℕ, ◌*◌}
+use native.Mathlib.Omega.{arith}
+use lib.ListN.{length, take, drop, drop_of_length-le}
+use lib.Seq.{take-length}
+use Rattle.routine.proofs.Form.{header-limits, few-actions}
+use Rattle.calls.proofs.Referring.{replaced-is}
+use Rattle.calls.proofs.references.write.Goals as goal
+use Rattle.calls.proofs.references.write.Goals.{After-copy}
+
+-- what `bytes::copy` leaves of as many bytes
+copied : (s old : List ℕ) → length old ≡ length s → s ++ drop (length s) old ≡ s
+copied s old sized = ap (λ (l : List ℕ). s ++ l) (drop_of_length-le old {i = length s} (omega arith)) ∙ append-nil s
+
+-- so the file stands in `out`
+copies : (c : After-copy) → c.copy.new.to ≡ c.args.file.now
+copies c = c.copy.ensures.out_after ∙ copied c.args.file.now c.args.out.now c.requires.out_len
+
+pub overflow_mul-h : goal.overflow_mul-h
+overflow_mul-h c = omega (arith, few-actions (header-limits c.requires.heads))
+
+pub replace-requires : goal.replace-requires
+replace-requires c =
+    let is = c.requires.heads in
+    record {
+      n_in_bounds = omega (arith, c.actions_at.ensures, ap₂ ◌*◌ is.vertices-are is.arrays-are, is.arrays-are, is.laid.ends);
+      out_len = ap length (copies (goal.at.replace-requires c).After-copy);
+    }
+
+pub returns : goal.returns
+returns c =
+    let is = c.requires.heads in
+    rw (c.replace.ensures, copies (goal.at.returns c).After-copy, c.actions_at.ensures, is.vertices-are, is.arrays-are)
+    (replaced-is c.args.file.now is.laid)
