@@ -40,10 +40,10 @@ loop-t-preserved c =
     let inv = c.loop-t.invariant in (
       omega (arith, c.loop-t-test.true),
       c.solve_template.ensures.spreads_to_2,
-      c.sets-1.given ∙ inv.2,
-      c.gives-1.given ∙ inv.3,
-      c.passes-1.given ∙ inv.4,
-      c.halves-1.given ∙ inv.5,
+      c.solve_template.auto.sets ∙ inv.2,
+      c.solve_template.auto.gives ∙ inv.3,
+      c.solve_template.auto.passes ∙ inv.4,
+      c.solve_template.auto.halves ∙ inv.5,
     )
 
 pub shape_of-spreads : goal.shape_of-spreads

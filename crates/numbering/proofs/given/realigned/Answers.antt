@@ -1,0 +1,79 @@
+-- `given::realigned` meets its contract: the list grows by what each vertex gave.
+use mathlib.Core.Path.{◌≡◌, refl, sym, ap, subst, ◌∙◌}
+use mathlib.Core.Bool.{cond}
+use mathlib.Core.List.{List, [], ◌∷◌}
+use Prim.Native.Nat.{ℕ, ◌<◌}
+use native.Mathlib.Omega.{arith}
+use borrow.Author.Tests.{eq-eqb}
+use lib.ListN.{get_or}
+use Rattle.words.specs.Tables.{rows}
+use Rattle.directives.proofs.Limits.{read-heads}
+use Rattle.directives.specs.Layout.{vertices}
+use Rattle.directives.specs.declared.array.Alignment.{Alignment}
+use Rattle.directives.specs.declared.spread.Mapping.{Mapping}
+use Rattle.mappings.proofs.Formed.{formed}
+use Rattle.mappings.specs.Along.{turned}
+use Rattle.mappings.specs.Computed.{spread_sets, spread_by}
+use Rattle.numbering.specs.Lists.{Grows}
+use Rattle.numbering.proofs.Growth.{grows_none, grows_in, grows-out, grows-as, grows-row}
+use Rattle.sets.specs.Sets.{has}
+use Rattle.numbering.proofs.given.realigned.Goals as goal
+use Rattle.numbering.proofs.given.realigned.Goals.{In-loop-u, then-is_brought, else-is_brought}
+
+-- what the spread that vertex u gave is to the array
+abbrev row : List ℕ → ℕ → Alignment → ℕ → List Mapping
+row file v x u = cond (has (get_or (spread_sets file x.template) v 0) u) (turned x.exchanged (spread_by file x.template u) ∷ []) []
+
+pub loop-u-init : goal.loop-u-init
+unfolding rows
+loop-u-init c = (omega arith, grows_none c.requires.list_len c.requires.count_bound)
+
+-- in the loop there is such a vertex
+in-u : (c : In-loop-u) → c.loop-u.u < vertices c.args.file.now
+in-u c = omega (arith, (read-heads c.requires.directives_read).vertices-are)
+
+pub is_brought-requires : goal.is_brought-requires
+is_brought-requires c =
+    record {
+      directives_read = c.requires.directives_read;
+      v_bound = c.requires.v_bound;
+      u_bound = in-u c;
+      v_value = c.requires.v_value;
+      spreads = c.requires.spreads;
+    }
+
+pub spread_by-requires : goal.spread_by-requires
+spread_by-requires c =
+    record {
+      directives_read = c.requires.directives_read;
+      t_bound = ((formed c.args.file.now c.requires.directives_read.passed).realigned c.args.v c.args.a c.args.x c.requires.v_bound c.requires.v_value).0;
+      u_bound = in-u (goal.at.spread_by-requires c).In-loop-u;
+    }
+
+pub add-q-requires : goal.add-q-requires
+add-q-requires c =
+    let g = c.loop-u.invariant.1 in
+    record {
+      list_len = g.room;
+      count_bound = g.most;
+    }
+
+pub loop-u-preserved : goal.loop-u-preserved
+loop-u-preserved c =
+    let s = c.args in (
+      omega (arith, in-u (goal.at.loop-u-preserved c).In-loop-u),
+      grows-row (row s.file.now s.v s.x) c.loop-u.u c.loop-u.invariant.1
+          (elim c.if-is_brought.branch [
+            | then-is_brought w ↦ grows-as w.list-is w.q-is (grows_in (sym c.is_brought.ensures ∙ w.if-is_brought.true) (w.turned.ensures ∙ ap (turned s.x.exchanged) w.spread_by.ensures) w.add-q.ensures)
+            | else-is_brought w ↦ grows-as w.list-is w.q-is (grows-out (turned s.x.exchanged (spread_by s.file.now s.x.template c.loop-u.u)) (sym c.is_brought.ensures ∙ w.if-is_brought.false) c.loop-u.invariant.1.room c.loop-u.invariant.1.most)
+          ]),
+    )
+
+pub shape_of-list : goal.shape_of-list
+shape_of-list c = c.loop-u.invariant.1.room ∙ sym c.requires.list_len
+
+pub returns : goal.returns
+returns c =
+    let e : c.loop-u.u ≡ vertices c.args.file.now = omega (arith, c.loop-u.invariant.0, (read-heads c.requires.directives_read).vertices-are) in
+    rw (eq-eqb c.args.a c.args.a refl)
+    (subst (λ (n : ℕ). Grows (rows (row c.args.file.now c.args.v c.args.x) n) c.args.list.now c.args.p c.loop-u.list c.loop-u.q) e c.loop-u.invariant.1)

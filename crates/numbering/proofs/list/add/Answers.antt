@@ -1,0 +1,46 @@
+-- `add` meets its contract: too many already, one too many, one that is listed, a new one.
+use mathlib.Core.Path.{refl, ap}
+use Prim.Native.Nat.{◌<◌}
+use native.Mathlib.Omega.{arith}
+use lib.Bits.{bit_or}
+use Rattle.sets.specs.Sets.{width}
+use Rattle.numbering.proofs.Holding.{Found, found_within, grows-full, grows-over, grows-listed, grows-new}
+use Rattle.numbering.proofs.list.add.Goals as goal
+use Rattle.numbering.proofs.list.add.Goals.{After-number_of-k, Else-k-eq-WIDTH}
+
+-- once the number is found
+module _ (c : After-number_of-k) where
+  found : Found c.args.list.now c.args.p c.args.m c.number_of-k.result
+  found = record { room = c.requires.list_len; few = c.if-p-gt-WIDTH.false; is = c.number_of-k.ensures }
+
+-- and is not the limit
+below : (c : Else-k-eq-WIDTH) → c.number_of-k.result < width
+below c = let f = found (goal.at.Else-k-eq-WIDTH c).After-number_of-k in omega (arith, found_within f)
+
+pub returns-then-p-gt-WIDTH : goal.returns-then-p-gt-WIDTH
+returns-then-p-gt-WIDTH c = grows-full c.args.m c.requires.list_len c.if-p-gt-WIDTH.true c.requires.count_bound
+
+pub returns-then-k-eq-WIDTH : goal.returns-then-k-eq-WIDTH
+returns-then-k-eq-WIDTH c = grows-over (found (goal.at.returns-then-k-eq-WIDTH c).After-number_of-k) c.if-k-eq-WIDTH.true refl
+
+pub overflow_cast-k : goal.overflow_cast-k
+overflow_cast-k c = omega (arith, below c)
+
+pub single-requires : goal.single-requires
+single-requires c = below c
+
+pub returns-then-k-p : goal.returns-then-k-p
+returns-then-k-p c = grows-listed (found (goal.at.returns-then-k-p c).After-number_of-k) c.if-k-p.true refl (ap (bit_or c.args.p.given) c.single.ensures)
+
+pub put-requires : goal.put-requires
+put-requires c =
+    record {
+      k_lt_width = below (goal.at.put-requires c).Else-k-eq-WIDTH;
+      list_len = c.requires.list_len;
+    }
+
+pub overflow_add-result-2 : goal.overflow_add-result-2
+overflow_add-result-2 c = omega (arith, below (goal.at.overflow_add-result-2 c).Else-k-eq-WIDTH)
+
+pub returns : goal.returns
+returns c = grows-new (found (goal.at.returns c).After-number_of-k) c.put.ensures.list_len_2 (below (goal.at.returns c).Else-k-eq-WIDTH) c.if-k-p.false c.put.ensures.k_after refl (ap (bit_or c.args.p.given) c.single.ensures)
