@@ -281,7 +281,11 @@ class Turn:
     def body(self, text):
         """Today's text of a term over the variables of self.env."""
         self.aliases = {}
-        text = self.flat(text)
+        # A binder that hides a local name is marked until those are written out.
+        text = unhidden(text, set(re.findall(r"let (" + NAME + r")(?: : [^=]+)? = ", text)), "\6")
+        return self.written_out(self.flat(text)).replace("\6", "")
+
+    def written_out(self, text):
         # Local names of places.
         while True:
             ok = False
@@ -314,7 +318,7 @@ class Turn:
                         fields = first + fields
                     if at is None:
                         continue
-                    if fields[0] in ("args", "ranges", "type_inv") or len(fields) > 1 and fields[1] not in ("ensures", "0", "1"):
+                    if fields[0] in ("args", "ranges", "type_inv") or len(fields) > 1 and fields[1] not in ("ensures", "auto", "kept", "new", "last", "0", "1"):
                         continue
                     names = self.fn.pre["fields"] if self.fn.pre else []
                     if fields[0] in ("requires", "pre") and len(fields) > 1 and (len(names) < 2 or projection(fields[1:], len(names))):
@@ -716,7 +720,7 @@ def body_keep(self, text):
 Turn.body_keep = body_keep
 
 
-def unhidden(body, names):
+def unhidden(body, names, mark="'"):
     """The term with each binder of one of the names renamed, in its scope."""
     done = 0
     while True:
@@ -737,7 +741,7 @@ def unhidden(body, names):
         scope = body[m.start() : end]
         for b in bound:
             if b in names:
-                scope = re.sub(r"(?<![A-Za-z0-9_.'₀-])" + re.escape(b) + r"(?![A-Za-z0-9_'₀-])", b + "'", scope)
+                scope = re.sub(r"(?<![A-Za-z0-9_.'₀-])" + re.escape(b) + r"(?![A-Za-z0-9_'₀-])", b + mark, scope)
         body = body[: m.start()] + scope + body[end:]
         done = m.start() + 1
 

@@ -1,7 +1,7 @@
 -- The third kind of computed facts is exact: the versions in which paths from the entry bring an array while it is aligned with a template.
 -- Assumes nothing.
 use mathlib.Core.Path.{◌≡◌, refl, sym, ap, subst, ◌∙◌}
-use mathlib.Core.Bool.{Bool, false, not, ◌||◌, cond}
+use mathlib.Core.Bool.{Bool, true, false, not, ◌||◌, cond}
 use mathlib.Core.List.{List, [], ◌∷◌, ◌++◌}
 use mathlib.Core.Logic.Iff
 use mathlib.Core.Logic.{◌↔◌, inl, inr, ⊎_elim}
@@ -52,6 +52,7 @@ set-exact ms (n ∷ ns) k =
 
 neither : (b c : Bool) → T (not (b || c)) → T (not b) × T (not c)
 neither false c h = (tt, h)
+neither true c h = absurd h
 
 module _ {file : List ℕ} (formed : Formed file) (a : ℕ) (in-a : a < arrays file) (few : length (versions_of file a) ≤ width) (t : ℕ) where
   abbrev es : List ℕ

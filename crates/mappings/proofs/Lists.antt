@@ -138,17 +138,17 @@ module _ (m : Mapping) where
   pub extended-old : (ms ns : List Mapping) → T (is_listed m ms) → T (is_listed m (extended ms ns))
   unfolding extended
   extended-old ms [] h = h
-  extended-old ms (n ∷ ns) h = extended-old _ ns (at-cond (λ xs. T (is_listed m xs)) (is_listed n ms) (λ _. h) (λ _. listed-left m ms (n ∷ []) h))
+  extended-old ms (n ∷ ns) h = extended-old (cond (is_listed n ms) ms (ms ++ n ∷ [])) ns (at-cond (λ xs. T (is_listed m xs)) (is_listed n ms) (λ _. h) (λ _. listed-left m ms (n ∷ []) h))
 
   pub extended-new : (ms ns : List Mapping) → T (is_listed m ns) → T (is_listed m (extended ms ns))
   unfolding extended
   extended-new ms [] h = absurd (listed-none m h)
   extended-new ms (n ∷ ns) h =
       ⊎_elim
-      (λ e. extended-old _ ns (at-cond (λ xs. T (is_listed m xs)) (is_listed n ms)
+      (λ e. extended-old (cond (is_listed n ms) ms (ms ++ n ∷ [])) ns (at-cond (λ xs. T (is_listed m xs)) (is_listed n ms)
       (λ t. subst (λ (x : Mapping). T (is_listed x ms)) e (rw t tt))
       (λ _. listed-right m ms (n ∷ []) ((listed_cons m n []).1 (inl e)))))
-      (extended-new _ ns)
+      (extended-new (cond (is_listed n ms) ms (ms ++ n ∷ [])) ns)
       ((listed_cons m n ns).0 h)
 
   -- each was listed in one of the two
@@ -160,7 +160,7 @@ module _ (m : Mapping) where
       (at-cond (λ xs. T (is_listed m xs) → T (is_listed m ms) ⊎ T (is_listed m (n ∷ ns))) (is_listed n ms) (λ _. inl)
       (λ _ t. ⊎_elim inl (λ o. inr ((listed_cons m n ns).1 (⊎_elim inl (λ x. absurd (listed-none m x)) ((listed_cons m n []).0 o)))) (listed-either m ms (n ∷ []) t)))
       (λ g. inr (listed-later m n ns g))
-      (extended-from _ ns h)
+      (extended-from (cond (is_listed n ms) ms (ms ++ n ∷ [])) ns h)
 
   -- the number stays
   extended-number : (ms ns : List Mapping) → T (is_listed m ms) → version_in (extended ms ns) m ≡ version_in ms m
@@ -198,7 +198,7 @@ once_more ms n once new i j d h l e =
 extended-once : (ms ns : List Mapping) → Once ms → Once (extended ms ns)
 unfolding extended
 extended-once ms [] h = h
-extended-once ms (n ∷ ns) h = extended-once _ ns (at-cond Once (is_listed n ms) (λ _. h) (λ f. once_more ms n h (subst T f)))
+extended-once ms (n ∷ ns) h = extended-once (cond (is_listed n ms) ms (ms ++ n ∷ [])) ns (at-cond Once (is_listed n ms) (λ _. h) (λ f. once_more ms n h (subst T f)))
 
 -- old numbers stay, and what has a new one is new
 pub extended-keeps : (ms ns : List Mapping) (k : ℕ) (d : Mapping) → k < length ms → get_or (extended ms ns) k d ≡ get_or ms k d

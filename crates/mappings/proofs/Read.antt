@@ -160,7 +160,7 @@ module _ (file : List ℕ) (passed : check40 file ≡ Passed) {given : ℕ → �
   from_is i = sym (P.edge-from routine i) ∙ ap (λ (s : List ℕ). edge_from s i) (edge-bytes file given) ∙ edge-from file passed i
 
   to_is : (i : ℕ) → (E.edge_of routine i).to ≡ (edge_of file i).to
-  to_is i = sym (P.edge_to routine i) ∙ ap (λ (s : List ℕ). edge_to s i) (edge-bytes file given) ∙ edge_to_is file passed i
+  to_is i = sym (P.edge_to_is routine i) ∙ ap (λ (s : List ℕ). edge_to s i) (edge-bytes file given) ∙ edge_to_is file passed i
 
   rises-is : (i : ℕ) → E.rises routine i ≡ rises file i
   unfolding E.rises rises

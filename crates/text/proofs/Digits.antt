@@ -8,10 +8,8 @@ use native.Mathlib.Nat.{le_antisymm, pow-suc, one-le-pow, pow-le-pow_right}
 use native.Mathlib.Omega.{arith}
 use borrow.Author.Tests.{lt-ltb, le-ltb, leb-true, leb-false}
 use lib.Dec.{leb}
-use lib.ListN.{length, take, drop, length-append}
-use lib.Seq.{take-length}
+use lib.ListN.{length, length-append}
 use Rattle.io.specs.Digits.{hex_digit_ascii, last_digits, IsDigitCount}
-use Rattle.words.specs.Tables.{wrote}
 use Rattle.words.proofs.Tests.{by-test}
 use Rattle.text.specs.Text.{decimal_in, decimal, mask}
 
@@ -47,11 +45,6 @@ digits-length b zero n = refl
 digits-length b (suc k) n =
     length-append (last_digits b k (n / b)) (hex_digit_ascii (n % b) ∷ [])
     ∙ (let e : length (last_digits b k (n / b)) + 1 ≡ suc k = omega (arith, digits-length b k (n / b)) in e)
-
--- ---- what `bytes::copy` leaves of a text
-
-pub copied : {src text : List ℕ} (old : List ℕ) → src ≡ text → take (length src) src ++ drop (length src) old ≡ wrote old text
-copied {src} {text} old e = ap (λ (l : List ℕ). l ++ drop (length src) old) (take-length src) ∙ ap (wrote old) e
 
 -- ---- the two forms, as the callers use them
 

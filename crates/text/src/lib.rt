@@ -23,7 +23,7 @@ fn put_decimal(out: &mut [u8], n: u64) -> usize
 {
     let mut digits = [0u8; 20];
     let k = io::decimal(n, &mut digits);
-    bytes::copy(&digits[..k], out)
+    words::bytes::copy(&digits[..k], out)
 }
 
 // A mask as eight hexadecimal digits.
@@ -34,7 +34,7 @@ fn put_mask(out: &mut [u8], n: u64) -> usize
 {
     let mut digits = [0u8; 16];
     let k = io::hex(n % 4294967296, 8, &mut digits);
-    bytes::copy(&digits[..k], out)
+    words::bytes::copy(&digits[..k], out)
 }
 
 // One character.

@@ -1,0 +1,65 @@
+-- `spreads::solve` meets its contract: template after template.
+use mathlib.Core.Path.{sym, ◌∙◌}
+use Prim.Native.Nat.{◌<◌}
+use native.Mathlib.Omega.{arith}
+use Rattle.directives.proofs.Limits.{read-heads}
+use Rattle.brought.proofs.SpreadRows.{spreads-begin, spreads-end}
+use Rattle.brought.proofs.spreads.solve.Goals as goal
+use Rattle.brought.proofs.spreads.solve.Goals.{In-loop-t}
+
+-- what holds in a turn
+module _ (c : In-loop-t) where
+  small : c.loop-t.t < 8
+  small = let heads = read-heads c.requires.directives_read in omega (arith, c.loop-t-test.true, heads.templates-are, heads.limits.few-templates)
+
+pub loop-t-init : goal.loop-t-init
+loop-t-init c = (omega arith, spreads-begin c.requires.spreads_len, c.requires.sets_len, c.requires.gives_len, c.requires.passes_len, c.requires.halves_len)
+
+pub solve_template-requires : goal.solve_template-requires
+solve_template-requires c =
+    let inv = c.loop-t.invariant in
+    record {
+      directives_read = c.requires.directives_read;
+      edge_order = c.requires.edge_order;
+      reached = c.requires.reached;
+      spreads_to = inv.1;
+      sets_len = inv.2;
+      gives_len = inv.3;
+      passes_len = inv.4;
+      halves_len = inv.5;
+    }
+
+pub overflow_add-t : goal.overflow_add-t
+overflow_add-t c = omega (arith, small (goal.at.overflow_add-t c).In-loop-t)
+
+pub loop-t-smaller : goal.loop-t-smaller
+loop-t-smaller c = omega (arith, c.loop-t-test.true)
+
+pub loop-t-preserved : goal.loop-t-preserved
+loop-t-preserved c =
+    let inv = c.loop-t.invariant in (
+      omega (arith, c.loop-t-test.true),
+      c.solve_template.ensures.spreads_to_2,
+      c.sets-1.given ∙ inv.2,
+      c.gives-1.given ∙ inv.3,
+      c.passes-1.given ∙ inv.4,
+      c.halves-1.given ∙ inv.5,
+    )
+
+pub shape_of-spreads : goal.shape_of-spreads
+shape_of-spreads c = c.loop-t.invariant.1.size ∙ sym c.requires.spreads_len
+
+pub shape_of-sets : goal.shape_of-sets
+shape_of-sets c = c.loop-t.invariant.2 ∙ sym c.requires.sets_len
+
+pub shape_of-gives : goal.shape_of-gives
+shape_of-gives c = c.loop-t.invariant.3 ∙ sym c.requires.gives_len
+
+pub shape_of-passes : goal.shape_of-passes
+shape_of-passes c = c.loop-t.invariant.4 ∙ sym c.requires.passes_len
+
+pub shape_of-halves : goal.shape_of-halves
+shape_of-halves c = c.loop-t.invariant.5 ∙ sym c.requires.halves_len
+
+pub returns : goal.returns
+returns c = spreads-end c.requires.directives_read (omega (arith, c.loop-t-test.false, (read-heads c.requires.directives_read).templates-are)) c.loop-t.invariant.1

@@ -1,0 +1,18 @@
+-- `text::put_decimal` meets its contract: the fewest digits, copied.
+use mathlib.Core.Path.{ap, ◌∙◌}
+use native.Mathlib.Omega.{arith}
+use lib.ListN.{length}
+use Rattle.words.specs.Tables.{wrote}
+use Rattle.text.proofs.Digits.{decimal-text, decimal-length}
+use Rattle.text.proofs.put_decimal.Goals as goal
+
+pub copy-requires : goal.copy-requires
+copy-requires c = omega (arith, c.requires, decimal-length c.decimal-k.ensures.len (omega (arith, c.ranges.n.fits)), c.decimal-k.ensures.in_bounds.1)
+
+pub returns : goal.returns
+returns c =
+    let is = c.decimal-k.ensures.digits ∙ decimal-text c.decimal-k.ensures.len (omega (arith, c.ranges.n.fits)) in
+    record {
+      value = c.copy.ensures.value ∙ ap length is;
+      out_after = c.copy.ensures.out_after ∙ ap (wrote c.args.out.now) is;
+    }
