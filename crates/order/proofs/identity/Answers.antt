@@ -1,6 +1,5 @@
 -- `order::identity` meets its contract: a table is filled.
 use mathlib.Core.Path.{refl}
-use Prim.Native.Nat.{◌-◌}
 use Rattle.words.proofs.Filling.{fill-begin, fill-length, fill-next, fill_end}
 use Rattle.order.proofs.identity.Goals as goal
 

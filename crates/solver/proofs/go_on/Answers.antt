@@ -1,7 +1,7 @@
 -- `solver::go_on` meets its contract. The invariant: so many rounds were made, each altered a set, and every edge of a block that is not pending
 -- alters none. The measure is what is left of the rounds that there can be.
 use mathlib.Core.Path.{◌≡◌, sym, ap, subst, ◌∙◌}
-use Prim.Native.Nat.{ℕ, ◌-◌, ◌/◌, ◌≤◌}
+use Prim.Native.Nat.{ℕ, ◌/◌, ◌≤◌}
 use borrow.Author.Tests.{not-true, not-false}
 use native.Mathlib.Omega.{arith}
 use lib.ListN.{length}
@@ -49,8 +49,7 @@ shape_of-sets-then-not-p c = (returns-then-not-p c).size ∙ sym c.requires.tabl
 
 pub loop-p-preserved : goal.loop-p-preserved
 loop-p-preserved c =
-    let a = c.args in
-    (
+    let a = c.args in (
       going_more a.edges.now a.order.now a.along a.gives.now a.passes.now (row_count a.sets.now) c.requires.order c.requires.tables.ends c.loop-p.sets _ _ c.loop-p.done c.loop-p.invariant.0
           (round-done a.edges.now a.along a.gives.now a.passes.now a.order.now c.round-p.ensures) (not-false _ c.if-not-p.false),
       closed-next a.edges.now a.along a.gives.now a.passes.now a.order.now c.round-p.ensures,

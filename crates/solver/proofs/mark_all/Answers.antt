@@ -1,8 +1,7 @@
 -- `solver::mark_all` meets its contract. The invariant: the blocks of the turns so far are marked. The measure is what is left of the turns.
 use mathlib.Core.Path.{◌≡◌, refl, sym, ap, subst, ◌∙◌}
-use mathlib.Core.Bool.{true}
 use mathlib.Core.List.{List}
-use Prim.Native.Nat.{ℕ, ◌-◌, ◌^◌, ◌<◌, zero-le}
+use Prim.Native.Nat.{ℕ, ◌^◌, ◌<◌, zero-le}
 use native.Mathlib.Omega.{arith}
 use lib.Bits.{bit_or}
 use lib.ListN.{length, get_or, set, length-set}

@@ -1,7 +1,7 @@
 -- `solver::round` meets its contract. The invariant: the turns before block b were taken, or alter nothing. The measure is what is left of the blocks.
 use mathlib.Core.Path.{◌≡◌, refl, sym, subst, ◌∙◌}
 use mathlib.Core.Bool.{false}
-use Prim.Native.Nat.{ℕ, ◌-◌, ◌/◌, ◌≤◌}
+use Prim.Native.Nat.{ℕ, ◌/◌, ◌≤◌}
 use native.Mathlib.Omega.{arith}
 use lib.ListN.{length}
 use Rattle.flow.proofs.Rows.{tables}
@@ -44,8 +44,7 @@ loop-b-smaller c = omega (arith, c.loop-b-test.true, c.next_pending-b-in-loop-b.
 
 pub loop-b-preserved : goal.loop-b-preserved
 loop-b-preserved c =
-    let a = c.args in
-    (
+    let a = c.args in (
       c.next_pending-b-in-loop-b.ensures.most,
       c.take_block-q.ensures.size ∙ c.loop-b.invariant.1,
       skipped a.edges.now a.along a.gives.now a.passes.now c.requires.order a.sets.now (c.take_block-q.ensures.goes a.sets.now c.loop-b.invariant.2) c.next_pending-b-in-loop-b.ensures,

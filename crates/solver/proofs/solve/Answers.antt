@@ -1,6 +1,6 @@
 -- `solver::solve` meets its contract. The invariant: r rounds were made, and each altered a set. The measure is what is left of the whole rounds.
 use mathlib.Core.Path.{◌≡◌, sym, ap, subst, ◌∙◌}
-use Prim.Native.Nat.{ℕ, ◌+◌, ◌-◌, ◌*◌, ◌/◌, ◌≤◌}
+use Prim.Native.Nat.{ℕ, ◌+◌, ◌*◌, ◌/◌, ◌≤◌}
 use native.Mathlib.Omega.{arith}
 use lib.ListN.{length, replicate, length-replicate}
 use Rattle.flow.specs.Solver.{Ends, Tables, Going, Solved, row_count}

@@ -1,6 +1,6 @@
 -- `solver::take_block` meets its contract. The invariant: the turns from the start of the block up to j were taken. The measure is what is left of the block.
 use mathlib.Core.Path.{refl, sym, ap, subst, ◌∙◌}
-use Prim.Native.Nat.{ℕ, ◌-◌, ◌/◌, ◌≤◌, ◌<◌}
+use Prim.Native.Nat.{ℕ, ◌/◌, ◌≤◌, ◌<◌}
 use native.Mathlib.Omega.{arith}
 use lib.ListN.{length}
 use Rattle.flow.specs.Solver.{turn, Tables}

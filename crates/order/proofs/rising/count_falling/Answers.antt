@@ -1,6 +1,6 @@
 -- `count_falling` meets its contract: the invariant counts the falling edges passed.
 use mathlib.Core.Path.{◌≡◌, ap, ◌∙◌}
-use Prim.Native.Nat.{◌+◌, ◌-◌}
+use Prim.Native.Nat.{◌+◌}
 use native.Mathlib.Omega.{arith}
 use Rattle.flow.specs.Paths.{edge_count}
 use Rattle.words.specs.Sums.{count_of}

@@ -1,5 +1,5 @@
 -- `order::search::descend` reads and stores within the edges and tables. The measure is the steps that are left.
-use Prim.Native.Nat.{◌-◌, ◌<◌}
+use Prim.Native.Nat.{◌<◌}
 use native.Mathlib.Omega.{arith}
 use Rattle.flow.specs.Paths.{edge_count}
 use Rattle.order.proofs.search.descend.Goals as goal

@@ -1,6 +1,5 @@
 -- `order::search::search` meets its contract. The invariant: every edge has its place. The measure is the steps that are left.
 use mathlib.Core.Path.{sym, ◌∙◌}
-use Prim.Native.Nat.{◌-◌}
 use native.Mathlib.Omega.{arith}
 use Rattle.order.proofs.search.search.Goals as goal
 

@@ -37,12 +37,11 @@ unfolding row_check
 returns-then-wrong c = scan-stop c.loop-a.invariant.0 (omega (arith, c.loop-a-test.true, c.requires.heads.arrays-are)) (rw (c.reason.ensures, c.place.ensures.value, turn (goal.at.returns-then-wrong c).After-is_wrong-wrong, c.if-wrong.true)) refl
 
 pub loop-a-preserved : goal.loop-a-preserved
-loop-a-preserved c =
-    (
-      scan-next c.loop-a.invariant.0 (omega arith) (rw (turn (goal.at.loop-a-preserved c).After-is_wrong-wrong, c.if-wrong.false)) refl,
-      rw (c.family_after-family.ensures, c.of-x.ensures)
-          (next-family _ _ _ _ (sym c.is_wrong-wrong.ensures ∙ c.if-wrong.false) c.args.file.now c.args.v c.loop-a.a c.byte_at-b.ensures c.loop-a.invariant.1),
-    )
+loop-a-preserved c = (
+  scan-next c.loop-a.invariant.0 (omega arith) (rw (turn (goal.at.loop-a-preserved c).After-is_wrong-wrong, c.if-wrong.false)) refl,
+  rw (c.family_after-family.ensures, c.of-x.ensures)
+      (next-family _ _ _ _ (sym c.is_wrong-wrong.ensures ∙ c.if-wrong.false) c.args.file.now c.args.v c.loop-a.a c.byte_at-b.ensures c.loop-a.invariant.1),
+)
 
 pub returns : goal.returns
 unfolding row_check
