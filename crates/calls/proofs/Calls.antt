@@ -14,7 +14,7 @@ use Rattle.labels.specs.Demand.{Demand2}
 use Rattle.labels.specs.Events.{event, is_write}
 use Rattle.refusal.proofs.Checks.{passed-left, passed-right}
 use Rattle.refusal.specs.declared.Verdict.TheVariants.{Passed}
-use Rattle.routine.specs.Actions.{is_call, called_version, action_byte}
+use Rattle.routine.specs.Actions.{called_version, action_byte}
 use Rattle.routine.specs.Arrays.{kind, is_in}
 use Rattle.routine.specs.Layout.{arrays, vertices}
 use Rattle.routine.specs.Reader.{WellFormed}

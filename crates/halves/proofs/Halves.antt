@@ -8,11 +8,11 @@ use native.Mathlib.Nat.{le_refl}
 use native.Mathlib.Decide.{dec_lt, ℕ_discrete}
 use native.Mathlib.Omega.{arith}
 use lib.Bits.{bit_and, bit_or, or_mod, and_mod, or_shr, and_shr}
-use lib.ListN.{length, get_or, set, replicate, length-replicate, length-set}
+use lib.ListN.{length, get_or, replicate, length-replicate, length-set}
 use lib.Seq.{get_or-set_same, get_or-set_other, ext_get_or}
 use Rattle.flow.proofs.Exact.{after, after-length, after-fits, ends-alike}
 use Rattle.flow.proofs.Rounds.{near-lt, far_lt, rounds-both}
-use Rattle.flow.proofs.Rows.{columns-all, column-made, made-length, rest}
+use Rattle.flow.proofs.Rows.{column-made, made-length, rest}
 use Rattle.flow.specs.Order.{Order}
 use Rattle.flow.specs.Paths.{edge_count}
 use Rattle.flow.specs.Solver.{near, far, relaxed, solution, column, rounds_row, Ends, Rounds, Solved}

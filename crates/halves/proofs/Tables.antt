@@ -3,7 +3,7 @@
 use mathlib.Core.Path.{◌≡◌, refl, sym, ap, subst, ◌∙◌}
 use mathlib.Core.Bool.{Bool, true, false, cond}
 use mathlib.Core.List.{List}
-use Prim.Native.Nat.{ℕ, ◌+◌, ◌*◌, ◌/◌, ◌%◌, ◌^◌, ◌<◌, max}
+use Prim.Native.Nat.{ℕ, ◌*◌, ◌/◌, ◌%◌, ◌^◌, ◌<◌, max}
 use native.Mathlib.Nat.{mod-lt}
 use native.Mathlib.Decide.{dec_lt}
 use native.Mathlib.Omega.{arith}
@@ -17,7 +17,7 @@ use Rattle.halves.specs.Halves.{low_halves, high_halves, with_low, with_high, Ar
 use Rattle.sets.specs.Sets.{every_version, half_width, low_half, high_half, of_halves, every_half}
 use Rattle.words.specs.Tables.{table}
 use Rattle.words.proofs.Tables.{table-length, table_at}
-use Rattle.halves.proofs.Halves.{Parts, joined, low_of, high-of, low-splits, parts-solved, cell, both-solved, low-solved}
+use Rattle.halves.proofs.Halves.{Parts, low_of, high-of, low-splits, parts-solved, cell, both-solved, low-solved}
 
 -- tables for what is given by halves
 pub tables-given : {es gives passes halves : List ℕ} → Tables es gives passes halves → {given : List ℕ} → length given ≡ length halves → Tables es given passes halves

@@ -1,6 +1,6 @@
 -- `halves::put_high` meets its contract: a table is filled, the low half of each set read before it is written.
 use mathlib.Core.Path.{ap, ◌∙◌}
-use Prim.Native.Nat.{ℕ, ◌-◌}
+use Prim.Native.Nat.{ℕ}
 use native.Mathlib.Omega.{arith}
 use lib.ListN.{get_or}
 use Rattle.words.proofs.Filling.{fill-begin, fill-next, fill_end, fill-behind}

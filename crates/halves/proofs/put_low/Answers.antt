@@ -1,6 +1,5 @@
 -- `halves::put_low` meets its contract: a table is filled, the high half of each set read before it is written.
 use mathlib.Core.Path.{ap, ◌∙◌}
-use Prim.Native.Nat.{◌-◌}
 use native.Mathlib.Omega.{arith}
 use Rattle.words.proofs.Filling.{fill-begin, fill-next, fill_end, fill-behind}
 use Rattle.sets.specs.Sets.{high_half, of_halves}

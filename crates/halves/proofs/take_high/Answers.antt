@@ -1,8 +1,6 @@
 -- `halves::take_high` meets its contract: a table is filled.
-use Prim.Native.Nat.{◌-◌}
 use native.Mathlib.Omega.{arith}
 use Rattle.words.proofs.Filling.{fill-begin, fill-next, fill_end}
-use Rattle.sets.specs.Sets.{high_half}
 use Rattle.halves.proofs.take_high.Goals as goal
 
 pub loop-i-init : goal.loop-i-init

@@ -1,5 +1,4 @@
 -- `halves::widen` meets its contract: a table is filled with the halves.
-use Prim.Native.Nat.{◌-◌}
 use native.Mathlib.Omega.{arith}
 use lib.Seq.{ext_get_or}
 use Rattle.words.proofs.Filling.{fill-begin, fill-length, fill-next, fill-at}

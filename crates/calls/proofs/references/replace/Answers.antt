@@ -1,8 +1,6 @@
 -- `references::replace` meets its contract: bytes are replaced one after the other.
 use mathlib.Core.Path.{refl}
-use Prim.Native.Nat.{◌-◌}
 use Rattle.words.proofs.Replaced.{replacing-begin, replacing-next, replacing-end}
-use Rattle.calls.specs.Referring.{referring_byte}
 use Rattle.calls.proofs.references.replace.Goals as goal
 
 pub loop-i-init : goal.loop-i-init

@@ -3,8 +3,7 @@ use mathlib.Core.Path.{◌≡◌, ap, ap₂, ◌∙◌}
 use mathlib.Core.List.{List, ◌++◌, append-nil}
 use Prim.Native.Nat.{ℕ, ◌*◌}
 use native.Mathlib.Omega.{arith}
-use lib.ListN.{length, take, drop, drop_of_length-le}
-use lib.Seq.{take-length}
+use lib.ListN.{length, drop, drop_of_length-le}
 use Rattle.routine.proofs.Form.{header-limits, few-actions}
 use Rattle.calls.proofs.Referring.{replaced-is}
 use Rattle.calls.proofs.references.write.Goals as goal

@@ -1,5 +1,4 @@
 -- `rows::write_row` meets its contract. The invariant: the bytes of the arrays before a are written. The measure is what is left.
-use Prim.Native.Nat.{◌-◌}
 use native.Mathlib.Omega.{arith}
 use Rattle.routine.specs.Layout.{arrays}
 use Rattle.words.proofs.Buffers.{begin, buffer-length, end, next-byte}

@@ -1,6 +1,5 @@
 -- `scan::any_from` meets its contract: a scan of the bytes.
 use mathlib.Core.Path.{sym, ap, ◌∙◌}
-use Prim.Native.Nat.{◌-◌}
 use native.Mathlib.Nat.{le_antisymm}
 use native.Mathlib.Omega.{arith}
 use Rattle.words.proofs.Sums.{any_none, any_next}

@@ -1,7 +1,7 @@
 -- `scan::fill_firsts` meets its contract. The invariant: `count` is the first of the vertices that v becomes, and the table is filled in for
 -- each vertex before v. The measure is what is left.
 use mathlib.Core.Path.{◌≡◌, refl, sym, ap, ap₂, subst, ◌∙◌}
-use Prim.Native.Nat.{◌+◌, ◌-◌, ◌≤◌, ◌<◌}
+use Prim.Native.Nat.{◌+◌, ◌≤◌, ◌<◌}
 use native.Mathlib.Numerals.{add-one}
 use native.Mathlib.Omega.{arith}
 use lib.ListN.{length, set, length-set}

@@ -1,6 +1,5 @@
 -- `entered::mark_all` meets its contract. The invariant: the marked vertices follow. The measure is what is left.
 use mathlib.Core.Path.{sym, ◌∙◌}
-use Prim.Native.Nat.{◌-◌}
 use native.Mathlib.Omega.{arith}
 use Rattle.passes.proofs.entered.mark_all.Goals as goal
 

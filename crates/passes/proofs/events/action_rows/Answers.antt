@@ -1,7 +1,7 @@
 -- `events::action_rows` meets its contract: row after row both tables are filled.
 use mathlib.Core.Path.{sym, ◌∙◌}
 use mathlib.Core.List.{List}
-use Prim.Native.Nat.{ℕ, ◌-◌, ◌≤◌, ◌<◌}
+use Prim.Native.Nat.{ℕ, ◌≤◌, ◌<◌}
 use native.Mathlib.Omega.{arith}
 use Rattle.labels.specs.Events.{version_set}
 use Rattle.labels.specs.Uses.{use_gives}

@@ -1,6 +1,6 @@
 -- `events::event_rows` meets its contract: two rows are replaced.
 use mathlib.Core.Path.{refl, sym, ap, subst, ◌∙◌}
-use Prim.Native.Nat.{◌-◌, ◌<◌}
+use Prim.Native.Nat.{◌<◌}
 use native.Mathlib.Omega.{arith}
 use Rattle.labels.specs.Events.{version, version_of, version_set}
 use Rattle.labels.specs.Uses.{use_gives}
@@ -67,11 +67,10 @@ pub overflow_add-a : goal.overflow_add-a
 overflow_add-a c = omega (arith, small (goal.at.overflow_add-a c).In-loop-a)
 
 pub loop-a-preserved : goal.loop-a-preserved
-loop-a-preserved c =
-    (
-      replacing-next c.loop-a.invariant.0 (in-a (goal.at.loop-a-preserved c).In-loop-a) refl (c.version_set.ensures ∙ ap version_set c.at-x.ensures),
-      replacing-next c.loop-a.invariant.1 (in-a (goal.at.loop-a-preserved c).In-loop-a) refl (c.gives_of.ensures ∙ ap use_gives c.at-x.ensures),
-    )
+loop-a-preserved c = (
+  replacing-next c.loop-a.invariant.0 (in-a (goal.at.loop-a-preserved c).In-loop-a) refl (c.version_set.ensures ∙ ap version_set c.at-x.ensures),
+  replacing-next c.loop-a.invariant.1 (in-a (goal.at.loop-a-preserved c).In-loop-a) refl (c.gives_of.ensures ∙ ap use_gives c.at-x.ensures),
+)
 
 pub shape_of-versions : goal.shape_of-versions
 shape_of-versions c = c.loop-a.invariant.0.sized

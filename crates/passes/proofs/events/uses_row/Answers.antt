@@ -1,6 +1,6 @@
 -- `events::uses_row` meets its contract: a row is replaced.
 use mathlib.Core.Path.{refl, ap, ◌∙◌}
-use Prim.Native.Nat.{◌-◌, ◌<◌}
+use Prim.Native.Nat.{◌<◌}
 use native.Mathlib.Omega.{arith}
 use Rattle.labels.specs.Uses.{use_gives}
 use Rattle.routine.specs.Layout.{arrays}

@@ -1,6 +1,6 @@
 -- `events::versions_row` meets its contract: a row is replaced.
 use mathlib.Core.Path.{refl, sym, ap, subst, ◌∙◌}
-use Prim.Native.Nat.{◌-◌, ◌<◌}
+use Prim.Native.Nat.{◌<◌}
 use native.Mathlib.Omega.{arith}
 use Rattle.labels.specs.Events.{version_of, version_set}
 use Rattle.labels.proofs.Rules.Events.{action-fits}

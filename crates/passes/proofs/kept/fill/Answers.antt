@@ -1,7 +1,6 @@
 -- `kept::fill` meets its contract: two tables are filled.
 use mathlib.Core.Path.{ap, ◌∙◌}
 use mathlib.Core.Bool.{Bool, cond, ◌||◌}
-use Prim.Native.Nat.{◌-◌}
 use lib.Dec.{eqb}
 use lib.ListN.{get_or}
 use Rattle.words.proofs.Filling.{fill-begin, fill-next, fill_end}

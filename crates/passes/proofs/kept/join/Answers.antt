@@ -1,7 +1,7 @@
 -- `kept::join` meets its contract: a table is filled in place.
 use mathlib.Core.Path.{refl, ap, ap₂, ◌∙◌}
 use mathlib.Core.Bool.{Bool, cond}
-use Prim.Native.Nat.{ℕ, ◌-◌}
+use Prim.Native.Nat.{ℕ}
 use lib.Bits.{bit_or}
 use lib.ListN.{get_or}
 use Rattle.words.proofs.Filling.{fill-begin, fill-next, fill_end, fill-behind}

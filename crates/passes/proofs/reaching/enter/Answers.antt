@@ -1,5 +1,4 @@
 -- `reaching::enter` meets its contract: a row is replaced.
-use Prim.Native.Nat.{◌-◌}
 use native.Mathlib.Omega.{arith}
 use Rattle.words.proofs.Replaced.{replacing-begin, replacing-next, replacing-end}
 use Rattle.passes.proofs.reaching.enter.Goals as goal

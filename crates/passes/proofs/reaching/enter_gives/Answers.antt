@@ -1,9 +1,9 @@
 -- `enter_gives` meets its contract: a row is replaced.
 use mathlib.Core.Path.{sym, ap, ap₂, subst, ◌∙◌}
 use mathlib.Core.Bool.{Bool, ◌||◌, cond}
-use Prim.Native.Nat.{ℕ, ◌-◌, ◌<◌, ◌^◌}
+use Prim.Native.Nat.{ℕ, ◌<◌, ◌^◌}
 use native.Mathlib.Omega.{arith}
-use Rattle.routine.specs.Arrays.{kind, initial, is_in_or_inout}
+use Rattle.routine.specs.Arrays.{is_in_or_inout}
 use Rattle.routine.specs.declared.array.ArrayRecord.{ArrayRecord}
 use Rattle.words.proofs.Replaced.{replacing-begin, replacing-next, replacing-end}
 use Rattle.labels.proofs.Rules.Proper.{proper}

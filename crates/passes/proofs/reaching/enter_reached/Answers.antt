@@ -1,6 +1,5 @@
 -- `reaching::enter_reached` meets its contract: a row is replaced.
 use mathlib.Core.Path.{refl}
-use Prim.Native.Nat.{◌-◌}
 use native.Mathlib.Omega.{arith}
 use Rattle.words.proofs.Replaced.{replacing-begin, replacing-next, replacing-end}
 use Rattle.passes.proofs.reaching.enter_reached.Goals as goal

@@ -1,6 +1,5 @@
 -- `reaching::fill_brought_everywhere` meets its contract: two tables are filled, the first with what stands in another.
 use mathlib.Core.Path.{refl}
-use Prim.Native.Nat.{◌-◌}
 use native.Mathlib.Omega.{arith}
 use lib.Seq.{ext_get_or}
 use Rattle.words.proofs.Filling.{fill-begin, fill-length, fill-next, fill-at, fill_end}

@@ -1,6 +1,5 @@
 -- `reaching::pass_reached` meets its contract: a table is filled.
 use mathlib.Core.Path.{refl}
-use Prim.Native.Nat.{◌-◌}
 use native.Mathlib.Omega.{arith}
 use Rattle.words.proofs.Filling.{fill-begin, fill-length, fill-next, fill_end}
 use Rattle.passes.proofs.reaching.pass_reached.Goals as goal

@@ -1,6 +1,4 @@
 -- `uses::fill` meets its contract: a table is filled.
-use Prim.Native.Nat.{◌-◌}
-use Rattle.labels.specs.Uses.{passes_by}
 use Rattle.words.proofs.Filling.{fill-begin, fill-next, fill_end}
 use Rattle.passes.proofs.uses.fill.Goals as goal
 

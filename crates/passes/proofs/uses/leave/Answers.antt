@@ -1,6 +1,5 @@
 -- `uses::leave` meets its contract: a row is replaced.
 use mathlib.Core.Path.{refl}
-use Prim.Native.Nat.{◌-◌}
 use native.Mathlib.Omega.{arith}
 use Rattle.words.proofs.Replaced.{replacing-begin, replacing-next, replacing-end}
 use Rattle.passes.proofs.uses.leave.Goals as goal

@@ -1,6 +1,5 @@
 -- `uses::write` meets its contract: a table is filled.
 use mathlib.Core.Path.{ap, ◌∙◌}
-use Prim.Native.Nat.{◌-◌}
 use Rattle.labels.specs.Letters.{letter_byte}
 use Rattle.words.proofs.Filling.{fill-begin, fill-next, fill_end}
 use Rattle.passes.proofs.uses.write.Goals as goal

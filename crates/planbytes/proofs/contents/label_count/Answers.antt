@@ -1,12 +1,11 @@
 -- `contents::label_count` meets its contract. The invariant: `count` is the number of labels of the vertices before v, and the index of the first label
 -- is filled in for each of these. The measure is what is left. Assumes nothing.
 use mathlib.Core.Path.{◌≡◌, refl, ap, ◌∙◌}
-use Prim.Native.Nat.{◌-◌, ◌≤◌}
+use Prim.Native.Nat.{◌≤◌}
 use native.Mathlib.Omega.{arith}
 use lib.ListN.{length, set, length-set}
 use Rattle.planbytes.specs.Plan.{labels_before, label_count}
 use Rattle.planbytes.proofs.Sizes.{before_more, before-few, firsts-done}
-use Rattle.routine.specs.Layout.{vertices}
 use Rattle.words.proofs.Filling.{fill-begin, fill-length, fill-next}
 use Rattle.planbytes.proofs.contents.label_count.Goals as goal
 use Rattle.planbytes.proofs.contents.label_count.Goals.{At-loop-v}

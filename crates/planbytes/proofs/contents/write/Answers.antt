@@ -1,5 +1,4 @@
 -- `contents::write` meets its contract. The invariant: the entries of the vertices before v are written. The measure is what is left.
-use Prim.Native.Nat.{◌-◌}
 use native.Mathlib.Omega.{arith}
 use Rattle.planbytes.specs.Plan.{contents_entry, contents}
 use Rattle.routine.specs.Layout.{vertices}

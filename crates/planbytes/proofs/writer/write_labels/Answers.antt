@@ -1,7 +1,6 @@
 -- `writer::write_labels` meets its contract. The invariant: the rows of the vertices before v are written, and `at` is how long these are.
 -- The measure is what is left. Assumes nothing.
 use mathlib.Core.Path.{refl}
-use Prim.Native.Nat.{◌-◌}
 use native.Mathlib.Omega.{arith}
 use Rattle.planbytes.specs.Plan.{labels}
 use Rattle.words.specs.Tables.{rows}
@@ -31,11 +30,10 @@ pub overflow_add-at : goal.overflow_add-at
 overflow_add-at c = omega (arith, row_room c.loop-v.invariant.0 c.loop-v.invariant.1 (omega arith))
 
 pub loop-v-preserved : goal.loop-v-preserved
-loop-v-preserved c =
-    (
-      next_row c.loop-v.invariant.0 c.loop-v.invariant.1 (omega arith) c.write_row-at.ensures.out_after,
-      onward c.loop-v.invariant.0 c.loop-v.invariant.1 c.write_row-at.ensures.value,
-    )
+loop-v-preserved c = (
+  next_row c.loop-v.invariant.0 c.loop-v.invariant.1 (omega arith) c.write_row-at.ensures.out_after,
+  onward c.loop-v.invariant.0 c.loop-v.invariant.1 c.write_row-at.ensures.value,
+)
 
 pub shape_of-out : goal.shape_of-out
 shape_of-out c = buffer-length c.loop-v.invariant.0

@@ -1,7 +1,6 @@
 -- `writer::write_row` meets its contract. The invariant: the entries of the arrays before a are written, and `at` is how long these are.
 -- The measure is what is left. Assumes nothing.
 use mathlib.Core.Path.{refl, sym, ap}
-use Prim.Native.Nat.{◌-◌}
 use native.Mathlib.Omega.{arith}
 use lib.ListN.{length}
 use Rattle.planbytes.specs.Plan.{label_row}
@@ -48,11 +47,10 @@ pub overflow_add-at : goal.overflow_add-at
 overflow_add-at c = omega (arith, row_room c.loop-a.invariant.0 c.loop-a.invariant.1 (omega arith), c.well_formed.1.1.1.1.1.1.1.0)
 
 pub loop-a-preserved : goal.loop-a-preserved
-loop-a-preserved c =
-    (
-      next_row c.loop-a.invariant.0 c.loop-a.invariant.1 (omega arith) c.write_label-at.ensures.out_after,
-      onward c.loop-a.invariant.0 c.loop-a.invariant.1 c.write_label-at.ensures.value,
-    )
+loop-a-preserved c = (
+  next_row c.loop-a.invariant.0 c.loop-a.invariant.1 (omega arith) c.write_label-at.ensures.out_after,
+  onward c.loop-a.invariant.0 c.loop-a.invariant.1 c.write_label-at.ensures.value,
+)
 
 pub shape_of-out : goal.shape_of-out
 shape_of-out c = buffer-length c.loop-a.invariant.0
