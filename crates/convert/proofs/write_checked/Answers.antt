@@ -1,0 +1,69 @@
+-- `write_checked` meets its contract: the routine is written, and 20 and 21 are asked of it.
+use mathlib.Core.Path.{◌≡◌, refl, sym, ap₂, ◌∙◌}
+use mathlib.Core.List.{List}
+use Prim.Native.Nat.{ℕ, ◌≤◌}
+use native.Mathlib.Omega.{arith}
+use lib.ListN.{length, take, drop}
+use lib.Seq.{length-take-le, take-append_seam}
+use Rattle.mappings.proofs.Demand.{demand4}
+use Rattle.mappings.specs.Computed.{converted}
+use Rattle.convert.proofs.Ways.{one-given, programmer-refused, prepared}
+use Rattle.convert.proofs.write_checked.Goals as goal
+use Rattle.convert.proofs.write_checked.Goals.{After-write-n}
+
+-- what the writer leaves
+module _ (w : After-write-n) where
+  abbrev file : List ℕ
+  file = w.args.file.now
+
+  abbrev work : List ℕ
+  work = w.write-n.new.out
+
+  fits : length (converted file) ≤ 6194
+  fits = (demand4 file w.requires.directives_read.passed w.requires.file_value w.requires.file_value_2).fits
+
+  within : w.write-n.result ≤ length work
+  within = omega (arith, fits, w.write-n.ensures.value, w.write-n.auto.out, w.requires.work_len)
+
+  front : take w.write-n.result work ≡ converted file
+  front =
+      let bytes = converted file in
+      ap₂ take w.write-n.ensures.value w.write-n.ensures.out_after ∙ take-append_seam bytes (drop (length bytes) w.args.work.now)
+
+pub write-n-requires : goal.write-n-requires
+write-n-requires c =
+    let n = c.requires.all_numbered in
+    record {
+      directives_read = c.requires.directives_read;
+      single = record { given-are = n.given-are refl; one = one-given c.args.file.now c.requires.directives_read.passed c.requires.file_value c.requires.file_value_2 };
+      version_counts = n.counts-are refl;
+      in_bounds = omega (arith, c.requires.work_len);
+    }
+
+pub slice_bounds-judge-end : goal.slice_bounds-judge-end
+slice_bounds-judge-end c = within (goal.at.slice_bounds-judge-end c).After-write-n
+
+pub slice_bounds-judge-end-2 : goal.slice_bounds-judge-end-2
+slice_bounds-judge-end-2 c = sym (length-take-le _ _ (within (goal.at.slice_bounds-judge-end-2 c).After-write-n))
+
+pub judge-judged-requires : goal.judge-judged-requires
+judge-judged-requires c =
+    record {
+      directives_read = c.requires.directives_read;
+      file_value = c.requires.file_value;
+      file_value_2 = c.requires.file_value_2;
+      routine_value = front (goal.at.judge-judged-requires c).After-write-n;
+      order_len = c.requires.order_len;
+      versions_len = (c.requires.all_numbered.given-are refl).size;
+      uses_len = c.requires.uses_len;
+      brought_len = c.requires.brought_len;
+      gives_len = c.requires.gives_len;
+      passes_len = c.requires.passes_len;
+      halves_len = c.requires.halves_len;
+    }
+
+pub returns-in-Failed : goal.returns-in-Failed
+returns-in-Failed c = programmer-refused c.args.file.now c.requires.directives_read.passed c.requires.file_value c.requires.file_value_2 c.judge-judged.ensures c.in-Failed.is
+
+pub returns : goal.returns
+returns c = prepared c.args.file.now c.requires.directives_read.passed c.requires.file_value c.requires.file_value_2 c.judge-judged.ensures c.in_default.is c.write-n.ensures.value (within (goal.at.returns c).After-write-n) (front (goal.at.returns c).After-write-n)

@@ -1,0 +1,65 @@
+-- `writer::action` meets its contract.
+use mathlib.Core.Path.{◌≡◌, sym, ap₂, ◌∙◌}
+use mathlib.Core.Bool.{true}
+use Prim.Native.Nat.{ℕ, ◌+◌, ◌*◌, ◌<◌, ◌^◌}
+use native.Mathlib.Omega.{arith}
+use lib.ListN.{length, get_or}
+use Rattle.directives.proofs.Limits.{read-heads}
+use Rattle.flow.proofs.Cells.{in_cells}
+use Rattle.mappings.specs.Computed.{given_set}
+use Rattle.sets.proofs.Laws.{lowest-has, lowest-below}
+use Rattle.sets.specs.Sets.{width, has}
+use Rattle.converted.proofs.Actions.{stays, remaps}
+use Rattle.converted.proofs.writer.action.Goals as goal
+use Rattle.converted.proofs.writer.action.Goals.{After-lowest, Start}
+
+-- the cell
+abbrev place : Start → ℕ
+place s = 8 * s.args.v + s.args.a
+
+inside : (s : Start) → (place s < length s.args.given.now) × (place s < 2048)
+inside s =
+    let l = (read-heads s.requires.directives_read).limits in
+    omega (arith, in_cells l.few-arrays s.requires.a_bound s.requires.v_bound, s.requires.single.given-are.size, l.few-vertices)
+
+holds : (s : Start) → get_or s.args.given.now (place s) 0 ≡ given_set s.args.file.now s.args.a s.args.v
+holds s = s.requires.single.given-are.cells s.args.a s.args.v s.requires.a_bound s.requires.v_bound
+
+pub overflow_mul-at : goal.overflow_mul-at
+overflow_mul-at c = omega (arith, inside (goal.at.overflow_mul-at c).Start)
+
+pub overflow_add-at : goal.overflow_add-at
+overflow_add-at c = omega (arith, inside (goal.at.overflow_add-at c).Start)
+
+pub offset_bounds-given-at : goal.offset_bounds-given-at
+offset_bounds-given-at c = omega (arith, inside (goal.at.offset_bounds-given-at c).Start)
+
+pub bounds-given-at : goal.bounds-given-at
+bounds-given-at c = (inside (goal.at.bounds-given-at c).Start).0
+
+pub reference-requires : goal.reference-requires
+reference-requires c =
+    record {
+      heads = read-heads c.requires.directives_read;
+      v_bound = c.requires.v_bound;
+      a_bound = c.requires.a_bound;
+    }
+
+pub returns-then-version-eq0 : goal.returns-then-version-eq0
+returns-then-version-eq0 c = c.reference.ensures ∙ stays c.args.file.now c.args.a c.args.v (sym (holds (goal.at.returns-then-version-eq0 c).Start) ∙ c.if-version-eq0.true)
+
+-- the lowest is in the set
+chosen : (c : After-lowest) → (c.lowest.result < width) × (has (given_set c.args.file.now c.args.a c.args.v) c.lowest.result ≡ true)
+chosen c =
+    let x = get_or c.args.given.now (place (goal.at.After-lowest c).Start) 0 in
+    let some : 0 < x = omega (arith, c.if-version-eq0.false) in
+    let small : x < 2 ^ width = omega (arith, c.type_inv.given (place (goal.at.After-lowest c).Start)) in
+    (omega (arith, c.lowest.ensures, lowest-below width x some small), ap₂ has (sym (holds (goal.at.After-lowest c).Start)) c.lowest.ensures ∙ lowest-has width x some small)
+
+pub overflow_add-result : goal.overflow_add-result
+overflow_add-result c = omega (arith, (chosen c).0)
+
+pub returns : goal.returns
+returns c =
+    let single = c.requires.single.one c.args.a c.args.v c.requires.a_bound c.requires.v_bound in
+    remaps c.args.file.now c.args.a c.args.v c.lowest.result single (chosen c).1

@@ -1,0 +1,6 @@
+-- `writer::header_of` meets its contract.
+use Rattle.converted.proofs.Parts.{header_is}
+use Rattle.converted.proofs.writer.header_of.Goals as goal
+
+pub returns : goal.returns
+returns c = header_is c.requires
