@@ -1,5 +1,4 @@
 -- `check_ambiguous` meets its contract: a scan of the vertices.
-use Prim.Native.Nat.{◌-◌}
 use native.Mathlib.Omega.{arith}
 use Rattle.labels.specs.Checks.{check21}
 use Rattle.refusal.proofs.Checks.{scan-start, scan-stop, scan-next, scan-done}

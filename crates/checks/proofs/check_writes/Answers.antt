@@ -1,5 +1,4 @@
 -- `check_writes` meets its contract: a scan of the vertices.
-use Prim.Native.Nat.{◌-◌}
 use native.Mathlib.Omega.{arith}
 use Rattle.labels.specs.Checks.{check20}
 use Rattle.refusal.proofs.Checks.{scan-start, scan-stop, scan-next, scan-done}

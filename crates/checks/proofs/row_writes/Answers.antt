@@ -1,6 +1,5 @@
 -- `row_writes` meets its contract: a scan of the columns.
 use mathlib.Core.Path.{sym, ap, ◌∙◌}
-use Prim.Native.Nat.{◌-◌}
 use native.Mathlib.Nat.{le_antisymm}
 use native.Mathlib.Omega.{arith}
 use Rattle.words.specs.Sums.{any_below}

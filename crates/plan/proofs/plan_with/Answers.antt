@@ -58,10 +58,10 @@ write-requires c =
       read_as = c.requires.read_as;
       firsts = c.reply-reply.ensures.counts _ c.in_default.is;
       tabled = record {
-            versions-are = c.prepare-checked.ensures.versions;
-            reaching-are = c.prepare-checked.ensures.checked.reaching-are (passed (goal.at.write-requires c).In_default);
-            letters-and-kept = record { letters-are = c.prepare-checked.ensures.checked.letters-are (passed (goal.at.write-requires c).In_default); kept-are = c.kept.ensures.cells };
-          };
+        versions-are = c.prepare-checked.ensures.versions;
+        reaching-are = c.prepare-checked.ensures.checked.reaching-are (passed (goal.at.write-requires c).In_default);
+        letters-and-kept = record { letters-are = c.prepare-checked.ensures.checked.letters-are (passed (goal.at.write-requires c).In_default); kept-are = c.kept.ensures.cells };
+      };
       file_in_bounds = plan-fits c.args.file.now c.args.out.now c.reply-reply.ensures.answer c.in_default.is;
     }
 
