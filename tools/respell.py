@@ -1,10 +1,13 @@
 #!/usr/bin/env python3
 """Brings the names of definitions and lemmas to snake case, after the port to a newer Rattle.
 
-usage: python3 tools/respell.py        at the top of the repository, once
+usage: python3 tools/respell.py            at the top of the repository, once
+       python3 tools/respell.py hyphens    the same for names of several words with a dash between two
 
 Turns each name of this repository's specs/ and proofs/ that begins with a small letter and has a capital inside, in .antt files, in .rt files
 (outside strings) and in must-fail edits. A name whose new spelling is taken by another one in the same file gets the spelling of RENAMED.
+The second form takes the names and their spelling from respell.tsv: a dash stays in a lemma's name between the names of two definitions, as in
+`table-length`; a lemma whose name would be its definition's ends in _lem.
 """
 
 import os
@@ -43,6 +46,20 @@ def turned(text, names, strings):
     return "".join(p if strings and i % 2 else WORD.sub(lambda m: names.get(m.group(0), m.group(0)), p) for i, p in enumerate(parts))
 
 
+def hyphens():
+    """Writes a name of respell.tsv as its second column has it."""
+    with open(os.path.join(os.path.dirname(os.path.abspath(__file__)), "respell.tsv"), encoding="utf-8") as f:
+        names = dict(line.rstrip("\n").split("\t") for line in f)
+    whole = re.compile(r"[A-Za-z0-9_'-]+")
+    for path in files(".antt", ".rt", ".edit"):
+        with open(path, encoding="utf-8") as f:
+            text = f.read()
+        new = whole.sub(lambda m: names.get(m.group(0), m.group(0)), text)
+        if new != text:
+            with open(path, "w", encoding="utf-8") as f:
+                f.write(new)
+
+
 def main():
     if not os.path.isfile("crates.txt"):
         sys.exit("respell: run it at the top of the repository")
@@ -74,4 +91,7 @@ def main():
     print(f"respell: {len(names)} names")
 
 
-main()
+if sys.argv[1:] == ["hyphens"]:
+    hyphens()
+else:
+    main()

@@ -9,8 +9,8 @@ use Prim.Native.Nat.{ℕ, ◌+◌, ◌<◌}
 use native.Mathlib.Decide.{dec_lt}
 use native.Mathlib.Omega.{arith}
 use Rattle.flow.specs.Paths.{Edge, Joined}
-use Rattle.labels.proofs.Rules.Brought.{named_after, last-after, last_entry, brings-first, brings-next}
-use Rattle.labels.proofs.Rules.Proper.{ends-within}
+use Rattle.labels.proofs.Rules.Brought.{named_after, last_after, last_entry, brings_first, brings_next}
+use Rattle.labels.proofs.Rules.Proper.{ends_within_lem}
 use Rattle.labels.specs.Ambiguity.{Brings}
 use Rattle.labels.specs.Events.{edge_bytes, event, is_label, version}
 use Rattle.labels.specs.Reaching.{ArrivesBy, last_version}
@@ -21,27 +21,27 @@ use Rattle.routine.specs.Reader.{WellFormed}
 use Rattle.routine.specs.declared.action.Action.{Action}
 use Rattle.routine.specs.declared.action.Action.TheVariants.{Nothing, Remap}
 use Rattle.routine.specs.declared.array.ArrayRecord.{ArrayRecord}
-use Rattle.words.proofs.Tests.{by-test}
+use Rattle.words.proofs.Tests.{by_test}
 use Rattle.calls.specs.Calls.{intent_byte, passes, is_call_row}
 use Rattle.calls.specs.Expands.{Joins, enters, leaves, between}
 use Rattle.calls.specs.Expanded.{expanded}
 use Rattle.calls.specs.Interfaces.{Expandable}
 use Rattle.calls.specs.Parts.{Part, plain, passing, calling, returning, beyond, part_at, first_vertex_of}
 use Rattle.calls.specs.Referring.{referring, return_version}
-use Rattle.calls.proofs.Actions.{intent-refers}
-use Rattle.calls.proofs.Arriving.{return-brought}
-use Rattle.calls.proofs.Bytes.{array-is}
-use Rattle.calls.proofs.Joins.{edges-exact}
-use Rattle.calls.proofs.Events.{plain-event, three-vertices, call-inner}
-use Rattle.calls.proofs.Parts.{first-last, call-last, plain-last, first-rises, plain_at, passing-at, calling-at, returning-at}
-use Rattle.calls.proofs.Referring.{same-array, same_edges, call-refers, row-refers}
+use Rattle.calls.proofs.Actions.{intent_refers}
+use Rattle.calls.proofs.Arriving.{return_brought}
+use Rattle.calls.proofs.Bytes.{array_is}
+use Rattle.calls.proofs.Joins.{edges_exact}
+use Rattle.calls.proofs.Events.{plain_event, three_vertices, call_inner}
+use Rattle.calls.proofs.Parts.{first_last, call_last, plain_last, first_rises, plain_at, passing_at, calling_at, returning_at}
+use Rattle.calls.proofs.Referring.{same_array, same_edges, call_refers, row_refers}
 
 -- a reference names what was named before
-intent-names : (b : Bool) (c k : ℕ) → named_after (cond b (action_of (intent_byte c)) Nothing) k ≡ k
-intent-names true c k = ap (λ (x : Action). named_after x k) (intent-refers c).1
-intent-names false c k = refl
+intent_names : (b : Bool) (c k : ℕ) → named_after (cond b (action_of (intent_byte c)) Nothing) k ≡ k
+intent_names true c k = ap (λ (x : Action). named_after x k) (intent_refers c).1
+intent_names false c k = refl
 
-module _ (file : List ℕ) (can : Expandable file) {a : ℕ} (in-a : a < arrays file) where
+module _ (file : List ℕ) (can : Expandable file) {a : ℕ} (in_a : a < arrays file) where
   w : WellFormed file
   w = can.well
 
@@ -67,79 +67,79 @@ module _ (file : List ℕ) (can : Expandable file) {a : ℕ} (in-a : a < arrays 
   -- ---- an edge of the file
 
   module _ {v u : ℕ} (e : Edge (edge_bytes file) v u) where
-    from-below : v < vertices file
-    from-below = omega (arith, e.leaves, (ends-within file w).froms e.place e.listed)
+    from_below : v < vertices file
+    from_below = omega (arith, e.leaves, (ends_within_lem file w).froms e.place e.listed)
 
     to_below : u < vertices file
-    to_below = omega (arith, e.enters, (ends-within file w).tos e.place e.listed)
+    to_below = omega (arith, e.enters, (ends_within_lem file w).tos e.place e.listed)
 
-    refers-edge : Edge (edge_bytes (referring file)) v u
-    refers-edge = subst (λ (es : List ℕ). Edge es v u) (sym (same_edges file w.laid)) e
+    refers_edge : Edge (edge_bytes (referring file)) v u
+    refers_edge = subst (λ (es : List ℕ). Edge es v u) (sym (same_edges file w.laid)) e
 
     -- at the first vertex of u
     arrives : {k : ℕ} → Comes u k → Carries (part_at file (first_vertex_of file u)) k
-    arrives {k} c = by-test (is_call_row file u)
-        (λ call. subst (λ (p : Part). Carries p k) (sym (passing-at file to_below call)) c)
+    arrives {k} c = by_test (is_call_row file u)
+        (λ call. subst (λ (p : Part). Carries p k) (sym (passing_at file to_below call)) c)
         (λ row. subst (λ (p : Part). Carries p k) (sym (plain_at file to_below row)) c)
 
     -- past a vertex that is no call
-    past-plain : {k : ℕ} → is_call_row file v ≡ false → Comes v k → Comes u (named_after (event (expanded file) a (first_vertex_of file v)) k)
-    past-plain {k} row c =
-        subst (λ (x : Action). Comes u (named_after x k)) (row-refers file w in-a from-below row ∙ sym (plain-event file w in-a from-below row))
-        (brings-next (referring file) a c refers-edge)
+    past_plain : {k : ℕ} → is_call_row file v ≡ false → Comes v k → Comes u (named_after (event (expanded file) a (first_vertex_of file v)) k)
+    past_plain {k} row c =
+        subst (λ (x : Action). Comes u (named_after x k)) (row_refers file w in_a from_below row ∙ sym (plain_event file w in_a from_below row))
+        (brings_next (referring file) a c refers_edge)
 
     -- past a call
-    past-call : {k : ℕ} → is_call_row file v ≡ true → Inside v k → Comes u (named_after (event (expanded file) a (first_vertex_of file v + 2)) k)
-    past-call {k} call i =
-        subst (λ (x : Action). Comes u (named_after x k)) (sym (three-vertices file w in-a from-below can.interfaces call).third)
+    past_call : {k : ℕ} → is_call_row file v ≡ true → Inside v k → Comes u (named_after (event (expanded file) a (first_vertex_of file v + 2)) k)
+    past_call {k} call i =
+        subst (λ (x : Action). Comes u (named_after x k)) (sym (three_vertices file w in_a from_below can.interfaces call).third)
         (go (passes file a v) refl)
       where
         -- the call is no label of the file
         on : {j : ℕ} → Comes v j → Comes u j
-        on {j} c = subst (Comes u) (ap (λ (x : Action). named_after x j) (call-refers file w in-a from-below can.interfaces call) ∙ intent-names (passes file a v) (action_byte file a v) j)
-            (brings-next (referring file) a c refers-edge)
+        on {j} c = subst (Comes u) (ap (λ (x : Action). named_after x j) (call_refers file w in_a from_below can.interfaces call) ∙ intent_names (passes file a v) (action_byte file a v) j)
+            (brings_next (referring file) a c refers_edge)
 
         go : (b : Bool) → passes file a v ≡ b → Comes u (named_after (cond b (Remap (return_version file a v)) Nothing) k)
-        go true p = on (return-brought file w can.interfaces in-a v i.comes)
+        go true p = on (return_brought file w can.interfaces in_a v i.comes)
         go false p = on (subst (Comes v) (i.kept p) i.comes)
 
   -- ---- an edge of the expanded routine
 
   carried : {x y : ℕ} (k : ℕ) → Joins file x y → Carries (part_at file x) k → Carries (part_at file y) (named_after (event (expanded file) a x) k)
-  carried k (enters {v} in-v call) h =
-      let first = (three-vertices file w in-a in-v can.interfaces call).first in
-      subst (λ (p : Part). Carries p (named_after (event (expanded file) a (first_vertex_of file v)) k)) (sym (calling-at file in-v call))
+  carried k (enters {v} in_v call) h =
+      let first = (three_vertices file w in_a in_v can.interfaces call).first in
+      subst (λ (p : Part). Carries p (named_after (event (expanded file) a (first_vertex_of file v)) k)) (sym (calling_at file in_v call))
       (record {
         came = k;
-        comes = subst (λ (p : Part). Carries p k) (passing-at file in-v call) h;
+        comes = subst (λ (p : Part). Carries p k) (passing_at file in_v call) h;
         called = λ p. ap (λ (x : Action). named_after x k) (rw p at first);
         kept = λ n. sym (ap (λ (x : Action). named_after x k) (rw n at first));
       })
-  carried k (leaves {v} in-v call) h =
-      let i = subst (λ (p : Part). Carries p k) (calling-at file in-v call) h in
+  carried k (leaves {v} in_v call) h =
+      let i = subst (λ (p : Part). Carries p k) (calling_at file in_v call) h in
       let same : named_after (event (expanded file) a (first_vertex_of file v + 1)) k ≡ k =
-      ap (λ (x : Action). named_after x k) (three-vertices file w in-a in-v can.interfaces call).second ∙ intent-names (passes file a v) (action_byte file a v) k in
-      subst (λ (p : Part). Carries p (named_after (event (expanded file) a (first_vertex_of file v + 1)) k)) (sym (returning-at file in-v call))
+      ap (λ (x : Action). named_after x k) (three_vertices file w in_a in_v can.interfaces call).second ∙ intent_names (passes file a v) (action_byte file a v) k in
+      subst (λ (p : Part). Carries p (named_after (event (expanded file) a (first_vertex_of file v + 1)) k)) (sym (returning_at file in_v call))
       (subst (Inside v) (sym same) i)
-  carried k (between {v} {u} e) h = arrives e (by-test (is_call_row file v)
+  carried k (between {v} {u} e) h = arrives e (by_test (is_call_row file v)
       (λ call.
-      let last = call-last file v call in
-      subst (λ (x : ℕ). Comes u (named_after (event (expanded file) a x) k)) (sym last) (past-call e call (subst (λ (p : Part). Carries p k) (ap (part_at file) last ∙ returning-at file (from-below e) call) h)))
+      let last = call_last file v call in
+      subst (λ (x : ℕ). Comes u (named_after (event (expanded file) a x) k)) (sym last) (past_call e call (subst (λ (p : Part). Carries p k) (ap (part_at file) last ∙ returning_at file (from_below e) call) h)))
       (λ row.
-      let last = plain-last file v row in
-      subst (λ (x : ℕ). Comes u (named_after (event (expanded file) a x) k)) (sym last) (past-plain e row (subst (λ (p : Part). Carries p k) (ap (part_at file) last ∙ plain_at file (from-below e) row) h))))
+      let last = plain_last file v row in
+      subst (λ (x : ℕ). Comes u (named_after (event (expanded file) a x) k)) (sym last) (past_plain e row (subst (λ (p : Part). Carries p k) (ap (part_at file) last ∙ plain_at file (from_below e) row) h))))
 
   -- from the entry
   first_entry : (v : ℕ) → first_vertex_of file v ≡ 0 → v ≡ 0
-  first_entry v e = elim (dec_lt 0 v) [ yes l ↦ absurd (omega (arith, first-rises file v 0 l)) | no f ↦ omega arith ]
+  first_entry v e = elim (dec_lt 0 v) [ yes l ↦ absurd (omega (arith, first_rises file v 0 l)) | no f ↦ omega arith ]
 
   carried_first : {x y : ℕ} → x ≡ 0 → Joins file x y → Carries (part_at file y) (initial (expanded file) a)
-  carried_first z (enters in-v call) = absurd (omega (arith, call-inner file w in-v call))
-  carried_first z (leaves in-v call) = absurd (omega (arith, z))
+  carried_first z (enters in_v call) = absurd (omega (arith, call_inner file w in_v call))
+  carried_first z (leaves in_v call) = absurd (omega (arith, z))
   carried_first z (between {v} {u} e) =
-      let at_entry : v ≡ entry = first_entry v (omega (arith, z, first-last file v)) in
-      let same : initial (referring file) a ≡ initial (expanded file) a = ap (λ (r : ArrayRecord). r.initial) (same-array file w.laid a in-a ∙ sym (array-is file w.laid a in-a)) in
-      arrives e (subst (Comes u) same (brings-first (referring file) a (subst (λ (x : ℕ). Edge (edge_bytes (referring file)) x u) at_entry (refers-edge e))))
+      let at_entry : v ≡ entry = first_entry v (omega (arith, z, first_last file v)) in
+      let same : initial (referring file) a ≡ initial (expanded file) a = ap (λ (r : ArrayRecord). r.initial) (same_array file w.laid a in_a ∙ sym (array_is file w.laid a in_a)) in
+      arrives e (subst (Comes u) same (brings_first (referring file) a (subst (λ (x : ℕ). Edge (edge_bytes (referring file)) x u) at_entry (refers_edge e))))
 
   -- ---- a path from the entry
 
@@ -152,12 +152,12 @@ module _ (file : List ℕ) (can : Expandable file) {a : ℕ} (in-a : a < arrays 
       → (j : ℕ) × (named (us ++ x ∷ vs) ≡ some j) × Carries (part_at file y) j
   onward us x [] y {k} e c joined = (
     named_after (event (expanded file) a x) k,
-    last-after (expanded file) a us x e,
-    carried k ((edges-exact file w x y).0 joined) c,
+    last_after (expanded file) a us x e,
+    carried k ((edges_exact file w x y).0 joined) c,
   )
   onward us x (v ∷ vs) y {k} e c joined =
       subst (λ (l : List ℕ). (j : ℕ) × (named l ≡ some j) × Carries (part_at file y) j) (append_assoc us (x ∷ []) (v ∷ vs))
-      (onward (us ++ x ∷ []) v vs y (last-after (expanded file) a us x e) (carried k ((edges-exact file w x v).0 joined.0) c) joined.1)
+      (onward (us ++ x ∷ []) v vs y (last_after (expanded file) a us x e) (carried k ((edges_exact file w x v).0 joined.0) c) joined.1)
 
   pub arrived : (u : ℕ) (us : List ℕ) (y : ℕ) → ArrivesBy (expanded file) (u ∷ us) y → (j : ℕ) × (named (u ∷ us) ≡ some j) × Carries (part_at file y) j
   arrived u us y (start, joined) = go us joined
@@ -166,8 +166,8 @@ module _ (file : List ℕ) (can : Expandable file) {a : ℕ} (in-a : a < arrays 
       first = ap (λ (x : ℕ). named (x ∷ [])) start ∙ last_entry (expanded file) a
 
       go : (us : List ℕ) → Joined (edge_bytes (expanded file)) u us y → (j : ℕ) × (named (u ∷ us) ≡ some j) × Carries (part_at file y) j
-      go [] e = (initial (expanded file) a, first, carried_first start ((edges-exact file w u y).0 e))
-      go (v ∷ vs) e = onward (u ∷ []) v vs y first (carried_first start ((edges-exact file w u v).0 e.0)) e.1
+      go [] e = (initial (expanded file) a, first, carried_first start ((edges_exact file w u y).0 e))
+      go (v ∷ vs) e = onward (u ∷ []) v vs y first (carried_first start ((edges_exact file w u v).0 e.0)) e.1
 
   pub brought : {y k : ℕ} → Brings (expanded file) a y k → Carries (part_at file y) k
   brought {y} {k} b = go b.before b.path b.brings

@@ -12,7 +12,7 @@ use lib.Dec.{lit<}
 use lib.ListN.{length, get_or, length-append, get_or-append, get_or-eq_default}
 use lib.Seq.{get_or-append-add}
 use Rattle.routine.specs.Layout.{vertices}
-use Rattle.words.proofs.Sums.{count-few}
+use Rattle.words.proofs.Sums.{count_few}
 use Rattle.words.specs.Sums.{total, count_of}
 use Rattle.words.specs.Tables.{rows}
 use Rattle.calls.specs.Calls.{is_call_row}
@@ -29,38 +29,38 @@ module _ (file : List ℕ) where
 
   -- ---- how many there are
 
-  parts-size : (v : ℕ) → length (parts_of file v) ≡ 1 + added v
-  parts-size v = go (is_call_row file v)
+  parts_size : (v : ℕ) → length (parts_of file v) ≡ 1 + added v
+  parts_size v = go (is_call_row file v)
     where
       go : (b : Bool) → length (cond b (passing v ∷ calling v ∷ returning v ∷ []) (plain v ∷ [])) ≡ 1 + cond b 2 0
       go true = refl
       go false = refl
 
-  pub first-zero : first_vertex_of file 0 ≡ 0
+  pub first_zero : first_vertex_of file 0 ≡ 0
   unfolding first_vertex_of parts rows
-  first-zero = refl
+  first_zero = refl
 
-  pub first-parts : (v : ℕ) → first_vertex_of file (suc v) ≡ first_vertex_of file v + length (parts_of file v)
+  pub first_parts : (v : ℕ) → first_vertex_of file (suc v) ≡ first_vertex_of file v + length (parts_of file v)
   unfolding first_vertex_of parts rows
-  first-parts v = length-append (parts file v) (parts_of file v)
+  first_parts v = length-append (parts file v) (parts_of file v)
 
   -- the last of those that v becomes stands before the first of the next
   pub first_next : (v : ℕ) → first_vertex_of file (suc v) ≡ last_of file v + 1
   unfolding last_of
-  first_next v = omega (arith, first-parts v, parts-size v)
+  first_next v = omega (arith, first_parts v, parts_size v)
 
-  last-is : (v : ℕ) → last_of file v ≡ first_vertex_of file v + added v
+  last_is : (v : ℕ) → last_of file v ≡ first_vertex_of file v + added v
   unfolding last_of
-  last-is v = refl
+  last_is v = refl
 
-  pub first-last : (v : ℕ) → first_vertex_of file v ≤ last_of file v
-  first-last v = omega (arith, last-is v)
+  pub first_last : (v : ℕ) → first_vertex_of file v ≤ last_of file v
+  first_last v = omega (arith, last_is v)
 
-  pub call-last : (v : ℕ) → is_call_row file v ≡ true → last_of file v ≡ first_vertex_of file v + 2
-  call-last v call = rw call at (last-is v)
+  pub call_last : (v : ℕ) → is_call_row file v ≡ true → last_of file v ≡ first_vertex_of file v + 2
+  call_last v call = rw call at (last_is v)
 
-  pub plain-last : (v : ℕ) → is_call_row file v ≡ false → last_of file v ≡ first_vertex_of file v
-  plain-last v row = (rw row at (last-is v)) ∙ add-zero (first_vertex_of file v)
+  pub plain_last : (v : ℕ) → is_call_row file v ≡ false → last_of file v ≡ first_vertex_of file v
+  plain_last v row = (rw row at (last_is v)) ∙ add-zero (first_vertex_of file v)
 
   pub size_is : expanded_vertices file ≡ first_vertex_of file (vertices file)
   unfolding expanded_vertices first_vertex_of
@@ -69,24 +69,24 @@ module _ (file : List ℕ) where
   -- two more for each call
   pub size-count : (n : ℕ) → first_vertex_of file n ≡ n + 2 * count_of (is_call_row file) n
   unfolding total
-  size-count zero = first-zero
-  size-count (suc n) = omega (arith, first_next n, last-is n, size-count n, added_twice (is_call_row file n))
+  size-count zero = first_zero
+  size-count (suc n) = omega (arith, first_next n, last_is n, size-count n, added_twice (is_call_row file n))
 
   -- at most three of each
-  pub first-few : (n : ℕ) → first_vertex_of file n ≤ 3 * n
-  first-few n = omega (arith, size-count n, count-few (is_call_row file) n)
+  pub first_few : (n : ℕ) → first_vertex_of file n ≤ 3 * n
+  first_few n = omega (arith, size-count n, count_few (is_call_row file) n)
 
   -- v before n: all that v becomes stands before the first of n
-  pub last-below : (n v : ℕ) → v < n → last_of file v < first_vertex_of file n
-  last-below zero v h = absurd (omega arith)
-  last-below (suc n) v h =
+  pub last_below : (n v : ℕ) → v < n → last_of file v < first_vertex_of file n
+  last_below zero v h = absurd (omega arith)
+  last_below (suc n) v h =
       below_more (λ u. last_of file u < first_vertex_of file (suc n)) n
-      (λ u l. omega (arith, last-below n u l, first_next n, last-is n))
+      (λ u l. omega (arith, last_below n u l, first_next n, last_is n))
       (omega (arith, first_next n))
       v (omega arith)
 
-  pub first-rises : (n v : ℕ) → v < n → first_vertex_of file v < first_vertex_of file n
-  first-rises n v h = omega (arith, last-below n v h, last-is v)
+  pub first_rises : (n v : ℕ) → v < n → first_vertex_of file v < first_vertex_of file n
+  first_rises n v h = omega (arith, last_below n v h, last_is v)
 
   -- ---- what stands at a place, of those that the first n vertices of the file become
 
@@ -97,46 +97,46 @@ module _ (file : List ℕ) where
   Stands n x (returning v) = (v < n) × (is_call_row file v ≡ true) × (x ≡ first_vertex_of file v + 2)
   Stands n x beyond = first_vertex_of file n ≤ x
 
-  stands-more : (n x : ℕ) (p : Part) → x < first_vertex_of file n → Stands n x p → Stands (suc n) x p
-  stands-more n x (plain v) l s = (omega (arith, s.0), s.1, s.2)
-  stands-more n x (passing v) l s = (omega (arith, s.0), s.1, s.2)
-  stands-more n x (calling v) l s = (omega (arith, s.0), s.1, s.2)
-  stands-more n x (returning v) l s = (omega (arith, s.0), s.1, s.2)
-  stands-more n x beyond l s = absurd (omega arith)
+  stands_more : (n x : ℕ) (p : Part) → x < first_vertex_of file n → Stands n x p → Stands (suc n) x p
+  stands_more n x (plain v) l s = (omega (arith, s.0), s.1, s.2)
+  stands_more n x (passing v) l s = (omega (arith, s.0), s.1, s.2)
+  stands_more n x (calling v) l s = (omega (arith, s.0), s.1, s.2)
+  stands_more n x (returning v) l s = (omega (arith, s.0), s.1, s.2)
+  stands_more n x beyond l s = absurd (omega arith)
 
   -- the j-th of those that v becomes
-  stands-new : (v j : ℕ) (b : Bool) → is_call_row file v ≡ b
+  stands_new : (v j : ℕ) (b : Bool) → is_call_row file v ≡ b
       → let new = cond b (passing v ∷ calling v ∷ returning v ∷ []) (plain v ∷ []) in
       j < length new → Stands (suc v) (first_vertex_of file v + j) (get_or new j beyond)
-  stands-new v zero true e h = (omega arith, e, omega arith)
-  stands-new v (suc zero) true e h = (omega arith, e, refl)
-  stands-new v (suc (suc zero)) true e h = (omega arith, e, refl)
-  stands-new v (suc (suc (suc j))) true e h = absurd (omega arith)
-  stands-new v zero false e h = (omega arith, e, omega arith)
-  stands-new v (suc j) false e h = absurd (omega arith)
+  stands_new v zero true e h = (omega arith, e, omega arith)
+  stands_new v (suc zero) true e h = (omega arith, e, refl)
+  stands_new v (suc (suc zero)) true e h = (omega arith, e, refl)
+  stands_new v (suc (suc (suc j))) true e h = absurd (omega arith)
+  stands_new v zero false e h = (omega arith, e, omega arith)
+  stands_new v (suc j) false e h = absurd (omega arith)
 
-  old-part : (n x : ℕ) → x < first_vertex_of file n → get_or (parts file (suc n)) x beyond ≡ get_or (parts file n) x beyond
+  old_part : (n x : ℕ) → x < first_vertex_of file n → get_or (parts file (suc n)) x beyond ≡ get_or (parts file n) x beyond
   unfolding parts rows first_vertex_of
-  old-part n x l = get_or-append (parts file n) (parts_of file n) beyond x l
+  old_part n x l = get_or-append (parts file n) (parts_of file n) beyond x l
 
-  new-part : (n j : ℕ) → get_or (parts file (suc n)) (first_vertex_of file n + j) beyond ≡ get_or (parts_of file n) j beyond
+  new_part : (n j : ℕ) → get_or (parts file (suc n)) (first_vertex_of file n + j) beyond ≡ get_or (parts_of file n) j beyond
   unfolding parts rows first_vertex_of
-  new-part n j = get_or-append-add (parts file n) (parts_of file n) j beyond
+  new_part n j = get_or-append-add (parts file n) (parts_of file n) j beyond
 
   no_part : (n x : ℕ) → first_vertex_of file n ≤ x → get_or (parts file n) x beyond ≡ beyond
   unfolding first_vertex_of
   no_part n x h = get_or-eq_default (parts file n) beyond h
 
   stands : (n x : ℕ) → Stands n x (get_or (parts file n) x beyond)
-  stands zero x = let z : first_vertex_of file 0 ≤ x = omega (arith, first-zero) in rw (no_part 0 x z) z
+  stands zero x = let z : first_vertex_of file 0 ≤ x = omega (arith, first_zero) in rw (no_part 0 x z) z
   stands (suc n) x = elim (dec_lt x (first_vertex_of file n)) [
-    | yes l ↦ rw (old-part n x l) (stands-more n x (get_or (parts file n) x beyond) l (stands n x))
+    | yes l ↦ rw (old_part n x l) (stands_more n x (get_or (parts file n) x beyond) l (stands n x))
     | no f ↦ elim (dec_lt x (first_vertex_of file (suc n))) [
       | yes l ↦
           (let j = x - first_vertex_of file n in
           let e : first_vertex_of file n + j ≡ x = omega arith in
           subst (λ (y : ℕ). Stands (suc n) y (get_or (parts file (suc n)) y beyond)) e
-          (rw (new-part n j) (stands-new n j (is_call_row file n) refl (omega (arith, first-parts n)))))
+          (rw (new_part n j) (stands_new n j (is_call_row file n) refl (omega (arith, first_parts n)))))
       | no g ↦ (let h : first_vertex_of file (suc n) ≤ x = omega arith in rw (no_part (suc n) x h) h)
     ]
   ]
@@ -147,33 +147,33 @@ module _ (file : List ℕ) where
 
   -- ---- where each stands
 
-  part-at : (n v j : ℕ) → v < n → j < length (parts_of file v) → get_or (parts file n) (first_vertex_of file v + j) beyond ≡ get_or (parts_of file v) j beyond
-  part-at zero v j h l = absurd (omega arith)
-  part-at (suc n) v j h l =
+  part_at_lem : (n v j : ℕ) → v < n → j < length (parts_of file v) → get_or (parts file n) (first_vertex_of file v + j) beyond ≡ get_or (parts_of file v) j beyond
+  part_at_lem zero v j h l = absurd (omega arith)
+  part_at_lem (suc n) v j h l =
       below_more (λ u. j < length (parts_of file u) → get_or (parts file (suc n)) (first_vertex_of file u + j) beyond ≡ get_or (parts_of file u) j beyond) n
-      (λ u g m. old-part n (first_vertex_of file u + j) (omega (arith, last-below n u g, last-is u, parts-size u)) ∙ part-at n u j g m)
-      (λ m. new-part n j)
+      (λ u g m. old_part n (first_vertex_of file u + j) (omega (arith, last_below n u g, last_is u, parts_size u)) ∙ part_at_lem n u j g m)
+      (λ m. new_part n j)
       v (omega arith) l
 
-  module _ {v : ℕ} (in-v : v < vertices file) where
+  module _ {v : ℕ} (in_v : v < vertices file) where
     pub plain_at : is_call_row file v ≡ false → part_at file (first_vertex_of file v) ≡ plain v
     unfolding part_at
     plain_at e =
         subst (λ (x : ℕ). get_or (parts file (vertices file)) x beyond ≡ plain v) (add-zero (first_vertex_of file v))
-        (part-at (vertices file) v 0 in-v (omega (arith, parts-size v)) ∙ rw e)
+        (part_at_lem (vertices file) v 0 in_v (omega (arith, parts_size v)) ∙ rw e)
 
     module _ (call : is_call_row file v ≡ true) where
       call_at : (j : ℕ) → j < 3 → part_at file (first_vertex_of file v + j) ≡ get_or (passing v ∷ calling v ∷ returning v ∷ []) j beyond
       unfolding part_at
       call_at j l =
           let two : ◌≡◌ {A = ℕ} (cond (is_call_row file v) 2 0) 2 = rw call in
-          part-at (vertices file) v j in-v (omega (arith, parts-size v, two)) ∙ rw call
+          part_at_lem (vertices file) v j in_v (omega (arith, parts_size v, two)) ∙ rw call
 
-      pub passing-at : part_at file (first_vertex_of file v) ≡ passing v
-      passing-at = ap (part_at file) (sym (add-zero (first_vertex_of file v))) ∙ call_at 0 (lit< tt)
+      pub passing_at : part_at file (first_vertex_of file v) ≡ passing v
+      passing_at = ap (part_at file) (sym (add-zero (first_vertex_of file v))) ∙ call_at 0 (lit< tt)
 
-      pub calling-at : part_at file (first_vertex_of file v + 1) ≡ calling v
-      calling-at = call_at 1 (lit< tt)
+      pub calling_at : part_at file (first_vertex_of file v + 1) ≡ calling v
+      calling_at = call_at 1 (lit< tt)
 
-      pub returning-at : part_at file (first_vertex_of file v + 2) ≡ returning v
-      returning-at = call_at 2 (lit< tt)
+      pub returning_at : part_at file (first_vertex_of file v + 2) ≡ returning v
+      returning_at = call_at 2 (lit< tt)

@@ -15,30 +15,30 @@ use Rattle.routine.specs.Layout.{arrays, vertices, action_at}
 use Rattle.sets.specs.Sets.{width}
 use Rattle.words.specs.Tables.{table, rows}
 use Rattle.words.proofs.Tables.{rows_more, rows-length, table-length, table_at}
-use Rattle.words.proofs.Tests.{by-test}
+use Rattle.words.proofs.Tests.{by_test}
 use Rattle.calls.specs.Calls.{is_call_row}
 use Rattle.calls.specs.Expanded.{expanded_byte, expanded_row}
 use Rattle.calls.specs.Parts.{Part, plain, passing, calling, returning, expanded_vertices, part_at, first_vertex_of}
 use Rattle.calls.specs.Referring.{arriving, return_version}
 use Rattle.calls.specs.VertexRows.{part_row, call_rows, vertex_rows}
-use Rattle.calls.proofs.Parts.{first-zero, first_next, call-last, plain-last, size_is, plain_at, passing-at, calling-at, returning-at}
+use Rattle.calls.proofs.Parts.{first_zero, first_next, call_last, plain_last, size_is, plain_at, passing_at, calling_at, returning_at}
 
 -- ---- the version that the source names before the call, from the set that arrives
 
 module _ (file : List ℕ) (a v : ℕ) {arrived : ℕ} (is : arrived ≡ arriving file a v) where
-  pub none-arrives : arrived ≡ 0 → initial file a ≡ return_version file a v
+  pub none_arrives : arrived ≡ 0 → initial file a ≡ return_version file a v
   unfolding return_version
-  none-arrives none = sym (rw (eq-eqb (arriving file a v) 0 (sym is ∙ none)))
+  none_arrives none = sym (rw (eq-eqb (arriving file a v) 0 (sym is ∙ none)))
 
-  pub one-arrives : (arrived ≡ 0 → ⊥) → count_trailing_zeros width arrived ≡ return_version file a v
+  pub one_arrives : (arrived ≡ 0 → ⊥) → count_trailing_zeros width arrived ≡ return_version file a v
   unfolding return_version
-  one-arrives some = ap (count_trailing_zeros width) is ∙ sym (rw (ne_eqb (arriving file a v) 0 (λ e. some (is ∙ e))))
+  one_arrives some = ap (count_trailing_zeros width) is ∙ sym (rw (ne_eqb (arriving file a v) 0 (λ e. some (is ∙ e))))
 
 -- ---- rows
 
 -- three rows more
-rows-three : (row : ℕ → List ℕ) (k : ℕ) → rows row (k + 3) ≡ rows row k ++ ((row k ++ row (k + 1)) ++ row (k + 2))
-rows-three row k =
+rows_three : (row : ℕ → List ℕ) (k : ℕ) → rows row (k + 3) ≡ rows row k ++ ((row k ++ row (k + 1)) ++ row (k + 2))
+rows_three row k =
     let two : k + 1 + 1 ≡ k + 2 = omega arith in
     let three : k + 2 + 1 ≡ k + 3 = omega arith in
     sym (ap (rows row) three) ∙ sym (rows_more row (k + 2))
@@ -46,14 +46,14 @@ rows-three row k =
     ∙ simp append_assoc
 
 module _ (file : List ℕ) where
-  pub row-length : (p : Part) → length (part_row file p) ≡ arrays file
+  pub row_length : (p : Part) → length (part_row file p) ≡ arrays file
   unfolding part_row
-  row-length p = table-length (λ a. expanded_byte file a p) (arrays file)
+  row_length p = table-length (λ a. expanded_byte file a p) (arrays file)
 
   -- the row of a vertex that is no call is the file's
-  pub plain-bytes : (v : ℕ) {at m : ℕ} → m ≡ arrays file → at ≡ action_at file 0 v → at + m ≤ length file → take m (drop at file) ≡ part_row file (plain v)
+  pub plain_bytes : (v : ℕ) {at m : ℕ} → m ≡ arrays file → at ≡ action_at file 0 v → at + m ≤ length file → take m (drop at file) ≡ part_row file (plain v)
   unfolding part_row
-  plain-bytes v {at} {m} e here room =
+  plain_bytes v {at} {m} e here room =
       let byte : ℕ → ℕ = λ a. expanded_byte file a (plain v) in
       let size = length-take-le m (drop at file) (omega (arith, length-drop at file)) in
       ext_get_or 0 (take m (drop at file)) (table byte (arrays file)) (size ∙ e ∙ sym (table-length byte (arrays file))) (λ a h.
@@ -66,9 +66,9 @@ module _ (file : List ℕ) where
         arith,
         length-append (part_row file (passing v) ++ part_row file (calling v)) (part_row file (returning v)),
         length-append (part_row file (passing v)) (part_row file (calling v)),
-        row-length (passing v),
-        row-length (calling v),
-        row-length (returning v),
+        row_length (passing v),
+        row_length (calling v),
+        row_length (returning v),
       )
 
   module _ (v : ℕ) where
@@ -86,35 +86,35 @@ module _ (file : List ℕ) where
   row_at x e = ap (part_row file) e
 
   -- with those of one vertex more
-  next-vertex : (v : ℕ) → v < vertices file → rows (expanded_row file) (first_vertex_of file (suc v)) ≡ rows (expanded_row file) (first_vertex_of file v) ++ vertex_rows file v
-  next-vertex v in-v =
+  next_vertex : (v : ℕ) → v < vertices file → rows (expanded_row file) (first_vertex_of file (suc v)) ≡ rows (expanded_row file) (first_vertex_of file v) ++ vertex_rows file v
+  next_vertex v in_v =
       let x = first_vertex_of file v in
       let before = rows (expanded_row file) x in
-      by-test (is_call_row file v)
+      by_test (is_call_row file v)
       (λ call.
-      let three : first_vertex_of file (suc v) ≡ x + 3 = omega (arith, first_next file v, call-last file v call) in
-      let passed = row_at x (passing-at file in-v call) in
-      let called = row_at (x + 1) (calling-at file in-v call) in
-      let returned = row_at (x + 2) (returning-at file in-v call) in
-      ap (rows (expanded_row file)) three ∙ rows-three (expanded_row file) x
+      let three : first_vertex_of file (suc v) ≡ x + 3 = omega (arith, first_next file v, call_last file v call) in
+      let passed = row_at x (passing_at file in_v call) in
+      let called = row_at (x + 1) (calling_at file in_v call) in
+      let returned = row_at (x + 2) (returning_at file in_v call) in
+      ap (rows (expanded_row file)) three ∙ rows_three (expanded_row file) x
       ∙ ap (λ (l : List ℕ). before ++ l) (ap₂ ◌++◌ (ap₂ ◌++◌ passed called) returned ∙ sym (call_rows_are v call)))
       (λ row.
-      let one : first_vertex_of file (suc v) ≡ x + 1 = omega (arith, first_next file v, plain-last file v row) in
+      let one : first_vertex_of file (suc v) ≡ x + 1 = omega (arith, first_next file v, plain_last file v row) in
       ap (rows (expanded_row file)) one ∙ sym (rows_more (expanded_row file) x)
-      ∙ ap (λ (l : List ℕ). before ++ l) (row_at x (plain_at file in-v row) ∙ sym (plain_row v row)))
+      ∙ ap (λ (l : List ℕ). before ++ l) (row_at x (plain_at file in_v row) ∙ sym (plain_row v row)))
 
   -- those of the vertices before n
-  by-vertex : (n : ℕ) → n ≤ vertices file → rows (expanded_row file) (first_vertex_of file n) ≡ rows (vertex_rows file) n
+  by_vertex : (n : ℕ) → n ≤ vertices file → rows (expanded_row file) (first_vertex_of file n) ≡ rows (vertex_rows file) n
   unfolding rows
-  by-vertex zero h = ap (rows (expanded_row file)) (first-zero file)
-  by-vertex (suc n) h = next-vertex n (omega arith) ∙ ap (λ (l : List ℕ). l ++ vertex_rows file n) (by-vertex n (omega arith))
+  by_vertex zero h = ap (rows (expanded_row file)) (first_zero file)
+  by_vertex (suc n) h = next_vertex n (omega arith) ∙ ap (λ (l : List ℕ). l ++ vertex_rows file n) (by_vertex n (omega arith))
 
   -- all of them
-  pub all-by-vertex : rows (vertex_rows file) (vertices file) ≡ rows (expanded_row file) (expanded_vertices file)
-  all-by-vertex = sym (by-vertex (vertices file) (omega arith)) ∙ ap (rows (expanded_row file)) (sym (size_is file))
+  pub all_by_vertex : rows (vertex_rows file) (vertices file) ≡ rows (expanded_row file) (expanded_vertices file)
+  all_by_vertex = sym (by_vertex (vertices file) (omega arith)) ∙ ap (rows (expanded_row file)) (sym (size_is file))
 
-  pub all-length : length (rows (vertex_rows file) (vertices file)) ≡ expanded_vertices file * arrays file
-  all-length =
-      ap length all-by-vertex
+  pub all_length : length (rows (vertex_rows file) (vertices file)) ≡ expanded_vertices file * arrays file
+  all_length =
+      ap length all_by_vertex
       ∙ rows-length (expanded_row file) (arrays file) (λ x. table-length (λ a. expanded_byte file a (part_at file x)) (arrays file)) (expanded_vertices file)
       ∙ mul_comm (arrays file) (expanded_vertices file)

@@ -33,10 +33,10 @@ pub record Expands (file : List ℕ) : Type 0 where
   -- the expanded routine is a routine as document 01 has it
   pub formed : WellFormed (expanded file)
   -- its arrays are the file's
-  pub arrays-same : arrays (expanded file) ≡ arrays file
+  pub arrays_same : arrays (expanded file) ≡ arrays file
   pub array_same : (a : ℕ) → a < arrays file → array_of (expanded file) a ≡ array_of file a
   -- its vertices are those that the file's become
-  pub vertices-are : vertices (expanded file) ≡ expanded_vertices file
+  pub vertices_are : vertices (expanded file) ≡ expanded_vertices file
   -- a call is three vertices
   pub calls : (a v : ℕ) → a < arrays file → v < vertices file → is_call_row file v ≡ true → ThreeVertices file a v
   -- any other vertex does what it did

@@ -11,7 +11,7 @@ use Rattle.calls.specs.Parts.{expanded_vertices}
 -- what 17 and 19 leave of call rows
 pub record Interfaces (file : List ℕ) : Type 0 where
   -- a call row holds calls and 00 only
-  pub calls-only :
+  pub calls_only :
       (a v : ℕ) → a < arrays file → v < vertices file → is_call_row file v ≡ true → passes file a v ≡ false → action_byte file a v ≡ 0x00
   -- the version in which an array is passed is below its number
   pub called-below :
@@ -23,6 +23,6 @@ pub record Expandable (file : List ℕ) : Type 0 where
   pub well : WellFormed file
   pub interfaces : Interfaces file
   -- 12: the file's own edges
-  pub few-edges : edges file ≤ 1024
+  pub few_edges : edges file ≤ 1024
   -- 22: at most 256 vertices after expansion
-  pub few-vertices : expanded_vertices file ≤ 256
+  pub few_vertices : expanded_vertices file ≤ 256

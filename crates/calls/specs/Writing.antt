@@ -35,8 +35,8 @@ edges_up_to file v i = rows (edges_from file) v ++ (inner_edges file v ++ rows (
 
 -- a place among them: edges of the file before it leave its vertex or an earlier one, the others its vertex or a later one
 pub record Placed (file : List ℕ) (p : Place) : Type 0 where
-  pub in-vertices : p.vertex < vertices file
-  pub in-edges : p.edge ≤ edges file
+  pub in_vertices : p.vertex < vertices file
+  pub in_edges : p.edge ≤ edges file
   pub earlier : (k : ℕ) → k < p.edge → (edge_of file k).from ≤ p.vertex
   pub later : (k : ℕ) → p.edge ≤ k → k < edges file → p.vertex ≤ (edge_of file k).from
   pub counted : p.count ≡ length (edges_up_to file p.vertex p.edge)

@@ -7,7 +7,7 @@ use native.Mathlib.Omega.{arith}
 use lib.Count.{ones}
 use lib.ListN.{get_or}
 use Rattle.cases.specs.Cases.{P, path2}
-use Rattle.cases.specs.Faults.{zeros, RefusesAll, P-with-nothing, PlanOfPForAll, WritesNoPlan, InventsRecords, InventsCopies, CountsFirstStep, WritesNoReport}
+use Rattle.cases.specs.Faults.{zeros, RefusesAll, P_with_nothing, PlanOfPForAll, WritesNoPlan, InventsRecords, InventsCopies, CountsFirstStep, WritesNoReport}
 use Rattle.calls.specs.Expanded.{routine_of}
 use Rattle.planned.specs.Calls.{plan_of, Planned}
 use Rattle.refusal.specs.Replies.{filled_by}
@@ -34,13 +34,13 @@ byte : (bytes before : List ℕ) {said reply : Reply} {n : ℕ} {written after :
     → reply ≡ said → after ≡ filled_by reply bytes before → (i : ℕ) → get_or after i 0 ≡ get_or (wrote before written) i 0
 byte bytes before says is e b i = ap (λ (l : List ℕ). get_or l i 0) (b ∙ ap (λ (r : Reply). filled_by r bytes before) (e ∙ says) ∙ ap (wrote before) is)
 
-pub planned-once : {file before after after' : List ℕ} {reply reply' : Reply} → Planned file before reply after → Planned file before reply' after'
+pub planned_once : {file before after after' : List ℕ} {reply reply' : Reply} → Planned file before reply after → Planned file before reply' after'
     → (reply ≡ reply') × (after ≡ after')
-planned-once {file} {before} h k = once (plan_bytes (routine_of file)) before h.answer h.buffer k.answer k.buffer
+planned_once {file} {before} h k = once (plan_bytes (routine_of file)) before h.answer h.buffer k.answer k.buffer
 
-pub ran-once : {file path before after after' : List ℕ} {reply reply' : Reply} → Ran file path before reply after → Ran file path before reply' after'
+pub ran_once : {file path before after after' : List ℕ} {reply reply' : Reply} → Ran file path before reply after → Ran file path before reply' after'
     → (reply ≡ reply') × (after ≡ after')
-ran-once {file} {path} {before} h k = once (report_bytes (routine_of file) path) before h.answer h.buffer k.answer k.buffer
+ran_once {file} {path} {before} h k = once (report_bytes (routine_of file) path) before h.answer h.buffer k.answer k.buffer
 
 -- ---- planners
 
@@ -49,30 +49,30 @@ abbrev success : Reply → ℕ
 success (Written n) = 1
 success (Denied r) = 0
 
-pub refuses-all : RefusesAll
-refuses-all r after h = absurd (omega (arith, ap success (h.answer ∙ all_hold.0.0)))
+pub refuses_all : RefusesAll
+refuses_all r after h = absurd (omega (arith, ap success (h.answer ∙ all_hold.0.0)))
 
 -- byte 53 is the letter of vertex 2
-pub plan-of-p-for-all : PlanOfPForAll
+pub plan_of_p_for_all : PlanOfPForAll
 unfolding routine_of plan_of plan_bytes word ones
-plan-of-p-for-all reply h =
-    absurd (omega (arith, byte (plan_bytes (routine_of P-with-nothing)) (zeros 88) {n = 88} refl refl h.answer h.buffer 53))
+plan_of_p_for_all reply h =
+    absurd (omega (arith, byte (plan_bytes (routine_of P_with_nothing)) (zeros 88) {n = 88} refl refl h.answer h.buffer 53))
 
-pub writes-no-plan : WritesNoPlan
-writes-no-plan reply h = absurd (omega (arith, byte (plan_bytes (routine_of P)) (zeros 88) all_hold.0.0 all_hold.0.2 h.answer h.buffer 0))
+pub writes_no_plan : WritesNoPlan
+writes_no_plan reply h = absurd (omega (arith, byte (plan_bytes (routine_of P)) (zeros 88) all_hold.0.0 all_hold.0.2 h.answer h.buffer 0))
 
 -- ---- runners
 
 -- byte 16 is the new stamp of the first record
-pub invents-records : InventsRecords
-invents-records reply h = absurd (omega (arith, byte (report_bytes (routine_of P) path2) (zeros 64) all_hold.1.0.0 all_hold.1.0.4 h.answer h.buffer 16))
+pub invents_records : InventsRecords
+invents_records reply h = absurd (omega (arith, byte (report_bytes (routine_of P) path2) (zeros 64) all_hold.1.0.0 all_hold.1.0.4 h.answer h.buffer 16))
 
-pub invents-copies : InventsCopies
-invents-copies reply h = absurd (omega (arith, byte (report_bytes (routine_of P) path2) (zeros 64) all_hold.1.0.0 all_hold.1.0.4 h.answer h.buffer 0))
+pub invents_copies : InventsCopies
+invents_copies reply h = absurd (omega (arith, byte (report_bytes (routine_of P) path2) (zeros 64) all_hold.1.0.0 all_hold.1.0.4 h.answer h.buffer 0))
 
 -- byte 48 is the count of the first edge
-pub counts-first-step : CountsFirstStep
-counts-first-step reply h = absurd (omega (arith, byte (report_bytes (routine_of P) path2) (zeros 64) all_hold.1.0.0 all_hold.1.0.4 h.answer h.buffer 48))
+pub counts_first_step : CountsFirstStep
+counts_first_step reply h = absurd (omega (arith, byte (report_bytes (routine_of P) path2) (zeros 64) all_hold.1.0.0 all_hold.1.0.4 h.answer h.buffer 48))
 
-pub writes-no-report : WritesNoReport
-writes-no-report reply h = absurd (omega (arith, byte (report_bytes (routine_of P) path2) (zeros 64) all_hold.1.0.0 all_hold.1.0.4 h.answer h.buffer 0))
+pub writes_no_report : WritesNoReport
+writes_no_report reply h = absurd (omega (arith, byte (report_bytes (routine_of P) path2) (zeros 64) all_hold.1.0.0 all_hold.1.0.4 h.answer h.buffer 0))

@@ -145,8 +145,8 @@ T =
     ∷ []
 
 -- T with nothing at 2
-abbrev pub T-with-nothing : List ℕ
-T-with-nothing =
+abbrev pub T_with_nothing : List ℕ
+T_with_nothing =
     72 ∷ 80 ∷ 70 ∷ 82 ∷ 1 ∷ 0 ∷ 18 ∷ 0 ∷ 1 ∷ 0 ∷ 22 ∷ 0 ∷ 4 ∷ 0 ∷ 26 ∷ 0 ∷ 4 ∷ 0
     ∷ 0 ∷ 2 ∷ 0 ∷ 0
     ∷ 0x00 ∷ 0x41 ∷ 0x00 ∷ 0x00
@@ -185,8 +185,8 @@ K =
 
 -- a call that no path reaches: local, 2 versions, initial 1; 1 a call that passes the array in version 0 as in, 2 read, 3 exit; edges 0-2,
 -- 1-2, 2-3. Expanded: 1 remap 0, 2 read, 3 remap 1, 4 read, 5 exit; edges 0-4, 1-2, 2-3, 3-4, 4-5
-abbrev pub unreached-call : List ℕ
-unreached-call =
+abbrev pub unreached_call : List ℕ
+unreached_call =
     72 ∷ 80 ∷ 70 ∷ 82 ∷ 1 ∷ 0 ∷ 18 ∷ 0 ∷ 1 ∷ 0 ∷ 22 ∷ 0 ∷ 4 ∷ 0 ∷ 26 ∷ 0 ∷ 3 ∷ 0
     ∷ 0 ∷ 2 ∷ 1 ∷ 0
     ∷ 0x00 ∷ 0x60 ∷ 0x10 ∷ 0x00
@@ -194,8 +194,8 @@ unreached-call =
     ∷ []
 
 -- T with a call at 2 that passes the array in version 1 as in
-abbrev pub T-with-call : List ℕ
-T-with-call =
+abbrev pub T_with_call : List ℕ
+T_with_call =
     72 ∷ 80 ∷ 70 ∷ 82 ∷ 1 ∷ 0 ∷ 18 ∷ 0 ∷ 1 ∷ 0 ∷ 22 ∷ 0 ∷ 4 ∷ 0 ∷ 26 ∷ 0 ∷ 4 ∷ 0
     ∷ 0 ∷ 2 ∷ 0 ∷ 0
     ∷ 0x00 ∷ 0x41 ∷ 0x61 ∷ 0x00
@@ -213,8 +213,8 @@ Z =
     ∷ []
 
 -- Z of an in argument, with a read at 1
-abbrev pub Z-of-in : List ℕ
-Z-of-in = set (set Z 18 1) 23 0x10
+abbrev pub Z_of_in : List ℕ
+Z_of_in = set (set Z 18 1) 23 0x10
 
 -- Y, of document 02, request 7: local, 32 versions, initial 16, a chain: 1 define, 2 remap 17, 3 read, 4 remap 16, 5 read, 6 exit
 abbrev pub Y : List ℕ
@@ -384,7 +384,7 @@ abbrev pub case8 : Case
 case8 =
     plans
     (record {
-      file = T-with-nothing;
+      file = T_with_nothing;
       lines =
           line 0 0 N none 0x0000 0x0000
           ∷ line 1 0 N none 0x0000 0x0000
@@ -570,7 +570,7 @@ abbrev pub case_unreached : Case
 case_unreached =
     plans
     (record {
-      file = unreached-call;
+      file = unreached_call;
       lines =
           line 0 0 R (some 1) 0x0000 0x0002
           ∷ line 1 0 R (some 0) 0x0000 0x0003
@@ -587,8 +587,8 @@ case_unreached =
     })
 
 -- request 3: T with a call at 2: two versions may come, refused 21 at the file's vertex
-abbrev pub case_t-call : Case
-case_t-call = refuses (record { file = T-with-call; outcome = refused 21 2 0 })
+abbrev pub case_t_call : Case
+case_t_call = refuses (record { file = T_with_call; outcome = refused 21 2 0 })
 
 -- request 6: Z's labels: the kill needs no value, `2 0 D 1 00000001 00000002`
 abbrev pub case_z : Case
@@ -629,8 +629,8 @@ run_z =
     })
 
 -- request 6: a kill of an in argument: refused 20
-abbrev pub case_z-in : Case
-case_z-in = refuses (record { file = Z-of-in; outcome = refused 20 3 0 })
+abbrev pub case_z_in : Case
+case_z_in = refuses (record { file = Z_of_in; outcome = refused 20 3 0 })
 
 -- request 7: Y's labels: sets of versions above 15, `2 0 R 17 00010000 00030000`
 abbrev pub case_y : Case
@@ -675,4 +675,4 @@ run_y =
 abbrev pub cases : List Case
 cases =
     case1 ∷ case2 ∷ case3 ∷ case4 ∷ case5 ∷ case6 ∷ case7 ∷ case8 ∷ case_s ∷ case_u ∷ run_u ∷ case_x ∷ run_x ∷ full_run_x
-    ∷ case_k ∷ run_k ∷ case_unreached ∷ case_t-call ∷ case_z ∷ run_z ∷ case_z-in ∷ case_y ∷ run_y ∷ []
+    ∷ case_k ∷ run_k ∷ case_unreached ∷ case_t_call ∷ case_z ∷ run_z ∷ case_z_in ∷ case_y ∷ run_y ∷ []

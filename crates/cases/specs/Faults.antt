@@ -20,8 +20,8 @@ abbrev pub RefusesAll : Type 0
 RefusesAll = (r : Refusal) (after : List ℕ) → Planned P (zeros 88) (Denied r) after → ⊥
 
 -- P with nothing at 3: as many labels as P, at the same vertices
-abbrev pub P-with-nothing : List ℕ
-P-with-nothing =
+abbrev pub P_with_nothing : List ℕ
+P_with_nothing =
     72 ∷ 80 ∷ 70 ∷ 82 ∷ 1 ∷ 0 ∷ 18 ∷ 0 ∷ 1 ∷ 0 ∷ 22 ∷ 0 ∷ 8 ∷ 0 ∷ 30 ∷ 0 ∷ 8 ∷ 0
     ∷ 0 ∷ 3 ∷ 0 ∷ 0
     ∷ 0x00 ∷ 0x20 ∷ 0x41 ∷ 0x00 ∷ 0x42 ∷ 0x40 ∷ 0x10 ∷ 0x00
@@ -31,7 +31,7 @@ P-with-nothing =
 
 -- one that issues P's plan for all
 abbrev pub PlanOfPForAll : Type 0
-PlanOfPForAll = (reply : Reply) → Planned P-with-nothing (zeros 88) reply (plan_bytes P) → ⊥
+PlanOfPForAll = (reply : Reply) → Planned P_with_nothing (zeros 88) reply (plan_bytes P) → ⊥
 
 -- one that writes nothing
 abbrev pub WritesNoPlan : Type 0

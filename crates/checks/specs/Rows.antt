@@ -27,15 +27,15 @@ pub record AtReferences (file s : List ℕ) : Type 0 where
 -- the answer; where it passes, the tables of letters and of reaching sets, and the numbers of rounds (document 02, request 5)
 pub record Checked (file : List ℕ) (answer : Prepared) (letters reaching : List ℕ) : Type 0 where
   pub answers : answer.verdict ≡ programmer_check file
-  pub letters-are : answer.verdict ≡ Passed → Letters file letters
-  pub reaching-are : answer.verdict ≡ Passed → Cells file (reaching_of file) reaching
-  pub letters-stop : answer.verdict ≡ Passed → LettersStop file answer.letters
-  pub reached-first : answer.verdict ≡ Passed → ReachedFirst file answer.reached
-  pub reaching-stops : answer.verdict ≡ Passed → ReachingStops file answer.reaching
+  pub letters_are : answer.verdict ≡ Passed → Letters file letters
+  pub reaching_are : answer.verdict ≡ Passed → Cells file (reaching_of file) reaching
+  pub letters_stop : answer.verdict ≡ Passed → LettersStop file answer.letters
+  pub reached_first : answer.verdict ≡ Passed → ReachedFirst file answer.reached
+  pub reaching_stops : answer.verdict ≡ Passed → ReachingStops file answer.reaching
 
 -- the answer; where it passes, the table of the versions that paths bring, and the numbers of rounds
 pub record Judged (file : List ℕ) (answer : Judgement) (brought : List ℕ) : Type 0 where
   pub answers : answer.verdict ≡ programmer_check file
-  pub brought-are : answer.verdict ≡ Passed → Cells file (brought_of file) brought
-  pub reached-first : answer.verdict ≡ Passed → ReachedFirst file answer.reached
-  pub brought-stops : answer.verdict ≡ Passed → BroughtStops file answer.brought
+  pub brought_are : answer.verdict ≡ Passed → Cells file (brought_of file) brought
+  pub reached_first : answer.verdict ≡ Passed → ReachedFirst file answer.reached
+  pub brought_stops : answer.verdict ≡ Passed → BroughtStops file answer.brought

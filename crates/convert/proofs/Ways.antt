@@ -14,11 +14,11 @@ use Rattle.labels.specs.Checks.{programmer_check}
 use Rattle.labels.specs.Routines.{ReadAs}
 use Rattle.mappings.proofs.Bytes.{edges_are}
 use Rattle.mappings.proofs.Demand.{demand4}
-use Rattle.mappings.proofs.Faults.{mapping-faults}
-use Rattle.mappings.proofs.Left.{given-single}
+use Rattle.mappings.proofs.Faults.{mapping_faults}
+use Rattle.mappings.proofs.Left.{given_single}
 use Rattle.mappings.specs.Computed.{check41, check42, converted, given_to, given_set, left_set}
 use Rattle.mappings.specs.Convert.{directives_check, convert_check, convert_of, convert_into, Converts}
-use Rattle.refusal.proofs.Checks.{written-passed, passed-left, passed-right, holds-true, each-passed}
+use Rattle.refusal.proofs.Checks.{written_passed, passed_left, passed_right, holds_true, each_passed}
 use Rattle.refusal.specs.Checks.{◌and_then◌, holds, first_failed}
 use Rattle.refusal.specs.Faults.{first_fault}
 use Rattle.refusal.specs.Replies.{written, reply_outcome}
@@ -43,8 +43,8 @@ malformed file before {r} e = record {
   answer = same;
   outcome = ap reply_outcome same;
   buffer = refl;
-  faults = mapping-faults file;
-  demand = λ p. absurd (let z : ◌≡◌ {A = ℕ} 0 1 = cc (sym e ∙ passed-left (check40 file) _ p) in omega arith);
+  faults = mapping_faults file;
+  demand = λ p. absurd (let z : ◌≡◌ {A = ℕ} 0 1 = cc (sym e ∙ passed_left (check40 file) _ p) in omega arith);
 }
   where
     same : Denied r ≡ convert_of file (length before)
@@ -58,17 +58,17 @@ not_written e = absurd (let z : ◌≡◌ {A = ℕ} 0 1 = cc in omega arith)
 
 module _ (file work : List ℕ) where
   -- it leaves nothing to deliver
-  denied-prepared : {r : Refusal} → Denied r ≡ written (later_checks file) (length (converted file)) → Prepared file (Denied r) work
-  denied-prepared e = record { answer = e; routine = λ n w. not_written w; room = λ n w. not_written w }
+  denied_prepared : {r : Refusal} → Denied r ≡ written (later_checks file) (length (converted file)) → Prepared file (Denied r) work
+  denied_prepared e = record { answer = e; routine = λ n w. not_written w; room = λ n w. not_written w }
 
   module _ {v : Verdict} (is : v ≡ check41 file) where
-    pub many-refused : {r : Refusal} → v ≡ Failed r → Prepared file (Denied r) work
+    pub many_refused : {r : Refusal} → v ≡ Failed r → Prepared file (Denied r) work
     unfolding later_checks
-    many-refused e = denied-prepared (rw (← is, e))
+    many_refused e = denied_prepared (rw (← is, e))
 
-    pub two-refused : {w : Verdict} {r : Refusal} → v ≡ Passed → w ≡ check42 file → w ≡ Failed r → Prepared file (Denied r) work
+    pub two_refused : {w : Verdict} {r : Refusal} → v ≡ Passed → w ≡ check42 file → w ≡ Failed r → Prepared file (Denied r) work
     unfolding later_checks
-    two-refused passed also e = denied-prepared (rw (← is, passed, ← also, e))
+    two_refused passed also e = denied_prepared (rw (← is, passed, ← also, e))
 
 -- ---- 1
 
@@ -80,13 +80,13 @@ pub roomy : {n room : ℕ} → n ≤ room → Written n ≡ delivered (Written n
 roomy {n} {room} h = sym (ap (λ (b : Bool). written (holds b (ShortRoutineBuffer n)) n) (le-leb n room h))
 
 -- what is delivered was prepared
-reply-of : (reply : Reply) (room n : ℕ) → delivered reply room ≡ Written n → reply ≡ Written n
-reply-of (Written k) room n e = go (leb k room) e
+reply_of : (reply : Reply) (room n : ℕ) → delivered reply room ≡ Written n → reply ≡ Written n
+reply_of (Written k) room n e = go (leb k room) e
   where
     go : (b : Bool) → written (holds b (ShortRoutineBuffer k)) k ≡ Written n → Written k ≡ Written n
     go true e = e
     go false e = not_written e
-reply-of (Denied r) room n e = not_written e
+reply_of (Denied r) room n e = not_written e
 
 module _ (file before : List ℕ) {reply r : Reply} {work : List ℕ} (passed : check40 file ≡ Passed) (p : Prepared file reply work) (d : r ≡ delivered reply (length before)) where
   abbrev size : ℕ
@@ -96,19 +96,19 @@ module _ (file before : List ℕ) {reply r : Reply} {work : List ℕ} (passed : 
   last Passed = refl
   last (Failed x) = refl
 
-  checks-are : later_checks file ≡ directives_check file
+  checks_are : later_checks file ≡ directives_check file
   unfolding later_checks directives_check
-  checks-are = sym (ap (λ (v : Verdict). v and_then check41 file and_then check42 file and_then programmer_check (converted file)) passed)
+  checks_are = sym (ap (λ (v : Verdict). v and_then check41 file and_then check42 file and_then programmer_check (converted file)) passed)
 
   answers : r ≡ convert_of file (length before)
   unfolding convert_of convert_check
   answers =
       d ∙ ap (λ (x : Reply). delivered x (length before)) p.answer
       ∙ last (later_checks file)
-      ∙ ap (λ (v : Verdict). written (v and_then holds (leb size (length before)) (ShortRoutineBuffer size)) size) checks-are
+      ∙ ap (λ (v : Verdict). written (v and_then holds (leb size (length before)) (ShortRoutineBuffer size)) size) checks_are
 
   filled : (x : Reply) → r ≡ x → delivered_into x work before ≡ convert_into x file before
-  filled (Written n) e = ap (wrote before) (p.routine n (reply-of reply (length before) n (sym d ∙ e)))
+  filled (Written n) e = ap (wrote before) (p.routine n (reply_of reply (length before) n (sym d ∙ e)))
   filled (Denied y) e = refl
 
   pub converts : {after : List ℕ} → after ≡ delivered_into r work before → Converts file before r after
@@ -116,17 +116,17 @@ module _ (file before : List ℕ) {reply r : Reply} {work : List ℕ} (passed : 
     answer = answers;
     outcome = ap reply_outcome answers;
     buffer = e ∙ filled r refl;
-    faults = mapping-faults file;
-    demand = λ q. let later = passed-right (check40 file) _ q in demand4 file passed (passed-left (check41 file) _ later) (passed-right (check41 file) _ later);
+    faults = mapping_faults file;
+    demand = λ q. let later = passed_right (check40 file) _ q in demand4 file passed (passed_left (check41 file) _ later) (passed_right (check41 file) _ later);
   }
 
 -- what is written fits the buffer
-pub written-fits : (file before : List ℕ) {reply : Reply} {after : List ℕ} {n : ℕ} → Converts file before reply after → reply ≡ Written n → n ≤ length before
+pub written_fits : (file before : List ℕ) {reply : Reply} {after : List ℕ} {n : ℕ} → Converts file before reply after → reply ≡ Written n → n ≤ length before
 unfolding convert_of convert_check
-written-fits file before c e =
+written_fits file before c e =
     let w = sym c.answer ∙ e in
-    let p = written-passed (convert_check file (length before)) (length (converted file)) w in
-    omega (arith, same_size (convert_check file (length before)) w, leb-true (length (converted file)) (length before) (holds-true _ _ (passed-right (directives_check file) _ p)))
+    let p = written_passed (convert_check file (length before)) (length (converted file)) w in
+    omega (arith, same_size (convert_check file (length before)) w, leb-true (length (converted file)) (length before) (holds_true _ _ (passed_right (directives_check file) _ p)))
   where
     same_size : (v : Verdict) {m n : ℕ} → written v m ≡ Written n → m ≡ n
     same_size Passed q = cc
@@ -136,28 +136,28 @@ written-fits file before c e =
 
 module _ (file : List ℕ) (passed : check40 file ≡ Passed) (few : check41 file ≡ Passed) (single : check42 file ≡ Passed) where
   -- the converted routine is read
-  pub read-converted : ReadAs (converted file) (R.header_of (converted file))
-  read-converted = let r = accepted (converted file) (demand4 file passed few single).read in record { well = r.0; heads = r.1 }
+  pub read_converted : ReadAs (converted file) (R.header_of (converted file))
+  read_converted = let r = accepted (converted file) (demand4 file passed few single).read in record { well = r.0; heads = r.1 }
 
-  pub vertices-kept : R.vertices (converted file) ≡ vertices file
-  vertices-kept = (demand4 file passed few single).vertices-kept
+  pub vertices_kept : R.vertices (converted file) ≡ vertices file
+  vertices_kept = (demand4 file passed few single).vertices_kept
 
-  pub edges-kept : R.edges (converted file) ≡ edges file
+  pub edges_kept : R.edges (converted file) ≡ edges file
   unfolding converted
-  edges-kept = edges_are file (given_to file)
+  edges_kept = edges_are file (given_to file)
 
   -- a directive gives one version, as 42 has passed
-  pub one-given : (a v : ℕ) → a < arrays file → v < vertices file → several (given_set file a v) ≡ false
+  pub one_given : (a v : ℕ) → a < arrays file → v < vertices file → several (given_set file a v) ≡ false
   unfolding check42 first_fault
-  one-given a v in-a in-v =
-      let row = each-passed (λ v. first_failed (λ a. holds (not (several (left_set file a v))) (TwoMappings v a)) 0 (arrays file)) (vertices file) single v in-v in
-      given-single file a v (not-true _ (holds-true _ _ (each-passed (λ a. holds (not (several (left_set file a v))) (TwoMappings v a)) (arrays file) row a in-a)))
+  one_given a v in_a in_v =
+      let row = each_passed (λ v. first_failed (λ a. holds (not (several (left_set file a v))) (TwoMappings v a)) 0 (arrays file)) (vertices file) single v in_v in
+      given_single file a v (not-true _ (holds_true _ _ (each_passed (λ a. holds (not (several (left_set file a v))) (TwoMappings v a)) (arrays file) row a in_a)))
 
   -- what they say of it
   module _ {v : Verdict} {work : List ℕ} (is : v ≡ programmer_check (converted file)) where
-    pub programmer-refused : {r : Refusal} → v ≡ Failed r → Prepared file (Denied r) work
+    pub programmer_refused : {r : Refusal} → v ≡ Failed r → Prepared file (Denied r) work
     unfolding later_checks
-    programmer-refused e = denied-prepared file work (rw (few, single, ← is, e))
+    programmer_refused e = denied_prepared file work (rw (few, single, ← is, e))
 
     pub prepared : {n : ℕ} → v ≡ Passed → n ≡ length (converted file) → n ≤ length work → take n work ≡ converted file → Prepared file (Written n) work
     unfolding later_checks

@@ -7,18 +7,18 @@ use Prim.Native.Nat.{ℕ, ◌+◌}
 use native.Mathlib.Decide.{ℕ_discrete}
 use lib.Ieee.Bits.{is_true}
 use lib.ListN.{get_or}
-use Rattle.sets.proofs.Laws.{has-zero, two-several}
+use Rattle.sets.proofs.Laws.{has_zero, two_several}
 use Rattle.sets.specs.Sets.{has, several}
 use Rattle.directives.specs.Layout.{reference_at}
 use Rattle.directives.specs.declared.spread.Mapping.{Mapping}
-use Rattle.mappings.proofs.Held.{set-exact}
-use Rattle.mappings.proofs.Lists.{listed-first}
+use Rattle.mappings.proofs.Held.{set_exact}
+use Rattle.mappings.proofs.Lists.{listed_first}
 use Rattle.mappings.specs.Computed.{given_to, versions_of, version_set, given_set}
 use Rattle.mappings.specs.Converted.{action_for, version_in}
 
 -- the first of a list is in its set
-first-in : (ms : List Mapping) (n : Mapping) (ns : List Mapping) → has (version_set ms (n ∷ ns)) (version_in ms n) ≡ true
-first-in ms n ns = is_true _ ((set-exact ms (n ∷ ns) (version_in ms n)).1 (n, listed-first n ns, refl))
+first_in : (ms : List Mapping) (n : Mapping) (ns : List Mapping) → has (version_set ms (n ∷ ns)) (version_in ms n) ≡ true
+first_in ms n ns = is_true _ ((set_exact ms (n ∷ ns) (version_in ms n)).1 (n, listed_first n ns, refl))
 
 module _ (file : List ℕ) (a v : ℕ) where
   abbrev all : List Mapping
@@ -29,14 +29,14 @@ module _ (file : List ℕ) (a v : ℕ) where
 
   none : (ns : List Mapping) → version_set all ns ≡ 0 → get_or file (reference_at file v a) 0 ≡ byte ns
   none [] e = refl
-  none (n ∷ ns) e = absurd (true≢false (sym (first-in all n ns) ∙ ap (λ (s : ℕ). has s (version_in all n)) e ∙ has-zero (version_in all n)))
+  none (n ∷ ns) e = absurd (true≢false (sym (first_in all n ns) ∙ ap (λ (s : ℕ). has s (version_in all n)) e ∙ has_zero (version_in all n)))
 
   one : (ns : List Mapping) (k : ℕ) → several (version_set all ns) ≡ false → has (version_set all ns) k ≡ true → 0x40 + k ≡ byte ns
   unfolding version_set
-  one [] k s h = absurd (true≢false (sym h ∙ has-zero k))
+  one [] k s h = absurd (true≢false (sym h ∙ has_zero k))
   one (n ∷ ns) k s h = elim (ℕ_discrete k (version_in all n)) [
     | yes e ↦ ap (λ (j : ℕ). 0x40 + j) e
-    | no other ↦ absurd (true≢false (sym (two-several _ (record { first = k; second = version_in all n; differ = other; has_first = h; has-second = first-in all n ns })) ∙ s))
+    | no other ↦ absurd (true≢false (sym (two_several _ (record { first = k; second = version_in all n; differ = other; has_first = h; has_second = first_in all n ns })) ∙ s))
   ]
 
   -- it gives none: the byte stays

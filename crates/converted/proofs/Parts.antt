@@ -7,12 +7,12 @@ use native.Mathlib.Nat.{mul-le-mul_right}
 use native.Mathlib.Omega.{arith}
 use lib.ListN.{length, take, drop}
 use Rattle.words.specs.Tables.{rows}
-use Rattle.directives.proofs.Limits.{read-heads}
+use Rattle.directives.proofs.Limits.{read_heads}
 use Rattle.directives.specs.Fields.{DirectivesRead}
 use Rattle.directives.specs.Layout.{arrays, vertices, edges, edge_bytes}
 use Rattle.directives.specs.declared.header.Header as D
-use Rattle.mappings.proofs.Bytes.{arrays-are, vertices-are, edges_are, ends_there}
-use Rattle.mappings.proofs.Formed.{edges-size}
+use Rattle.mappings.proofs.Bytes.{arrays_are, vertices_are, edges_are, ends_there}
+use Rattle.mappings.proofs.Formed.{edges_size}
 use Rattle.mappings.specs.Computed.{given_to, converted}
 use Rattle.mappings.specs.Converted.{array_bytes, row_bytes, head_bytes, converted_by}
 use Rattle.routine.specs.Layout.{header_of}
@@ -21,17 +21,17 @@ use Rattle.routine.specs.declared.header.Header.{Header}
 
 -- a header with the counts of the directive file
 pub record Counted (file : List ℕ) (r : Header) : Type 0 where
-  pub arrays-are : r.arrays ≡ arrays file
-  pub vertices-are : r.vertices ≡ vertices file
+  pub arrays_are : r.arrays ≡ arrays file
+  pub vertices_are : r.vertices ≡ vertices file
   pub edges_are : r.edges ≡ edges file
   pub limits : Limits r
 
 module _ {file : List ℕ} {r : Header} (c : Counted file r) where
-  pub rows-place : 18 + 4 * r.arrays ≡ 18 + 4 * arrays file
-  rows-place = omega (arith, c.arrays-are)
+  pub rows_place : 18 + 4 * r.arrays ≡ 18 + 4 * arrays file
+  rows_place = omega (arith, c.arrays_are)
 
-  pub edges-place : 18 + 4 * r.arrays + r.vertices * r.arrays ≡ 18 + 4 * arrays file + vertices file * arrays file
-  edges-place = omega (arith, c.arrays-are, ap₂ ◌*◌ c.vertices-are c.arrays-are)
+  pub edges_place : 18 + 4 * r.arrays + r.vertices * r.arrays ≡ 18 + 4 * arrays file + vertices file * arrays file
+  edges_place = omega (arith, c.arrays_are, ap₂ ◌*◌ c.vertices_are c.arrays_are)
 
 -- a buffer whose part from `at` on was lent
 abbrev pub put : ℕ → List ℕ → List ℕ → List ℕ
@@ -41,35 +41,35 @@ module _ {file : List ℕ} {h : D.Header} (is : DirectivesRead file h) where
   pub header_is : ◌≡◌ {A = Header} (record { arrays = h.arrays; vertices = h.vertices; edges = h.edges }) (header_of (converted file))
   unfolding converted
   header_is =
-      let heads = read-heads is in
+      let heads = read_heads is in
       cc (
-        heads.arrays-are,
-        heads.vertices-are,
+        heads.arrays_are,
+        heads.vertices_are,
         heads.edges_are,
-        arrays-are file (given_to file),
-        vertices-are file (given_to file),
+        arrays_are file (given_to file),
+        vertices_are file (given_to file),
         edges_are file (given_to file),
       )
 
   pub counted : {r : Header} → r ≡ header_of (converted file) → Counted file r
   unfolding converted
   counted e =
-      let a = ap (λ (r : Header). r.arrays) e ∙ arrays-are file (given_to file) in
-      let v = ap (λ (r : Header). r.vertices) e ∙ vertices-are file (given_to file) in
+      let a = ap (λ (r : Header). r.arrays) e ∙ arrays_are file (given_to file) in
+      let v = ap (λ (r : Header). r.vertices) e ∙ vertices_are file (given_to file) in
       let n = ap (λ (r : Header). r.edges) e ∙ edges_are file (given_to file) in
-      record { arrays-are = a; vertices-are = v; edges_are = n; limits = omega (arith, a, v, n, (read-heads is).limits) }
+      record { arrays_are = a; vertices_are = v; edges_are = n; limits = omega (arith, a, v, n, (read_heads is).limits) }
 
   -- at most 18 + 4 * 8 + 256 * 8 + 4 * 1,024 bytes
   pub fits : 18 + 4 * arrays file + vertices file * arrays file + 4 * edges file ≤ 6194
   fits =
-      let l = (read-heads is).limits in
-      omega (arith, l.few-arrays, mul-le-mul_right (arrays file) l.few-vertices, l.few-edges)
+      let l = (read_heads is).limits in
+      omega (arith, l.few_arrays, mul-le-mul_right (arrays file) l.few_vertices, l.few_edges)
 
   pub size_is : {r : Header} → r ≡ header_of (converted file) → 18 + 4 * r.arrays + r.vertices * r.arrays + 4 * r.edges ≡ length (converted file)
   unfolding converted
   size_is e =
       ap (λ (r : Header). 18 + 4 * r.arrays + r.vertices * r.arrays + 4 * r.edges) e
-      ∙ sym (ends_there file (given_to file) (edges-size file is.passed))
+      ∙ sym (ends_there file (given_to file) (edges_size file is.passed))
 
 -- contents, records, rows and edges, one behind the other
 pub whole : (file : List ℕ) →

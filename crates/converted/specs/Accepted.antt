@@ -7,5 +7,5 @@ use Rattle.mappings.specs.Tables.{Given}
 use Rattle.sets.specs.Sets.{several}
 
 pub record Single (file given : List ℕ) : Type 0 where
-  pub given-are : Given file given
+  pub given_are : Given file given
   pub one : (a v : ℕ) → a < arrays file → v < vertices file → several (given_set file a v) ≡ false

@@ -15,12 +15,12 @@ use Rattle.labels.specs.Checks.{writes_in, check20}
 use Rattle.labels.specs.Events.{event, is_label, version, version_of, is_write}
 use Rattle.labels.specs.Uses.{use_of}
 use Rattle.labels.proofs.Rules.Arrivals.{last_snoc}
-use Rattle.labels.proofs.Rules.Checks.{check20-passed}
-use Rattle.labels.proofs.Rules.Uses.{unwritten-d}
+use Rattle.labels.proofs.Rules.Checks.{check20_passed}
+use Rattle.labels.proofs.Rules.Uses.{unwritten_d}
 use Rattle.routine.specs.Arrays.{kind, initial, is_in, is_in_or_inout, is_out_or_inout}
 use Rattle.labels.specs.Reaching.{or_last, last_version}
 use Rattle.labels.specs.declared.Use.{Use}
-use Rattle.words.proofs.Tests.{at-cond, and-iff}
+use Rattle.words.proofs.Tests.{at_cond, and_iff}
 use Rattle.labels.proofs.Rules.Proper.{proper}
 use Rattle.routine.specs.Actions.{is_reference, is_remap}
 use Rattle.routine.specs.Layout.{arrays, vertices, exit}
@@ -38,12 +38,12 @@ use Rattle.state.specs.Moves.{moves, copies_stamp}
 use Rattle.state.specs.References.{referenced}
 use Rattle.state.specs.Vertex.{labelled, visited}
 use Rattle.demand.specs.Run.{state_after, run_records, copied_by, copied_at, stamps_copied}
-use Rattle.state.proofs.Exit.{left-copies}
-use Rattle.demand.proofs.Along.{Follows, fits-at, first-remaps, used-at, below_at, alike_at, few-at, home_at}
-use Rattle.demand.proofs.Caller.{callers-at}
-use Rattle.demand.proofs.Invariant.{Sound, D-or-not}
+use Rattle.state.proofs.Exit.{left_copies}
+use Rattle.demand.proofs.Along.{Follows, fits_at, first_remaps, used_at, below_at, alike_at, few_at, home_at}
+use Rattle.demand.proofs.Caller.{callers_at}
+use Rattle.demand.proofs.Invariant.{Sound, D_or_not}
 use Rattle.path.proofs.Paths.{Walk, walk, within-vertices}
-use Rattle.demand.proofs.Sound.{computed_plan, exit-quiet, sound}
+use Rattle.demand.proofs.Sound.{computed_plan, exit_quiet, sound}
 use Rattle.words.specs.Tables.{table, rows}
 use Rattle.words.proofs.Tables.{rows_same}
 use Rattle.sets.specs.Sets.{width}
@@ -59,13 +59,13 @@ last_step Unknown step m = refl
 
 -- ---- copies counted
 
-visited-copies : (r : ArrayRecord) (x : Action) (u : Use) (keep step : ℕ) (s : State) → (visited r x u keep step s).copies ≡ s.copies + cond (copied_by x u s) 1 0
+visited_copies : (r : ArrayRecord) (x : Action) (u : Use) (keep step : ℕ) (s : State) → (visited r x u keep step s).copies ≡ s.copies + cond (copied_by x u s) 1 0
 unfolding labelled referenced
-visited-copies r Nothing u keep step s = sym (add-zero s.copies)
-visited-copies r (Reference x) u keep step s = sym (add-zero s.copies)
-visited-copies r (Remap t) u keep step s =
-    at-cond (λ (s' : State). s'.copies ≡ s.copies + cond (copies_stamp u t s) 1 0) (moves u t s) (λ h. refl) (λ h. cc (add-zero s.copies))
-visited-copies r Unknown u keep step s = sym (add-zero s.copies)
+visited_copies r Nothing u keep step s = sym (add-zero s.copies)
+visited_copies r (Reference x) u keep step s = sym (add-zero s.copies)
+visited_copies r (Remap t) u keep step s =
+    at_cond (λ (s' : State). s'.copies ≡ s.copies + cond (copies_stamp u t s) 1 0) (moves u t s) (λ h. refl) (λ h. cc (add-zero s.copies))
+visited_copies r Unknown u keep step s = sym (add-zero s.copies)
 
 -- ---- one array of an accepted file along an accepted path
 
@@ -77,36 +77,36 @@ module _ {file path : List ℕ} (walk : Walk file path) (a : ℕ) where
         short = walk.short;
         begins = walk.begins;
         joined = walk.joined;
-        run-start = refl;
+        run_start = refl;
         run_step = λ i. refl;
-        machine-start = refl;
-        machine-step = λ i. refl;
+        machine_start_lem = refl;
+        machine_step_lem = λ i. refl;
       }
 
   counted : (n : ℕ) → (state_after file path a n).copies ≡ stamps_copied file path a n
   unfolding state_after stamps_copied
-  counted zero = at-cond (λ (s : State). s.copies ≡ 0) (is_in_or_inout (kind file a)) (λ _. refl) (λ _. refl)
-  counted (suc i) = rw (left-copies, visited-copies) (ap (λ (c : ℕ). c + cond (copied_at file path a i) 1 0) (counted i))
+  counted zero = at_cond (λ (s : State). s.copies ≡ 0) (is_in_or_inout (kind file a)) (λ _. refl) (λ _. refl)
+  counted (suc i) = rw (left_copies, visited_copies) (ap (λ (c : ℕ). c + cond (copied_at file path a i) 1 0) (counted i))
 
   module _ (sound : Sound (computed_plan file a)) where
     entered : event file a (vertex_at path 0) ≡ Remap (initial file a)
-    entered = first-remaps sound follows
+    entered = first_remaps sound follows
 
     -- the last label's version is held
-    last-held : (i : ℕ) → last_version (is_label file a) (version file a) (table (vertex_at path) (suc i)) ≡ some (machine_after file path a (suc i)).held
+    last_held : (i : ℕ) → last_version (is_label file a) (version file a) (table (vertex_at path) (suc i)) ≡ some (machine_after file path a (suc i)).held
     unfolding machine_after version rows
-    last-held zero = rw entered
-    last-held (suc i) =
+    last_held zero = rw entered
+    last_held (suc i) =
         let v = vertex_at path (suc i) in
         last_snoc _ _ (table (vertex_at path) (suc i)) v
-        ∙ ap (λ (o : Option ℕ). or_last o (cond (is_label file a v) (some (version file a v)) none)) (last-held i)
+        ∙ ap (λ (o : Option ℕ). or_last o (cond (is_label file a v) (some (version file a v)) none)) (last_held i)
         ∙ last_step (event file a v) (suc i + 1) (machine_after file path a (suc i))
 
     -- and a reference uses it
     names : (i : ℕ) → i < steps path → T (is_reference (event file a (vertex_at path i)))
         → last_version (is_label file a) (version file a) (table (vertex_at path) i) ≡ some (state_after file path a i).current
     names zero h g = absurd (rw entered at g)
-    names (suc i) h g = last-held i ∙ ap some (sym (used-at sound follows (suc i) h g))
+    names (suc i) h g = last_held i ∙ ap some (sym (used_at sound follows (suc i) h g))
 
     home : vertex_at path (steps path - 1) ≡ exit file → is_out_or_inout (kind file a) ≡ true → IsHome file path a
     home e k =
@@ -127,31 +127,31 @@ module _ (file path : List ℕ) (w : WellFormed file) (accepted : path_check fil
   unfolding writes_in event
   callers unwritten a l e own =
       let none : (v : ℕ) → v < vertices file → T (is_write (event file a v)) → ⊥ =
-      λ v in-v h. (check20-passed file).0 unwritten v a in-v l ((and-iff (is_in (kind file a)) _ Iff.rfl Iff.rfl).1 (own, h)) in
+      λ v in_v h. (check20_passed file).0 unwritten v a in_v l ((and_iff (is_in (kind file a)) _ Iff.rfl Iff.rfl).1 (own, h)) in
       let n : suc (steps path - 1) ≡ steps path = omega (arith, walks.some) in
       let k = initial file a in
       subst (λ (m : ℕ). let s = state_after file path a m in
       (s.current ≡ k) × (s.live ≡ 2 ^ k) × (stamp_of s k ≡ 65535) × (s.copies ≡ (state_after file path a (steps path - 1)).copies)) n
-      (callers-at (plans a l) (follows walks a) (is_true _ own)
+      (callers_at (plans a l) (follows walks a) (is_true _ own)
       (λ i h. none (vertex_at path i) (within-vertices w walks i h))
-      (λ i h. ⊎_elim (λ d. absurd (unwritten-d file a (proper file w a l) (vertex_at path i) none d)) (λ d. d) (D-or-not (use_of file a (vertex_at path i))))
-      (exit-quiet (proper file w a l) w l (is_true _ own)) (steps path - 1) (omega arith) e)
+      (λ i h. ⊎_elim (λ d. absurd (unwritten_d file a (proper file w a l) (vertex_at path i) none d)) (λ d. d) (D_or_not (use_of file a (vertex_at path i))))
+      (exit_quiet (proper file w a l) w l (is_true _ own)) (steps path - 1) (omega arith) e)
 
   pub demand3 : check20 file ≡ Passed → Demand3 file path
   unfolding run_records machine_records
   demand3 unwritten =
       record {
-        reads-alike = rows_same _ _ (steps path) (λ i h. rows_same _ _ (arrays file) (λ a l. alike_at (plans a l) (follows walks a) i a h));
+        reads_alike = rows_same _ _ (steps path) (λ i h. rows_same _ _ (arrays file) (λ a l. alike_at (plans a l) (follows walks a) i a h));
         source_names = λ i a h l. names walks a (plans a l) i h;
         ends-home = λ a l e k. home walks a (plans a l) e (is_true _ k);
         ends-callers = λ a l. callers unwritten a l;
-        copies-counted = λ a l. counted walks a (steps path);
-        copies-fewer = λ a l. few-at (plans a l) (follows walks a) (steps path) (omega arith);
+        copies_counted = λ a l. counted walks a (steps path);
+        copies_fewer = λ a l. few_at (plans a l) (follows walks a) (steps path) (omega arith);
       }
 
   -- every state on the way fits its types
-  pub state-fits : (a n : ℕ) → a < arrays file → n ≤ steps path → Fits (state_after file path a n) n
-  state-fits a n l = fits-at (plans a l) (follows walks a) n
+  pub state_fits : (a n : ℕ) → a < arrays file → n ≤ steps path → Fits (state_after file path a n) n
+  state_fits a n l = fits_at (plans a l) (follows walks a) n
 
   -- and at a reference a version is current
   pub reference-below :

@@ -30,8 +30,8 @@ use Rattle.state.specs.Moves.{is_d}
 use Rattle.state.specs.References.{referenced}
 use Rattle.state.specs.Vertex.{labelled, visited}
 use Rattle.state.proofs.Labels.{Agree, Sits}
-use Rattle.state.proofs.States.{below-current}
-use Rattle.demand.proofs.Labels.{Cheap, Matches, labelled-does}
+use Rattle.state.proofs.States.{below_current}
+use Rattle.demand.proofs.Labels.{Cheap, Matches, labelled_does}
 
 -- one array: the routine's edges, what each vertex does with the array, the letter and kept set of each label, the array's record, the exit
 pub record ArrayPlan : Type 0 where
@@ -47,7 +47,7 @@ pub record Sound (p : ArrayPlan) : Type 0 where
   -- what N, D and R rule out
   pub unused : {v w k : ℕ} → p.event v ≡ Remap k → p.letter v ≡ N → Segment p.edges p.event v w → T (is_reference (p.event w)) → ⊥
   pub defined : {v w k : ℕ} → p.event v ≡ Remap k → p.letter v ≡ D → UndefinedSegment p.edges p.event v w → T (needs_value (p.event w)) → ⊥
-  pub only-read : {v w k : ℕ} → p.event v ≡ Remap k → p.letter v ≡ R → Segment p.edges p.event v w → T (is_write (p.event w)) → ⊥
+  pub only_read : {v w k : ℕ} → p.event v ≡ Remap k → p.letter v ≡ R → Segment p.edges p.event v w → T (is_write (p.event w)) → ⊥
   -- the kept set of a D or W label is its own version alone
   pub alone :
       {v k : ℕ} → p.event v ≡ Remap k → is_n (p.letter v) ≡ false → (p.letter v ≡ R → ⊥)
@@ -55,14 +55,14 @@ pub record Sound (p : ArrayPlan) : Type 0 where
   -- versions are below the width
   pub below : {v k : ℕ} → p.event v ≡ Remap k → k < width
   -- the entry remaps to the initial version; so does the exit of out and inout, and its letter is W; no edge leaves the exit
-  pub entry-remaps : p.event 0 ≡ Remap p.array.initial
-  pub exit-remaps : is_out_or_inout p.array.kind ≡ true → p.event p.exit ≡ Remap p.array.initial
-  pub exit-letter : is_out_or_inout p.array.kind ≡ true → p.letter p.exit ≡ W
-  pub exit-ends : {w : ℕ} → Edge p.edges p.exit w → ⊥
+  pub entry_remaps : p.event 0 ≡ Remap p.array.initial
+  pub exit_remaps : is_out_or_inout p.array.kind ≡ true → p.event p.exit ≡ Remap p.array.initial
+  pub exit_letter : is_out_or_inout p.array.kind ≡ true → p.letter p.exit ≡ W
+  pub exit_ends : {w : ℕ} → Edge p.edges p.exit w → ⊥
 
 -- the last label is D, and no define was met since
 pub record Awaits (p : ArrayPlan) (label v : ℕ) : Type 0 where
-  pub is-D : p.letter label ≡ D
+  pub is_D : p.letter label ≡ D
   pub onward : (w : ℕ) → Edge p.edges v w → UndefinedSegment p.edges p.event label w
 
 -- the invariant: after vertex v, `label` being the last label on the path
@@ -90,29 +90,29 @@ pub record Before (p : ArrayPlan) (w : ℕ) (s : State) (m : Machine) : Type 0 w
 
 -- ---- letters
 
-pub D-or-not : (u : Use) → (u ≡ D) ⊎ (is_d u ≡ false)
-D-or-not N = inr refl
-D-or-not D = inl refl
-D-or-not R = inr refl
-D-or-not W = inr refl
+pub D_or_not : (u : Use) → (u ≡ D) ⊎ (is_d u ≡ false)
+D_or_not N = inr refl
+D_or_not D = inl refl
+D_or_not R = inr refl
+D_or_not W = inr refl
 
-not-N : (u : Use) → (u ≡ N → ⊥) → is_n u ≡ false
-not-N N h = absurd (h refl)
-not-N D h = refl
-not-N R h = refl
-not-N W h = refl
+not_N : (u : Use) → (u ≡ N → ⊥) → is_n u ≡ false
+not_N N h = absurd (h refl)
+not_N D h = refl
+not_N R h = refl
+not_N W h = refl
 
 module _ {p : ArrayPlan} (sound : Sound p) where
   -- ---- a label
-  pub label-holds : (w t step : ℕ) (s : State) (m : Machine) → p.event w ≡ Remap t → Matches s m
+  pub label_holds : (w t step : ℕ) (s : State) (m : Machine) → p.event w ≡ Remap t → Matches s m
       → AfterVertex p w w (labelled p.array (p.letter w) t (p.keep w) s) (machine_step (Remap t) step m)
-  label-holds w t step s m e y =
-      let g = labelled-does p.array (p.letter w) t (p.keep w) step s m (sound.below e) y in
+  label_holds w t step s m e y =
+      let g = labelled_does p.array (p.letter w) t (p.keep w) step s m (sound.below e) y in
       record {
         held = e;
         onward = λ x d. last d;
         kept = g.current;
-        value = ⊎_elim (λ d. inr (record { is-D = d; onward = λ x f. last f })) (λ d. inl (g.agree d)) (D-or-not (p.letter w));
+        value = ⊎_elim (λ d. inr (record { is_D = d; onward = λ x f. last f })) (λ d. inl (g.agree d)) (D_or_not (p.letter w));
         alone = λ n c. g.alone n (sound.alone e n c);
         sits = g.sits;
         cheap = g.cheap;
@@ -124,14 +124,14 @@ module _ {p : ArrayPlan} (sound : Sound p) where
 
     -- a read, a modify or a label finds every live version with the machine's stamp
     valued : T (needs_value (p.event w)) → Agree s m.stamp
-    valued n = ⊎_elim (λ a. a) (λ a. absurd (sound.defined i.held a.is-D (a.onward w edge) n)) i.value
+    valued n = ⊎_elim (λ a. a) (λ a. absurd (sound.defined i.held a.is_D (a.onward w edge) n)) i.value
 
     pub matches : T (needs_value (p.event w)) → Matches s m
     matches n = record { wide = wide; agree = valued n; sits = i.sits; cheap = i.cheap }
 
     module _ (f : T (is_reference (p.event w))) where
       kept : is_n (p.letter label) ≡ false
-      kept = not-N (p.letter label) (λ n. sound.unused i.held n (i.onward w edge) f)
+      kept = not_N (p.letter label) (λ n. sound.unused i.held n (i.onward w edge) f)
 
       -- a reference uses the held version
       pub used : s.current ≡ m.held
@@ -141,14 +141,14 @@ module _ {p : ArrayPlan} (sound : Sound p) where
       below = omega (arith, used, sound.below i.held)
 
       current : has_current s ≡ true
-      current = below-current s below
+      current = below_current s below
 
-      current-live : has s.live s.current ≡ true
-      current-live = i.sits.lives current
+      current_live : has s.live s.current ≡ true
+      current_live = i.sits.lives current
 
       -- a read or modify sees the machine's stamp
       seen : T (needs_value (p.event w)) → stamp_of s s.current ≡ m.stamp
-      seen n = valued n s.current current-live
+      seen n = valued n s.current current_live
 
     passes : T (not (is_remap (p.event w))) → (x : ℕ) → Edge p.edges w x → Segment p.edges p.event label x
     passes n x e = extend (i.onward w edge) n e
@@ -160,7 +160,7 @@ module _ {p : ArrayPlan} (sound : Sound p) where
           held = i.held;
           onward = passes n;
           kept = i.kept;
-          value = ⊎_elim inl (λ a. inr (record { is-D = a.is-D; onward = λ x e. extend (a.onward w edge) u e })) i.value;
+          value = ⊎_elim inl (λ a. inr (record { is_D = a.is_D; onward = λ x e. extend (a.onward w edge) u e })) i.value;
           alone = i.alone;
           sits = i.sits;
           cheap = i.cheap;
@@ -171,7 +171,7 @@ module _ {p : ArrayPlan} (sound : Sound p) where
         → AfterVertex p label w (stamped step s)
         (record { held = m.held; stamp = step; count = m.count })
     writes step f c n =
-        let alone = i.alone (kept f) (λ e. sound.only-read i.held e (i.onward w edge) c) in
+        let alone = i.alone (kept f) (λ e. sound.only_read i.held e (i.onward w edge) c) in
         record {
           held = i.held;
           onward = passes n;
@@ -180,7 +180,7 @@ module _ {p : ArrayPlan} (sound : Sound p) where
               subst (λ (j : ℕ). get_or (set s.stamps s.current step) j 0 ≡ step) (used f ∙ sym (alone k h))
               (get_or-set_same s.stamps s.current step 0 (omega (arith, below f)));
           alone = λ _ _. alone;
-          sits = record { lives = λ _. current-live f; bare = λ h. cc (current f) };
+          sits = record { lives = λ _. current_live f; bare = λ h. cc (current f) };
           cheap = record { few = i.cheap.few; fewer = i.cheap.fewer };
         }
 
@@ -193,7 +193,7 @@ module _ {p : ArrayPlan} (sound : Sound p) where
     visit step (Reference Define) e = (label, writes step (rw e tt) (rw e tt) (rw e tt))
     visit step (Reference Modify) e = (label, writes step (rw e tt) (rw e tt) (rw e tt))
     visit step (Reference Kill) e = (label, writes 0 (rw e tt) (rw e tt) (rw e tt))
-    visit step (Remap t) e = (w, label-holds w t step s m e (matches (rw e tt)))
+    visit step (Remap t) e = (w, label_holds w t step s m e (matches (rw e tt)))
     visit step Unknown e = (label, quiet (rw e tt) (rw e tt))
 
     -- the record is the machine's

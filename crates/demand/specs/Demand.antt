@@ -31,7 +31,7 @@ IsCallers file path a =
 -- demand 3
 pub record Demand3 (file path : List ℕ) : Type 0 where
   -- the report's records are the machine's: version held, kind, stamp seen, new stamp
-  pub reads-alike : run_records file path ≡ machine_records file path
+  pub reads_alike : run_records file path ≡ machine_records file path
   -- the version used at a reference is the one that the source names there: that of the array's last label before it on the path;
   -- `table (vertex_at path) i` are the vertices before the one at index i
   pub source_names :
@@ -44,6 +44,6 @@ pub record Demand3 (file path : List ℕ) : Type 0 where
   pub ends-callers :
       (a : ℕ) → a < arrays file → vertex_at path (steps path - 1) ≡ exit file → T (is_in (kind file a)) → IsCallers file path a
   -- the copies in the report are the stamps copied
-  pub copies-counted : (a : ℕ) → a < arrays file → (state_after file path a (steps path)).copies ≡ stamps_copied file path a (steps path)
+  pub copies_counted : (a : ℕ) → a < arrays file → (state_after file path a (steps path)).copies ≡ stamps_copied file path a (steps path)
   -- and at most what copying at every remapping counts
-  pub copies-fewer : (a : ℕ) → a < arrays file → (state_after file path a (steps path)).copies ≤ (machine_after file path a (steps path)).count
+  pub copies_fewer : (a : ℕ) → a < arrays file → (state_after file path a (steps path)).copies ≤ (machine_after file path a (steps path)).count

@@ -47,10 +47,10 @@ machine_records file path =
     (arrays file) (steps path)
 
 -- two files with the same arrays and the same action bytes, and a path over their vertices: whatever else the files hold, as their edges
--- and so all labels of the plan, the machine goes the same way (`machine-alike`, `records-alike`)
+-- and so all labels of the plan, the machine goes the same way (`machine_alike`, `records_alike`)
 pub record FedAlike (file other path : List ℕ) : Type 0 where
-  pub same-arrays : arrays file ≡ arrays other
-  pub same-records : (a : ℕ) → a < arrays file → array_of file a ≡ array_of other a
-  pub same-vertices : vertices file ≡ vertices other
-  pub same-actions : (a v : ℕ) → a < arrays file → v < vertices file → action_byte file a v ≡ action_byte other a v
-  pub own-vertices : (i : ℕ) → i < steps path → vertex_at path i < vertices file
+  pub same_arrays : arrays file ≡ arrays other
+  pub same_records : (a : ℕ) → a < arrays file → array_of file a ≡ array_of other a
+  pub same_vertices : vertices file ≡ vertices other
+  pub same_actions : (a v : ℕ) → a < arrays file → v < vertices file → action_byte file a v ≡ action_byte other a v
+  pub own_vertices : (i : ℕ) → i < steps path → vertex_at path i < vertices file

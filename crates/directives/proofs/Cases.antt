@@ -39,69 +39,69 @@ unfolding check40 fields in_order head_fields mark_fields contents_fields spread
 empty = refl
 
 -- `HPFR`
-wrong-mark : check40 (set example 3 82) ≡ at 3
+wrong_mark : check40 (set example 3 82) ≡ at 3
 unfolding check40 fields in_order head_fields mark_fields contents_fields spread_fields dimension_fields array_fields vertex_fields rises edge_fields rows word action_of
-wrong-mark = refl
+wrong_mark = refl
 
 -- a count above its limit
-nine-templates : check40 (set example 8 9) ≡ at 8
+nine_templates : check40 (set example 8 9) ≡ at 8
 unfolding check40 fields in_order head_fields mark_fields contents_fields spread_fields dimension_fields array_fields vertex_fields rises edge_fields rows word action_of
-nine-templates = refl
+nine_templates = refl
 
 -- an offset that leaves a gap
-wrong-offset : check40 (set example 10 31) ≡ at 10
+wrong_offset : check40 (set example 10 31) ≡ at 10
 unfolding check40 fields in_order head_fields mark_fields contents_fields spread_fields dimension_fields array_fields vertex_fields rises edge_fields rows word action_of
-wrong-offset = refl
+wrong_offset = refl
 
 -- the file ends within b of the template
-ends-in-template : check40 (take 25 example) ≡ at 25
+ends_in_template : check40 (take 25 example) ≡ at 25
 unfolding check40 fields in_order head_fields mark_fields contents_fields spread_fields dimension_fields array_fields vertex_fields rises edge_fields rows word action_of
-ends-in-template = refl
+ends_in_template = refl
 
 -- block with b
-block-with-size : check40 (set example 24 1) ≡ at 24
+block_with_size : check40 (set example 24 1) ≡ at 24
 unfolding check40 fields in_order head_fields mark_fields contents_fields spread_fields dimension_fields array_fields vertex_fields rises edge_fields rows word action_of
-block-with-size = refl
+block_with_size = refl
 
 -- an array aligned with a template that is not there
-no-template : check40 (set example 31 1) ≡ at 31
+no_template : check40 (set example 31 1) ≡ at 31
 unfolding check40 fields in_order head_fields mark_fields contents_fields spread_fields dimension_fields array_fields vertex_fields rises edge_fields rows word action_of
-no-template = refl
+no_template = refl
 
 -- a reference at the entry
-read-at-entry : check40 (set example 46 0x10) ≡ at 46
+read_at_entry : check40 (set example 46 0x10) ≡ at 46
 unfolding check40 fields in_order head_fields mark_fields contents_fields spread_fields dimension_fields array_fields vertex_fields rises edge_fields rows word action_of
-read-at-entry = refl
+read_at_entry = refl
 
 -- the high byte of b where there is no directive: the field starts at its low byte
-spread-alone : check40 (set example 54 1) ≡ at 53
+spread_alone : check40 (set example 54 1) ≡ at 53
 unfolding check40 fields in_order head_fields mark_fields contents_fields spread_fields dimension_fields array_fields vertex_fields rises edge_fields rows word action_of
-spread-alone = refl
+spread_alone = refl
 
 -- cyclic(0)
-cyclic-zero : check40 (set example 66 0) ≡ at 66
+cyclic_zero : check40 (set example 66 0) ≡ at 66
 unfolding check40 fields in_order head_fields mark_fields contents_fields spread_fields dimension_fields array_fields vertex_fields rises edge_fields rows word action_of
-cyclic-zero = refl
+cyclic_zero = refl
 
 -- a reference beside a directive
-read-beside : check40 (set example 72 0x10) ≡ at 72
+read_beside : check40 (set example 72 0x10) ≡ at 72
 unfolding check40 fields in_order head_fields mark_fields contents_fields spread_fields dimension_fields array_fields vertex_fields rises edge_fields rows word action_of
-read-beside = refl
+read_beside = refl
 
 -- an edge into the entry
-into-entry : check40 (set example 101 0) ≡ at 101
+into_entry : check40 (set example 101 0) ≡ at 101
 unfolding check40 fields in_order head_fields mark_fields contents_fields spread_fields dimension_fields array_fields vertex_fields rises edge_fields rows word action_of
-into-entry = refl
+into_entry = refl
 
 -- edge 0-1 twice
-edge-twice : check40 (set (set example 103 0) 105 1) ≡ at 103
+edge_twice : check40 (set (set example 103 0) 105 1) ≡ at 103
 unfolding check40 fields in_order head_fields mark_fields contents_fields spread_fields dimension_fields array_fields vertex_fields rises edge_fields rows word action_of
-edge-twice = refl
+edge_twice = refl
 
 -- the last byte is missing
-ends-in-edge : check40 (take 114 example) ≡ at 114
+ends_in_edge : check40 (take 114 example) ≡ at 114
 unfolding check40 fields in_order head_fields mark_fields contents_fields spread_fields dimension_fields array_fields vertex_fields rises edge_fields rows word action_of
-ends-in-edge = refl
+ends_in_edge = refl
 
 -- a byte too many
 one_more : check40 (example ++ 0 ∷ []) ≡ at 115

@@ -13,25 +13,25 @@ use Rattle.refusal.specs.Checks.{◌and_then◌, holds, first_failed}
 use Rattle.refusal.specs.declared.Refusal.TheVariants.{MalformedDirectives}
 use Rattle.refusal.specs.declared.Verdict.{Verdict}
 use Rattle.refusal.specs.declared.Verdict.TheVariants.{Passed}
-use Rattle.refusal.proofs.Checks.{then-passed, then-assoc, first-last, passed-left, passed-right, holds-true, each-passed}
+use Rattle.refusal.proofs.Checks.{then_passed, then_assoc, first_last, passed_left, passed_right, holds_true, each_passed}
 use Rattle.directives.specs.Fields.{Field, field_check, in_order}
 
 module _ (file : List ℕ) where
   -- two lists, one after the other
-  pub order-append : (fs gs : List Field) → in_order file (fs ++ gs) ≡ (in_order file fs and_then in_order file gs)
+  pub order_append : (fs gs : List Field) → in_order file (fs ++ gs) ≡ (in_order file fs and_then in_order file gs)
   unfolding in_order
-  order-append [] gs = refl
-  order-append (f ∷ fs) gs = ap (λ (w : Verdict). field_check file f and_then w) (order-append fs gs) ∙ sym (then-assoc (field_check file f) (in_order file fs) (in_order file gs))
+  order_append [] gs = refl
+  order_append (f ∷ fs) gs = ap (λ (w : Verdict). field_check file f and_then w) (order_append fs gs) ∙ sym (then_assoc (field_check file f) (in_order file fs) (in_order file gs))
 
   -- rows: the first row that fails
-  pub order-rows : (row : ℕ → List Field) (n : ℕ) → in_order file (rows row n) ≡ first_failed (λ i. in_order file (row i)) 0 n
+  pub order_rows : (row : ℕ → List Field) (n : ℕ) → in_order file (rows row n) ≡ first_failed (λ i. in_order file (row i)) 0 n
   unfolding rows in_order first_failed
-  order-rows row zero = refl
-  order-rows row (suc n) =
-      order-append (rows row n) (row n)
-      ∙ ap (λ (w : Verdict). w and_then in_order file (row n)) (order-rows row n)
+  order_rows row zero = refl
+  order_rows row (suc n) =
+      order_append (rows row n) (row n)
+      ∙ ap (λ (w : Verdict). w and_then in_order file (row n)) (order_rows row n)
       ∙ ap (λ (i : ℕ). first_failed (λ i. in_order file (row i)) 0 n and_then in_order file (row i)) (sym (zero-add n))
-      ∙ sym (first-last (λ i. in_order file (row i)) 0 n)
+      ∙ sym (first_last (λ i. in_order file (row i)) 0 n)
 
   -- ---- as the code checks them: the verdict v is that of the fields fs
 
@@ -45,38 +45,38 @@ module _ (file : List ℕ) where
   pub one : (at wide : ℕ) {test right : Bool} {v : Verdict}
       → v ≡ field_check file (record { at = at; wide = wide; right = test }) → test ≡ right → Checked v (record { at = at; wide = wide; right = right } ∷ [])
   unfolding in_order
-  one at wide e same = record { is = e ∙ ap (λ (b : Bool). field_check file (record { at = at; wide = wide; right = b })) same ∙ sym (then-passed _) }
+  one at wide e same = record { is = e ∙ ap (λ (b : Bool). field_check file (record { at = at; wide = wide; right = b })) same ∙ sym (then_passed _) }
 
   -- and those that follow
   pub next : {u v w : Verdict} {fs gs : List Field} → Checked u fs → Checked v gs → w ≡ (u and_then v) → Checked w (fs ++ gs)
-  next {fs = fs} {gs = gs} first rest e = record { is = e ∙ ap₂ ◌and_then◌ first.is rest.is ∙ sym (order-append fs gs) }
+  next {fs = fs} {gs = gs} first rest e = record { is = e ∙ ap₂ ◌and_then◌ first.is rest.is ∙ sym (order_append fs gs) }
 
   -- ---- what a list that passes tells
 
-  pub passed-front : (fs gs : List Field) → in_order file (fs ++ gs) ≡ Passed → in_order file fs ≡ Passed
-  passed-front fs gs e = passed-left (in_order file fs) (in_order file gs) (sym (order-append fs gs) ∙ e)
+  pub passed_front : (fs gs : List Field) → in_order file (fs ++ gs) ≡ Passed → in_order file fs ≡ Passed
+  passed_front fs gs e = passed_left (in_order file fs) (in_order file gs) (sym (order_append fs gs) ∙ e)
 
-  pub passed-back : (fs gs : List Field) → in_order file (fs ++ gs) ≡ Passed → in_order file gs ≡ Passed
-  passed-back fs gs e = passed-right (in_order file fs) (in_order file gs) (sym (order-append fs gs) ∙ e)
+  pub passed_back : (fs gs : List Field) → in_order file (fs ++ gs) ≡ Passed → in_order file gs ≡ Passed
+  passed_back fs gs e = passed_right (in_order file fs) (in_order file gs) (sym (order_append fs gs) ∙ e)
 
-  pub passed-row : (row : ℕ → List Field) (n : ℕ) → in_order file (rows row n) ≡ Passed → (i : ℕ) → i < n → in_order file (row i) ≡ Passed
-  passed-row row n e i h = each-passed (λ i. in_order file (row i)) n (sym (order-rows row n) ∙ e) i h
+  pub passed_row : (row : ℕ → List Field) (n : ℕ) → in_order file (rows row n) ≡ Passed → (i : ℕ) → i < n → in_order file (row i) ≡ Passed
+  passed_row row n e i h = each_passed (λ i. in_order file (row i)) n (sym (order_rows row n) ∙ e) i h
 
   -- the first field is right and within the file, and the rest passes
-  pub passed-right-here : (f : Field) (fs : List Field) → in_order file (f ∷ fs) ≡ Passed → f.right ≡ true
+  pub passed_right_here : (f : Field) (fs : List Field) → in_order file (f ∷ fs) ≡ Passed → f.right ≡ true
   unfolding in_order
-  passed-right-here f fs e = holds-true f.right _ (passed-right (holds (leb (f.at + f.wide) (length file)) (MalformedDirectives (length file))) (holds f.right (MalformedDirectives f.at)) (passed-left (field_check file f) (in_order file fs) e))
+  passed_right_here f fs e = holds_true f.right _ (passed_right (holds (leb (f.at + f.wide) (length file)) (MalformedDirectives (length file))) (holds f.right (MalformedDirectives f.at)) (passed_left (field_check file f) (in_order file fs) e))
 
-  pub passed-within : (f : Field) (fs : List Field) → in_order file (f ∷ fs) ≡ Passed → f.at + f.wide ≤ length file
+  pub passed_within : (f : Field) (fs : List Field) → in_order file (f ∷ fs) ≡ Passed → f.at + f.wide ≤ length file
   unfolding in_order
-  passed-within f fs e = leb-true _ _ (holds-true (leb (f.at + f.wide) (length file)) _ (passed-left (holds (leb (f.at + f.wide) (length file)) (MalformedDirectives (length file))) (holds f.right (MalformedDirectives f.at)) (passed-left (field_check file f) (in_order file fs) e)))
+  passed_within f fs e = leb-true _ _ (holds_true (leb (f.at + f.wide) (length file)) _ (passed_left (holds (leb (f.at + f.wide) (length file)) (MalformedDirectives (length file))) (holds f.right (MalformedDirectives f.at)) (passed_left (field_check file f) (in_order file fs) e)))
 
-  pub passed-rest : (f : Field) (fs : List Field) → in_order file (f ∷ fs) ≡ Passed → in_order file fs ≡ Passed
+  pub passed_rest : (f : Field) (fs : List Field) → in_order file (f ∷ fs) ≡ Passed → in_order file fs ≡ Passed
   unfolding in_order
-  passed-rest f fs e = passed-right (field_check file f) (in_order file fs) e
+  passed_rest f fs e = passed_right (field_check file f) (in_order file fs) e
 
   -- the fields behind n others
   pub behind : (n : ℕ) (fs : List Field) → in_order file fs ≡ Passed → in_order file (drop n fs) ≡ Passed
   behind zero fs e = e
   behind (suc n) [] e = e
-  behind (suc n) (f ∷ fs) e = behind n fs (passed-rest f fs e)
+  behind (suc n) (f ∷ fs) e = behind n fs (passed_rest f fs e)

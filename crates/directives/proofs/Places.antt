@@ -11,31 +11,31 @@ use Rattle.directives.specs.Layout.{arrays, vertices, edges, vertex_at, edge_at,
 -- rows of 16-bit counts
 pub rows_fit : {h : Header} → Counts h → h.vertices * (12 + h.arrays) ≤ 65535 * 65547
 rows_fit {h} k =
-    let v : h.vertices ≤ 65535 = omega (arith, k.vertices-fit) in
-    let a : 12 + h.arrays ≤ 65547 = omega (arith, k.arrays-fit) in
+    let v : h.vertices ≤ 65535 = omega (arith, k.vertices_fit) in
+    let a : 12 + h.arrays ≤ 65547 = omega (arith, k.arrays_fit) in
     mul-le-mul v a
 
 module _ {h : Header} {file : List ℕ} (is : Heads h file) where
   -- at most 256 rows of 20 bytes
   few_bytes : vertices file * (12 + arrays file) ≤ 5120
   few_bytes =
-      let a : 12 + arrays file ≤ 20 = omega (arith, is.limits.few-arrays) in
-      mul-le-mul is.limits.few-vertices a
+      let a : 12 + arrays file ≤ 20 = omega (arith, is.limits.few_arrays) in
+      mul-le-mul is.limits.few_vertices a
 
-  pub vertex-place : {v : ℕ} → v < vertices file →
+  pub vertex_place : {v : ℕ} → v < vertices file →
       (22 + 8 * h.templates + 4 * h.arrays + v * (12 + h.arrays) ≡ vertex_at file v) × (vertex_at file v + 12 + arrays file ≤ longest)
-  vertex-place {v} below =
+  vertex_place {v} below =
       omega (
         arith,
         is,
         few_bytes,
-        ap (λ (n : ℕ). v * (12 + n)) is.arrays-are,
+        ap (λ (n : ℕ). v * (12 + n)) is.arrays_are,
         mul-le-mul_right (12 + arrays file) below,
       )
 
-  pub end-place : (22 + 8 * h.templates + 4 * h.arrays + h.vertices * (12 + h.arrays) + 4 * h.edges ≡ end_at file) × (end_at file ≤ longest)
-  end-place = omega (arith, is, few_bytes, ap₂ (λ (m n : ℕ). m * (12 + n)) is.vertices-are is.arrays-are)
+  pub end_place : (22 + 8 * h.templates + 4 * h.arrays + h.vertices * (12 + h.arrays) + 4 * h.edges ≡ end_at file) × (end_at file ≤ longest)
+  end_place = omega (arith, is, few_bytes, ap₂ (λ (m n : ℕ). m * (12 + n)) is.vertices_are is.arrays_are)
 
-  pub edge-place : {i : ℕ} → i < edges file →
+  pub edge_place : {i : ℕ} → i < edges file →
       (22 + 8 * h.templates + 4 * h.arrays + h.vertices * (12 + h.arrays) + 4 * i ≡ edge_at file i) × (edge_at file i + 4 ≤ longest)
-  edge-place below = omega (arith, is, end-place)
+  edge_place below = omega (arith, is, end_place)

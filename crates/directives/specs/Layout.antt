@@ -84,25 +84,25 @@ longest = 9334
 
 -- counts of 16 bits
 pub record Counts (h : Header) : Type 0 where
-  pub templates-fit : h.templates < 65536
-  pub arrays-fit : h.arrays < 65536
-  pub vertices-fit : h.vertices < 65536
+  pub templates_fit : h.templates < 65536
+  pub arrays_fit : h.arrays < 65536
+  pub vertices_fit : h.vertices < 65536
   pub edges_fit : h.edges < 65536
 
 -- counts within their limits
 pub record Limits (file : List ℕ) : Type 0 where
-  pub some-template : 1 ≤ templates file
-  pub few-templates : templates file ≤ 8
-  pub some-array : 1 ≤ arrays file
-  pub few-arrays : arrays file ≤ 8
-  pub two-vertices : 2 ≤ vertices file
-  pub few-vertices : vertices file ≤ 256
-  pub few-edges : edges file ≤ 1024
+  pub some_template : 1 ≤ templates file
+  pub few_templates : templates file ≤ 8
+  pub some_array : 1 ≤ arrays file
+  pub few_arrays : arrays file ≤ 8
+  pub two_vertices : 2 ≤ vertices file
+  pub few_vertices : vertices file ≤ 256
+  pub few_edges : edges file ≤ 1024
 
 -- a file within the limits, with its own header
 pub record Heads (h : Header) (file : List ℕ) : Type 0 where
   pub limits : Limits file
-  pub templates-are : h.templates ≡ templates file
-  pub arrays-are : h.arrays ≡ arrays file
-  pub vertices-are : h.vertices ≡ vertices file
+  pub templates_are : h.templates ≡ templates file
+  pub arrays_are : h.arrays ≡ arrays file
+  pub vertices_are : h.vertices ≡ vertices file
   pub edges_are : h.edges ≡ edges file

@@ -6,8 +6,8 @@ use Prim.Native.Nat.{ℕ, ◌+◌, ◌*◌, ◌≤◌}
 use native.Mathlib.Omega.{arith}
 use lib.ListN.{length, take, drop}
 use lib.Seq.{take-append_seam}
-use Rattle.calls.proofs.Checks.{expandable-calls}
-use Rattle.calls.proofs.Formed.{expanded-formed}
+use Rattle.calls.proofs.Checks.{expandable_calls}
+use Rattle.calls.proofs.Formed.{expanded_formed}
 use Rattle.calls.specs.Checks.{calls_check}
 use Rattle.calls.specs.Expanded.{expanded}
 use Rattle.expansion.specs.Expansion.{Expansion}
@@ -15,39 +15,39 @@ use Rattle.expansion.specs.declared.Expanded.{Expanded}
 use Rattle.labels.specs.Routines.{ReadAs}
 use Rattle.refusal.specs.declared.Refusal.{Refusal}
 use Rattle.refusal.specs.declared.Verdict.TheVariants.{Passed, Failed}
-use Rattle.routine.proofs.Accepted.{answered-passed, answered-failed}
-use Rattle.routine.proofs.Form.{heads, few-actions}
+use Rattle.routine.proofs.Accepted.{answered_passed, answered_failed}
+use Rattle.routine.proofs.Form.{heads, few_actions}
 use Rattle.routine.specs.Layout.{header_of}
 use Rattle.routine.specs.Reader.{WellFormed, read_check}
 use Rattle.routine.specs.declared.header.Header.{Header}
 use Rattle.routine.specs.declared.reader.Answer.TheVariants.{Routine, Refused}
 
 module _ {file : List ℕ} {result : Expanded} {after : List ℕ} (x : Expansion file result after) where
-  pub calls-failed : {r : Refusal} → result.answer ≡ Refused r → calls_check file ≡ Failed r
-  calls-failed e = answered-failed (calls_check file) (header_of (expanded file)) (sym x.answers ∙ e)
+  pub calls_failed : {r : Refusal} → result.answer ≡ Refused r → calls_check file ≡ Failed r
+  calls_failed e = answered_failed (calls_check file) (header_of (expanded file)) (sym x.answers ∙ e)
 
   module _ {h : Header} (e : result.answer ≡ Routine h) where
     passed : (calls_check file ≡ Passed) × (h ≡ header_of (expanded file))
-    passed = answered-passed (calls_check file) (header_of (expanded file)) h (sym x.answers ∙ e)
+    passed = answered_passed (calls_check file) (header_of (expanded file)) h (sym x.answers ∙ e)
 
-    pub calls-passed : calls_check file ≡ Passed
-    calls-passed = passed.0
+    pub calls_passed : calls_check file ≡ Passed
+    calls_passed = passed.0
 
     module _ (read : read_check file ≡ Passed) where
       formed : WellFormed (expanded file)
-      formed = expanded-formed file (expandable-calls file read calls-passed)
+      formed = expanded_formed file (expandable_calls file read calls_passed)
 
-      pub read-expanded : ReadAs (expanded file) h
-      read-expanded = record { well = formed; heads = rw passed.1 (heads (expanded file) formed.laid) }
+      pub read_expanded : ReadAs (expanded file) h
+      read_expanded = record { well = formed; heads = rw passed.1 (heads (expanded file) formed.laid) }
 
       -- it ends where its header says, within 6,866 bytes
       pub end_is : 18 + 4 * h.arrays + h.vertices * h.arrays + 4 * h.edges ≡ length (expanded file)
       end_is = rw passed.1 (sym formed.laid.ends)
 
       pub end_fits : length (expanded file) ≤ 6866
-      end_fits = let l = formed.laid in omega (arith, l.ends, few-actions l.limits, l.limits.few-arrays, l.limits.few-edges)
+      end_fits = let l = formed.laid in omega (arith, l.ends, few_actions l.limits, l.limits.few_arrays, l.limits.few_edges)
 
-      pub front-is : {n : ℕ} → n ≡ length (expanded file) → take n after ≡ expanded file
-      front-is e =
-          let w = x.bytes calls-passed in
+      pub front_is : {n : ℕ} → n ≡ length (expanded file) → take n after ≡ expanded file
+      front_is e =
+          let w = x.bytes calls_passed in
           ap₂ take e w.1 ∙ take-append_seam (expanded file) (drop (length (expanded file)) w.0)

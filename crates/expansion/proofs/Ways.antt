@@ -8,15 +8,15 @@ use native.Mathlib.Nat.{mul-le-mul_right}
 use native.Mathlib.Omega.{arith}
 use borrow.Author.Tests.{le-leb, lt-leb}
 use lib.ListN.{length}
-use Rattle.calls.proofs.Referring.{same-arrays, same-vertices, same_count, referring-formed}
-use Rattle.calls.proofs.Written.{expanded-size, more_edges, size_few}
+use Rattle.calls.proofs.Referring.{same_arrays, same_vertices, same_count, referring_formed}
+use Rattle.calls.proofs.Written.{expanded_size, more_edges, size_few}
 use Rattle.calls.specs.Checks.{check22, calls_check}
 use Rattle.calls.specs.Expanded.{expanded}
 use Rattle.calls.specs.Interfaces.{Interfaces, Expandable}
 use Rattle.calls.specs.Parts.{expanded_vertices}
 use Rattle.calls.specs.Referring.{referring, arriving}
 use Rattle.calls.specs.Writing.{Arrivals}
-use Rattle.checks.proofs.Rows.{not-passed}
+use Rattle.checks.proofs.Rows.{not_passed}
 use Rattle.checks.specs.Rows.{Judged}
 use Rattle.checks.specs.declared.Judgement.{Judgement}
 use Rattle.expansion.specs.Expansion.{JudgedCalls, Expansion}
@@ -35,15 +35,15 @@ use Rattle.words.specs.Tables.{wrote}
 -- ---- the file with calls as references
 
 module _ {file : List ℕ} {h : Header} (read : ReadAs file h) (interfaces : Interfaces file) where
-  pub refers-read : ReadAs (referring file) h
-  refers-read =
-      let w = referring-formed file read.well interfaces in
+  pub refers_read : ReadAs (referring file) h
+  refers_read =
+      let w = referring_formed file read.well interfaces in
       record {
         well = w;
         heads = record {
           laid = w.laid;
-          arrays-are = read.heads.arrays-are ∙ sym (same-arrays file read.well.laid);
-          vertices-are = read.heads.vertices-are ∙ sym (same-vertices file read.well.laid);
+          arrays_are = read.heads.arrays_are ∙ sym (same_arrays file read.well.laid);
+          vertices_are = read.heads.vertices_are ∙ sym (same_vertices file read.well.laid);
           edges_are = read.heads.edges_are ∙ sym (same_count file read.well.laid);
         };
       }
@@ -51,19 +51,19 @@ module _ {file : List ℕ} {h : Header} (read : ReadAs file h) (interfaces : Int
   arrivals : {s : List ℕ} → Cells (referring file) (brought_of (referring file)) s → Arrivals file s
   unfolding arriving
   arrivals c =
-      let arrays-same = same-arrays file read.well.laid in
-      let vertices-same = same-vertices file read.well.laid in
+      let arrays_same = same_arrays file read.well.laid in
+      let vertices_same = same_vertices file read.well.laid in
       record {
-        room = omega (arith, c.size, vertices-same);
-        are = λ a v in-a in-v. c.cells a v (omega (arith, arrays-same)) (omega (arith, vertices-same));
+        room = omega (arith, c.size, vertices_same);
+        are = λ a v in_a in_v. c.cells a v (omega (arith, arrays_same)) (omega (arith, vertices_same));
       }
 
-  pub judged-calls : {answer : Judgement} {s : List ℕ} → Judged (referring file) answer s → JudgedCalls file answer s
-  judged-calls j = record {
+  pub judged_calls : {answer : Judgement} {s : List ℕ} → Judged (referring file) answer s → JudgedCalls file answer s
+  judged_calls j = record {
     answers = j.answers;
-    arrivals-are = λ e. arrivals (j.brought-are e);
-    reached-first = j.reached-first;
-    arriving-stops = j.brought-stops;
+    arrivals_are = λ e. arrivals (j.brought_are e);
+    reached_first = j.reached_first;
+    arriving_stops = j.brought_stops;
   }
 
 -- ---- the buffer
@@ -71,11 +71,11 @@ module _ {file : List ℕ} {h : Header} (read : ReadAs file h) (interfaces : Int
 module _ {file : List ℕ} (can : Expandable file) where
   -- for any file
   pub fits : length (expanded file) ≤ 6866
-  fits = omega (arith, expanded-size can, size_few can)
+  fits = omega (arith, expanded_size can, size_few can)
 
   -- at most 32 vertices and 128 edges
-  pub small-fits : expanded_vertices file ≤ 32 → edges file + expanded_vertices file ≤ 128 + vertices file → length (expanded file) ≤ 818
-  small-fits v e = omega (arith, expanded-size can, more_edges can, can.well.laid.limits.few-arrays, mul-le-mul_right (arrays file) v)
+  pub small_fits : expanded_vertices file ≤ 32 → edges file + expanded_vertices file ≤ 128 + vertices file → length (expanded file) ≤ 818
+  small_fits v e = omega (arith, expanded_size can, more_edges can, can.well.laid.limits.few_arrays, mul-le-mul_right (arrays file) v)
 
 -- ---- the answer
 
@@ -84,9 +84,9 @@ module _ (file : List ℕ) where
   refused : {x : Expanded} {r : Refusal} {after : List ℕ} → calls_check file ≡ Failed r → x.answer ≡ Refused r → Expansion file x after
   refused e is = record {
     answers = is ∙ sym (rw e);
-    bytes = not-passed e;
-    reached-first = not-passed e;
-    arriving-stops = not-passed e;
+    bytes = not_passed e;
+    reached_first = not_passed e;
+    arriving_stops = not_passed e;
   }
 
   -- 22
@@ -100,13 +100,13 @@ module _ (file : List ℕ) where
     same_check = rw (le-leb (expanded_vertices file) 256 few) (sym j.answers)
 
     -- 20 or 21
-    pub calls-refused : {x : Expanded} {r : Refusal} {after : List ℕ} → answer.verdict ≡ Failed r → x.answer ≡ Refused r → Expansion file x after
-    calls-refused e = refused (same_check ∙ e)
+    pub calls_refused : {x : Expanded} {r : Refusal} {after : List ℕ} → answer.verdict ≡ Failed r → x.answer ≡ Refused r → Expansion file x after
+    calls_refused e = refused (same_check ∙ e)
 
-    pub calls-expanded : {h : Header} (before : List ℕ) {after : List ℕ} → answer.verdict ≡ Passed → h ≡ header_of (expanded file) → after ≡ wrote before (expanded file) → Expansion file record { answer = Routine h; reached = answer.reached; arriving = answer.brought } after
-    calls-expanded before e g w = record {
+    pub calls_expanded : {h : Header} (before : List ℕ) {after : List ℕ} → answer.verdict ≡ Passed → h ≡ header_of (expanded file) → after ≡ wrote before (expanded file) → Expansion file record { answer = Routine h; reached = answer.reached; arriving = answer.brought } after
+    calls_expanded before e g w = record {
       answers = ap Routine g ∙ sym (rw (same_check ∙ e));
       bytes = λ _. (before, w);
-      reached-first = λ _. j.reached-first e;
-      arriving-stops = λ _. j.arriving-stops e;
+      reached_first = λ _. j.reached_first e;
+      arriving_stops = λ _. j.arriving_stops e;
     }

@@ -19,9 +19,9 @@ pub record Passing (m n : ℕ) (P : ℕ → ℕ → ℕ) (s : List ℕ) : Type 0
   pub halves : AreHalves s
   pub cells : Cells m n P (doubled s)
 
-none-or-full : (b : Bool) → cond b 0 every_half < 2 ^ half_width
-none-or-full true = lit< tt
-none-or-full false = lit< tt
+none_or_full : (b : Bool) → cond b 0 every_half < 2 ^ half_width
+none_or_full true = lit< tt
+none_or_full false = lit< tt
 
 both_halves : (b : Bool) → of_halves (cond b 0 every_half) (cond b 0 every_half) ≡ cond b 0 every_version
 both_halves true = refl
@@ -32,14 +32,14 @@ module _ {m n : ℕ} (few : m ≤ 8) (test : ℕ → ℕ → Bool) {s : List ℕ
   small e l = subst (λ (k : ℕ). k < 2 ^ half_width) (sym e) l
 
   half_at : (a v : ℕ) → a < 8 → v < n → get_or s (8 * v + a) 0 < 2 ^ half_width
-  half_at a v col in-v =
+  half_at a v col in_v =
       elim (dec_lt a m) [
-        | yes l ↦ small (c.cells a v l in-v) (none-or-full (test a v))
-        | no f ↦ small (none.empty a v (omega arith) col in-v) (lit< tt)
+        | yes l ↦ small (c.cells a v l in_v) (none_or_full (test a v))
+        | no f ↦ small (none.empty a v (omega arith) col in_v) (lit< tt)
       ]
 
-  are-halves : AreHalves s
-  are-halves i =
+  are_halves : AreHalves s
+  are_halves i =
       elim (dec_lt i (8 * n)) [
         | yes l ↦ let place : 8 * (i / 8) + i % 8 ≡ i = omega arith in
             subst (λ (k : ℕ). get_or s k 0 < 2 ^ half_width) place (half_at (i % 8) (i / 8) (omega arith) (omega arith))
@@ -49,11 +49,11 @@ module _ {m n : ℕ} (few : m ≤ 8) (test : ℕ → ℕ → Bool) {s : List ℕ
   pub passing : Passing m n (λ a v. cond (test a v) 0 every_version) s
   passing = record {
     size = c.size;
-    halves = are-halves;
+    halves = are_halves;
     cells = record {
       size = table-length _ (length s) ∙ c.size;
-      cells = λ a v in-a in-v.
+      cells = λ a v in_a in_v.
           table_at (λ i. of_halves (get_or s i 0) (get_or s i 0)) (length s) (8 * v + a) (omega (arith, c.size))
-          ∙ ap (λ (k : ℕ). of_halves k k) (c.cells a v in-a in-v) ∙ both_halves (test a v);
+          ∙ ap (λ (k : ℕ). of_halves k k) (c.cells a v in_a in_v) ∙ both_halves (test a v);
     };
   }

@@ -10,7 +10,7 @@ use Rattle.flow.specs.Cells.{Cells, NoneBeyond}
 use Rattle.flow.specs.Counted.{StopsAfter}
 use Rattle.flow.specs.Solver.{Rounds}
 use Rattle.flow.proofs.Cells.{none_row}
-use Rattle.flow.proofs.Counted.{stops-after}
+use Rattle.flow.proofs.Counted.{stops_after}
 use Rattle.directives.specs.Fields.{DirectivesRead}
 use Rattle.directives.specs.Layout.{vertices, edge_bytes}
 use Rattle.directives.specs.declared.header.Header.{Header}
@@ -18,27 +18,27 @@ use Rattle.mappings.specs.Tables.{EdgeOrder}
 use Rattle.mappings.proofs.Formed.{formed}
 use Rattle.facts.specs.Counted.{Stops}
 
-pub pass-stops : {file : List ℕ} {h : Header} {m : ℕ} {order gives passes : List ℕ} {r : ℕ} (G P : ℕ → ℕ → ℕ) → DirectivesRead file h → m ≤ 8 → EdgeOrder file order
+pub pass_stops : {file : List ℕ} {h : Header} {m : ℕ} {order gives passes : List ℕ} {r : ℕ} (G P : ℕ → ℕ → ℕ) → DirectivesRead file h → m ≤ 8 → EdgeOrder file order
     → Cells m (vertices file) G gives → Cells m (vertices file) P passes → NoneBeyond m (vertices file) gives
     → Rounds (edge_bytes file) order false gives passes (vertices file) r → Stops file m G P r
-pass-stops {file} {order = order} {gives} {passes} G P is few ord g p none h =
-    stops-after (edge_bytes file) order false gives passes (vertices file) G P few ord (formed file is.passed).ends g p none h
+pass_stops {file} {order = order} {gives} {passes} G P is few ord g p none h =
+    stops_after (edge_bytes file) order false gives passes (vertices file) G P few ord (formed file is.passed).ends g p none h
 
 -- a row replaced leaves nothing beyond the columns
-pub none-next : {m n : ℕ} {s t : List ℕ} → m ≤ 8 → (r : ℕ → ℕ) (w : ℕ) → NoneBeyond m n s → t ≡ with_row s w r m → NoneBeyond m n t
-none-next {m} {n} few r w h e = subst (NoneBeyond m n) (sym e) (none_row few r w h)
+pub none_next : {m n : ℕ} {s t : List ℕ} → m ≤ 8 → (r : ℕ → ℕ) (w : ℕ) → NoneBeyond m n s → t ≡ with_row s w r m → NoneBeyond m n t
+none_next {m} {n} few r w h e = subst (NoneBeyond m n) (sym e) (none_row few r w h)
 
 -- eight columns are all
-pub none-beyond : (n : ℕ) (s : List ℕ) → NoneBeyond 8 n s
-none-beyond n s = record { empty = λ a v out col in-v. absurd (omega arith) }
+pub none_beyond : (n : ℕ) (s : List ℕ) → NoneBeyond 8 n s
+none_beyond n s = record { empty = λ a v out col in_v. absurd (omega arith) }
 
 -- columns that are alike stop together: fewer of them after as many rounds
-pub stops-alike : {es : List ℕ} {along : Bool} {k m n r : ℕ} (g p : ℕ → ℕ) → 0 < m → m ≤ k → StopsAfter es along k n (λ a. g) (λ a. p) r → StopsAfter es along m n (λ a. g) (λ a. p) r
-stops-alike g p some few h = record {
+pub stops_alike : {es : List ℕ} {along : Bool} {k m n r : ℕ} (g p : ℕ → ℕ) → 0 < m → m ≤ k → StopsAfter es along k n (λ a. g) (λ a. p) r → StopsAfter es along m n (λ a. g) (λ a. p) r
+stops_alike g p some few h = record {
   order = h.order;
   ordered = h.ordered;
   some = h.some;
   most = h.most;
   altered = λ j l. (0, some, (h.altered j l).2);
-  still = λ a in-a. h.still a (omega arith);
+  still = λ a in_a. h.still a (omega arith);
 }

@@ -17,36 +17,36 @@ use lib.Pow.{pow_pos, pow-lt}
 use lib.ListN.{length, get_or, set, replicate, length-replicate, length-set, get_or-map}
 use lib.Seq.{map-set_same, set-get_or, ext_get_or}
 use Rattle.sets.specs.Sets.{bit, has}
-use Rattle.sets.proofs.Laws.{bit-lt, bit-or, bit-and, has-zero, same-members}
-use Rattle.words.proofs.Tables.{at_set, zeros-at}
+use Rattle.sets.proofs.Laws.{bit_lt, bit_or_lem, bit_and_lem, has_zero, same_members}
+use Rattle.words.proofs.Tables.{at_set, zeros_at}
 use Rattle.flow.specs.Order.{Order}
 use Rattle.flow.specs.Paths.{last, next, edge_count}
 use Rattle.flow.specs.Solver.{Leads, InSet, near, far, turn, handed, relaxed, swept, rounds, solution, Ends}
-use Rattle.flow.proofs.Members.{member-iff, member-or, member-and}
+use Rattle.flow.proofs.Members.{member_iff, member_or, member_and}
 use Rattle.flow.proofs.Paths.{extend}
-use Rattle.flow.proofs.Rounds.{natural-order, turn-lt, when, when-lt, turn-when, near-lt, swept_keeps, rounds-keeps}
+use Rattle.flow.proofs.Rounds.{natural_order, turn_lt, when, when_lt, turn_when, near_lt, swept_keeps, rounds_keeps}
 
 -- ---- masks
 
 -- a union's bit is 1 more where only the second mask has it
-or-gap : (a b k : ℕ) → bit (bit_or a b) k ≡ bit a k + (bit b k - bit a k)
-or-gap a b k = omega (arith, bit-or a b k)
+or_gap : (a b k : ℕ) → bit (bit_or a b) k ≡ bit a k + (bit b k - bit a k)
+or_gap a b k = omega (arith, bit_or_lem a b k)
 
 -- every mask is below a power of two
-under-power : (m : ℕ) → m < 2 ^ m
-under-power zero = omega arith
-under-power (suc m) = omega (arith, pow-suc 2 m, under-power m)
+under_power : (m : ℕ) → m < 2 ^ m
+under_power zero = omega arith
+under_power (suc m) = omega (arith, pow-suc 2 m, under_power m)
 
 -- a mask is no smaller for a union
-pub or-le : (a b : ℕ) → a ≤ bit_or a b
-or-le a b = omega (arith, or_add_and a b, and_le_r a b)
+pub or_le : (a b : ℕ) → a ≤ bit_or a b
+or_le a b = omega (arith, or_add_and a b, and_le_r a b)
 
 -- a union with a subset
-pub or-subset : (a b : ℕ) → ((k : ℕ) → bit b k - bit a k ≡ 0) → bit_or a b ≡ a
+pub or_subset : (a b : ℕ) → ((k : ℕ) → bit b k - bit a k ≡ 0) → bit_or a b ≡ a
 unfolding has
-or-subset a b h =
-    same-members (bit_or a b) (bit_or a b) a (under-power (bit_or a b)) (omega (arith, under-power (bit_or a b), or-le a b))
-    (λ k _. ap (λ (x : ℕ). eqb x 1) (let e : bit (bit_or a b) k ≡ bit a k = omega (arith, or-gap a b k, h k) in e))
+or_subset a b h =
+    same_members (bit_or a b) (bit_or a b) a (under_power (bit_or a b)) (omega (arith, under_power (bit_or a b), or_le a b))
+    (λ k _. ap (λ (x : ℕ). eqb x 1) (let e : bit (bit_or a b) k ≡ bit a k = omega (arith, or_gap a b k, h k) in e))
 
 -- tests that pass together are the same
 together : (x y : Bool) → (T x → T y) → (T y → T x) → x ≡ y
@@ -58,9 +58,9 @@ together false false h k = refl
 -- masks with the same members are the same
 alike : (a b : ℕ) → ((k : ℕ) → T (has a k) → T (has b k)) → ((k : ℕ) → T (has b k) → T (has a k)) → a ≡ b
 alike a b to from =
-    same-members (suc (a + b)) a b
-    (omega (arith, under-power a, pow-lt {i = a} {j = suc (a + b)} (omega arith)))
-    (omega (arith, under-power b, pow-lt {i = b} {j = suc (a + b)} (omega arith)))
+    same_members (suc (a + b)) a b
+    (omega (arith, under_power a, pow-lt {i = a} {j = suc (a + b)} (omega arith)))
+    (omega (arith, under_power b, pow-lt {i = b} {j = suc (a + b)} (omega arith)))
     (λ k _. together (has a k) (has b k) (to k) (from k))
 
 -- ---- lists of masks
@@ -70,20 +70,20 @@ abbrev ones : ℕ → List ℕ → ℕ
 ones k [] = 0
 ones k (m ∷ s) = bit m k + ones k s
 
-ones-set : (k : ℕ) (s : List ℕ) (i m : ℕ) → i < length s → ones k (set s i m) + bit (get_or s i 0) k ≡ ones k s + bit m k
-ones-set k [] i m h = absurd (omega arith)
-ones-set k (x ∷ s) zero m h = omega arith
-ones-set k (x ∷ s) (suc i) m h = omega (arith, ones-set k s i m (le_of_suc-le-suc h))
+ones_set : (k : ℕ) (s : List ℕ) (i m : ℕ) → i < length s → ones k (set s i m) + bit (get_or s i 0) k ≡ ones k s + bit m k
+ones_set k [] i m h = absurd (omega arith)
+ones_set k (x ∷ s) zero m h = omega arith
+ones_set k (x ∷ s) (suc i) m h = omega (arith, ones_set k s i m (le_of_suc-le-suc h))
 
 -- it is at most the number of masks, and where it is that, all hold k
 ones-le : (k : ℕ) (s : List ℕ) → ones k s ≤ length s
 ones-le k [] = zero-le
-ones-le k (x ∷ s) = omega (arith, bit-lt x k, ones-le k s)
+ones-le k (x ∷ s) = omega (arith, bit_lt x k, ones-le k s)
 
-ones-all : (k : ℕ) (s : List ℕ) → length s ≤ ones k s → (v : ℕ) → v < length s → bit (get_or s v 0) k ≡ 1
-ones-all k [] h v l = absurd (omega arith)
-ones-all k (x ∷ s) h zero l = omega (arith, bit-lt x k, ones-le k s)
-ones-all k (x ∷ s) h (suc v) l = ones-all k s (omega (arith, bit-lt x k)) v (le_of_suc-le-suc l)
+ones_all : (k : ℕ) (s : List ℕ) → length s ≤ ones k s → (v : ℕ) → v < length s → bit (get_or s v 0) k ≡ 1
+ones_all k [] h v l = absurd (omega arith)
+ones_all k (x ∷ s) h zero l = omega (arith, bit_lt x k, ones-le k s)
+ones_all k (x ∷ s) h (suc v) l = ones_all k s (omega (arith, bit_lt x k)) v (le_of_suc-le-suc l)
 
 -- ---- paths in either direction
 
@@ -93,14 +93,14 @@ module _ (es : List ℕ) (p : ℕ → Bool) (i : ℕ) (listed : i < edge_count e
   leads_one true = last (record { place = i; listed = listed; leaves = refl; enters = refl })
   leads_one false = last (record { place = i; listed = listed; leaves = refl; enters = refl })
 
-  leads-more : (along : Bool) (w : ℕ) → T (p (far es along i)) → Leads es along p (far es along i) w → Leads es along p (near es along i) w
-  leads-more true w h t = next (record { place = i; listed = listed; leaves = refl; enters = refl }) h t
-  leads-more false w h t = extend t h (record { place = i; listed = listed; leaves = refl; enters = refl })
+  leads_more : (along : Bool) (w : ℕ) → T (p (far es along i)) → Leads es along p (far es along i) w → Leads es along p (near es along i) w
+  leads_more true w h t = next (record { place = i; listed = listed; leaves = refl; enters = refl }) h t
+  leads_more false w h t = extend t h (record { place = i; listed = listed; leaves = refl; enters = refl })
 
 module _ (gives passes s : List ℕ) where
   -- k is handed on if it is given, or held and passed
-  handed-iff : (u k : ℕ) → T (has (handed gives passes s u) k) ↔ (T (has (get_or gives u 0) k) ⊎ (T (has (get_or s u 0) k) × T (has (get_or passes u 0) k)))
-  handed-iff u k = member-or _ _ k Iff.rfl (member-and _ _ k Iff.rfl Iff.rfl)
+  handed_iff : (u k : ℕ) → T (has (handed gives passes s u) k) ↔ (T (has (get_or gives u 0) k) ⊎ (T (has (get_or s u 0) k) × T (has (get_or passes u 0) k)))
+  handed_iff u k = member_or _ _ k Iff.rfl (member_and _ _ k Iff.rfl Iff.rfl)
 
   module _ (es : List ℕ) (k : ℕ) where
     -- what an edge brings is held
@@ -108,19 +108,19 @@ module _ (gives passes s : List ℕ) where
     Brought along = (i v w : ℕ) → i < edge_count es → near es along i ≡ v → far es along i ≡ w → T (has (handed gives passes s w) k) → T (has (get_or s v 0) k)
 
     -- then what a path brings is held
-    complete-along : Brought true → (v w : ℕ) → Leads es true (λ u. has (get_or passes u 0) k) v w → T (has (handed gives passes s w) k) → T (has (get_or s v 0) k)
-    complete-along brought v w (last e) h = brought e.place v w e.listed e.leaves e.enters h
-    complete-along brought v w (next {u} e p t) h =
-        brought e.place v u e.listed e.leaves e.enters ((handed-iff u k).1 (inr (complete-along brought u w t h, p)))
+    complete_along : Brought true → (v w : ℕ) → Leads es true (λ u. has (get_or passes u 0) k) v w → T (has (handed gives passes s w) k) → T (has (get_or s v 0) k)
+    complete_along brought v w (last e) h = brought e.place v w e.listed e.leaves e.enters h
+    complete_along brought v w (next {u} e p t) h =
+        brought e.place v u e.listed e.leaves e.enters ((handed_iff u k).1 (inr (complete_along brought u w t h, p)))
 
-    complete-against : Brought false → (v w : ℕ) → Leads es false (λ u. has (get_or passes u 0) k) v w → T (has (handed gives passes s w) k) → T (has (get_or s v 0) k)
-    complete-against brought v w (last e) h = brought e.place v w e.listed e.enters e.leaves h
-    complete-against brought v w (next {u} e p t) h =
-        complete-against brought v u t ((handed-iff u k).1 (inr (brought e.place u w e.listed e.enters e.leaves h, p)))
+    complete_against : Brought false → (v w : ℕ) → Leads es false (λ u. has (get_or passes u 0) k) v w → T (has (handed gives passes s w) k) → T (has (get_or s v 0) k)
+    complete_against brought v w (last e) h = brought e.place v w e.listed e.enters e.leaves h
+    complete_against brought v w (next {u} e p t) h =
+        complete_against brought v u t ((handed_iff u k).1 (inr (brought e.place u w e.listed e.enters e.leaves h, p)))
 
     complete : (along : Bool) → Brought along → (v w : ℕ) → Leads es along (λ u. has (get_or passes u 0) k) v w → T (has (handed gives passes s w) k) → T (has (get_or s v 0) k)
-    complete true brought v w t h = complete-along brought v w t h
-    complete false brought v w t h = complete-against brought v w t h
+    complete true brought v w t h = complete_along brought v w t h
+    complete false brought v w t h = complete_against brought v w t h
 
 module _ (es : List ℕ) (along : Bool) (gives passes : List ℕ) {order : List ℕ} (ord : Order (edge_count es) order) where
   -- edge i taken, the first j edges of a round taken, a whole round, and r rounds over the empty sets of n vertices
@@ -144,14 +144,14 @@ module _ (es : List ℕ) (along : Bool) (gives passes : List ℕ) {order : List 
   -- there is a set for each vertex
   pub after-length : (n r : ℕ) → length (after n r) ≡ n
   after-length n =
-      rounds-keeps ord along (relaxed es along gives passes) (λ t. length t ≡ n) (λ t i h e. simp length-set e) (replicate n 0) (length-replicate n 0)
+      rounds_keeps ord along (relaxed es along gives passes) (λ t. length t ≡ n) (λ t i h e. simp length-set e) (replicate n 0) (length-replicate n 0)
 
   -- sets of any width stay within it
-  pub after-fits : (w n r : ℕ) → ((u : ℕ) → get_or gives u 0 < 2 ^ w) → (u : ℕ) → get_or (after n r) u 0 < 2 ^ w
-  after-fits w n r small =
-      rounds-keeps ord along (relaxed es along gives passes) (λ s. (u : ℕ) → get_or s u 0 < 2 ^ w)
+  pub after_fits : (w n r : ℕ) → ((u : ℕ) → get_or gives u 0 < 2 ^ w) → (u : ℕ) → get_or (after n r) u 0 < 2 ^ w
+  after_fits w n r small =
+      rounds_keeps ord along (relaxed es along gives passes) (λ s. (u : ℕ) → get_or s u 0 < 2 ^ w)
       (λ s i _ h u. at_set (λ v x. x < 2 ^ w) s _ _ u (or_lt w _ _ (h _) (or_lt w _ _ (small _) (lt_of_le_of_lt (and_le_l _ _) (h (far es along i))))) (h u))
-      (replicate n 0) (λ u. simp zeros-at (pow_pos w)) r
+      (replicate n 0) (λ u. simp zeros_at (pow_pos w)) r
 
   -- ---- soundness: every member has a path
 
@@ -159,19 +159,19 @@ module _ (es : List ℕ) (along : Bool) (gives passes : List ℕ) {order : List 
   AllFound s = (v k : ℕ) → T (has (get_or s v 0) k) → InSet es along gives passes v k
 
   -- what the far end hands on has a path from the near end
-  found-handed : (s : List ℕ) → AllFound s → (i k : ℕ) → i < edge_count es → T (has (handed gives passes s (far es along i)) k) → InSet es along gives passes (near es along i) k
-  found-handed s ih i k l h =
+  found_handed : (s : List ℕ) → AllFound s → (i k : ℕ) → i < edge_count es → T (has (handed gives passes s (far es along i)) k) → InSet es along gives passes (near es along i) k
+  found_handed s ih i k l h =
       let p : ℕ → Bool = λ u. has (get_or passes u 0) k in
       ⊎_elim
       (λ g. record { place = far es along i; way = leads_one es p i l along; met = g })
-      (λ g. let o = ih (far es along i) k g.0 in record { place = o.place; way = leads-more es p i l along o.place g.1 o.way; met = o.met })
-      ((handed-iff gives passes s (far es along i) k).0 h)
+      (λ g. let o = ih (far es along i) k g.0 in record { place = o.place; way = leads_more es p i l along o.place g.1 o.way; met = o.met })
+      ((handed_iff gives passes s (far es along i) k).0 h)
 
   found : (n r : ℕ) → AllFound (after n r)
   found n =
-      rounds-keeps ord along (relaxed es along gives passes) AllFound
-      (λ s i l ih v k. at_set (λ u m. T (has m k) → InSet es along gives passes u k) s _ _ v (λ h. ⊎_elim (ih _ k) (found-handed s ih i k l) ((member-or _ _ k Iff.rfl Iff.rfl).0 h)) (ih v k))
-      (replicate n 0) (λ v k. simp (zeros-at, has-zero) (λ h. absurd h))
+      rounds_keeps ord along (relaxed es along gives passes) AllFound
+      (λ s i l ih v k. at_set (λ u m. T (has m k) → InSet es along gives passes u k) s _ _ v (λ h. ⊎_elim (ih _ k) (found_handed s ih i k l) ((member_or _ _ k Iff.rfl Iff.rfl).0 h)) (ih v k))
+      (replicate n 0) (λ v k. simp (zeros_at, has_zero) (λ h. absurd h))
 
   -- ---- lanes: each is closed after as many rounds as vertices
 
@@ -197,30 +197,30 @@ module _ (es : List ℕ) (along : Bool) (gives passes : List ℕ) {order : List 
     gap_of u x y = max (bit (get_or gives u 0) k) (min x (bit (get_or passes u 0) k)) - y
 
     gap_is : (s : List ℕ) (i : ℕ) → gap s i ≡ gap_of (far es along i) (held s (far es along i)) (held s (near es along i))
-    gap_is s i = ap (λ (x : ℕ). x - held s (near es along i)) (bit-or _ _ k ∙ ap (max (bit (get_or gives (far es along i) 0) k)) (bit-and _ _ k))
+    gap_is s i = ap (λ (x : ℕ). x - held s (near es along i)) (bit_or_lem _ _ k ∙ ap (max (bit (get_or gives (far es along i) 0) k)) (bit_and_lem _ _ k))
 
     gap_same : (s t : List ℕ) → lane s ≡ lane t → (i : ℕ) → gap s i ≡ gap t i
     gap_same s t e i = gap_is s i ∙ ap₂ (gap_of (far es along i)) (held_same s t e (far es along i)) (held_same s t e (near es along i)) ∙ sym (gap_is t i)
 
     -- an edge raises the number of ones by the gap, and where there is none, leaves the lane as it is
-    ones-relaxed : (s : List ℕ) (i : ℕ) → near es along i < length s → ones k (taken s i) ≡ ones k s + gap s i
-    ones-relaxed s i l =
+    ones_relaxed : (s : List ℕ) (i : ℕ) → near es along i < length s → ones k (taken s i) ≡ ones k s + gap s i
+    ones_relaxed s i l =
         let a = get_or s (near es along i) 0 in
         let b = handed gives passes s (far es along i) in
-        omega (arith, ones-set k s (near es along i) (bit_or a b) l, or-gap a b k)
+        omega (arith, ones_set k s (near es along i) (bit_or a b) l, or_gap a b k)
 
-    lane-relaxed : (s : List ℕ) (i : ℕ) → gap s i ≡ 0 → lane (taken s i) ≡ lane s
-    lane-relaxed s i e =
+    lane_relaxed : (s : List ℕ) (i : ℕ) → gap s i ≡ 0 → lane (taken s i) ≡ lane s
+    lane_relaxed s i e =
         let a = get_or s (near es along i) 0 in
         let b = handed gives passes s (far es along i) in
-        map-set_same (λ (m : ℕ). bit m k) s (near es along i) (bit_or a b) 0 (omega (arith, or-gap a b k))
+        map-set_same (λ (m : ℕ). bit m k) s (near es along i) (bit_or a b) 0 (omega (arith, or_gap a b k))
 
     -- a closed lane holds what an edge brings
     brought : (s : List ℕ) → Closed s → Brought gives passes s es k along
     brought s closed i v w l e f h =
         subst (λ (x : ℕ). T (has (get_or s x 0) k)) e
-        ((member-iff _ k).1
-        (omega (arith, bit-lt (get_or s (near es along i) 0) k, closed i l, (member-iff _ k).0 (subst (λ (x : ℕ). T (has (handed gives passes s x) k)) (sym f) h))))
+        ((member_iff _ k).1
+        (omega (arith, bit_lt (get_or s (near es along i) 0) k, closed i l, (member_iff _ k).0 (subst (λ (x : ℕ). T (has (handed gives passes s x) k)) (sym f) h))))
 
     module _ (n : ℕ) (ends : Ends es n) where
       -- the first j edges left the lane as it was, and none was about to bring k; or they raised the number of ones, and some edge was about to
@@ -242,27 +242,27 @@ module _ (es : List ℕ) (along : Bool) (gives passes : List ℕ) {order : List 
           g = turn order along j
 
           more : ones k (taken t g) ≡ ones k t + gap t g
-          more = ones-relaxed t g (omega (arith, part_length s j (le_of_lt l), near-lt ends along g (turn-lt ord along j l)))
+          more = ones_relaxed t g (omega (arith, part_length s j (le_of_lt l), near_lt ends along g (turn_lt ord along j l)))
 
           calm : Calm s j → (d : ℕ) → gap t g ≡ d → Calm s (suc j) ⊎ Raised s (suc j)
           calm c zero q =
               inl (
-                lane-relaxed t g q ∙ c.0,
+                lane_relaxed t g q ∙ c.0,
                 omega (arith, more, c.1),
                 λ i h. ⊎_elim (λ now. subst (λ (x : ℕ). gap s (turn order along x) ≡ 0) (sym now) (sym (gap_same t s c.0 g) ∙ q)) (c.2 i) (eq-or-lt_of_le (le_of_suc-le-suc h)),
               )
-          calm c (suc d) q = inr (omega (arith, more, c.1), λ closed. omega (arith, closed g (turn-lt ord along j l), gap_same t s c.0 g))
+          calm c (suc d) q = inr (omega (arith, more, c.1), λ closed. omega (arith, closed g (turn_lt ord along j l), gap_same t s c.0 g))
 
       -- a whole round that left the lane as it was
-      calm-closed : (s : List ℕ) → Calm s (length order) → Closed s
-      calm-closed s c i h = subst (λ (x : ℕ). gap s x ≡ 0) (turn-when ord along i h) (c.2 (when ord along i h) (when-lt ord along i h))
+      calm_closed : (s : List ℕ) → Calm s (length order) → Closed s
+      calm_closed s c i h = subst (λ (x : ℕ). gap s x ≡ 0) (turn_when ord along i h) (c.2 (when ord along i h) (when_lt ord along i h))
 
       -- after r rounds the lane is closed or has r ones
       progress : (r : ℕ) → Closed (after n r) ⊎ (r ≤ ones k (after n r))
       unfolding rounds
       progress zero = inr zero-le
       progress (suc r) = ⊎_elim
-          (λ c. inl (λ i h. gap_same (round s) s c.0 i ∙ calm-closed s c i h))
+          (λ c. inl (λ i h. gap_same (round s) s c.0 i ∙ calm_closed s c i h))
           (λ d. ⊎_elim (λ closed. absurd (d.1 closed)) (λ few. inr (omega (arith, d.0))) (progress r))
           (sweep s (after-length n r) (length order) (le_refl (length order)))
         where
@@ -274,8 +274,8 @@ module _ (es : List ℕ) (along : Bool) (gives passes : List ℕ) {order : List 
       closed = ⊎_elim (λ c. c)
           (λ all i h. omega (
             arith,
-            bit-lt (handed gives passes (after n n) (far es along i)) k,
-            ones-all k (after n n) (omega (arith, after-length n n)) (near es along i) (omega (arith, after-length n n, near-lt ends along i h)),
+            bit_lt (handed gives passes (after n n) (far es along i)) k,
+            ones_all k (after n n) (omega (arith, after-length n n)) (near es along i) (omega (arith, after-length n n, near_lt ends along i h)),
           ))
           (progress n)
 
@@ -285,14 +285,14 @@ module _ (es : List ℕ) (along : Bool) (gives passes : List ℕ) {order : List 
     exactly v k =
         let s = after n n in (
           found n n v k,
-          λ h. complete gives passes s es k along (brought k s (closed k n ends)) v h.place h.way ((handed-iff gives passes s h.place k).1 (inl h.met)),
+          λ h. complete gives passes s es k along (brought k s (closed k n ends)) v h.place h.way ((handed_iff gives passes s h.place k).1 (inl h.met)),
         )
 
     -- closed sets stay as they are
     still : (s : List ℕ) → ((k : ℕ) → Closed k s) → round s ≡ s
     still s closed =
         swept_keeps ord along (relaxed es along gives passes) (λ t. t ≡ s)
-        (λ t i l e. ap (λ (x : List ℕ). taken x i) e ∙ ap (set s (near es along i)) (or-subset _ _ (λ k. closed k i l)) ∙ set-get_or s (near es along i) 0)
+        (λ t i l e. ap (λ (x : List ℕ). taken x i) e ∙ ap (set s (near es along i)) (or_subset _ _ (λ k. closed k i l)) ∙ set-get_or s (near es along i) 0)
         s refl (length order) (le_refl (length order))
 
     -- further rounds alter no set
@@ -305,23 +305,23 @@ module _ (es : List ℕ) (along : Bool) (gives passes : List ℕ) {order : List 
 module _ (es : List ℕ) (along : Bool) (gives passes : List ℕ) where
   solution-length : (n : ℕ) → length (solution es along gives passes n) ≡ n
   unfolding solution
-  solution-length n = after-length es along gives passes (natural-order (edge_count es)) n n
+  solution-length n = after-length es along gives passes (natural_order (edge_count es)) n n
 
   -- sets of any width stay within it
-  pub solution-fits : (w n : ℕ) → ((u : ℕ) → get_or gives u 0 < 2 ^ w) → (u : ℕ) → get_or (solution es along gives passes n) u 0 < 2 ^ w
+  pub solution_fits : (w n : ℕ) → ((u : ℕ) → get_or gives u 0 < 2 ^ w) → (u : ℕ) → get_or (solution es along gives passes n) u 0 < 2 ^ w
   unfolding solution
-  solution-fits w n = after-fits es along gives passes (natural-order (edge_count es)) w n n
+  solution_fits w n = after_fits es along gives passes (natural_order (edge_count es)) w n n
 
   module _ (n : ℕ) (ends : Ends es n) where
     -- the set of v holds k exactly if a path of one edge or more from v, through vertices that pass k, arrives at a vertex that gives k
     pub exact : (v k : ℕ) → T (has (get_or (solution es along gives passes n) v 0) k) ↔ InSet es along gives passes v k
     unfolding solution
-    exact = exactly es along gives passes (natural-order (edge_count es)) n ends
+    exact = exactly es along gives passes (natural_order (edge_count es)) n ends
 
     -- in any order of the edges, as many rounds as vertices or more give the same sets
     module _ {order : List ℕ} (ord : Order (edge_count es) order) where
-      pub ends-alike : (r : ℕ) → n ≤ r → after es along gives passes ord n r ≡ solution es along gives passes n
-      ends-alike r h =
+      pub ends_alike : (r : ℕ) → n ≤ r → after es along gives passes ord n r ≡ solution es along gives passes n
+      ends_alike r h =
           further es along gives passes ord n ends r h
           ∙ ext_get_or 0 _ _ (after-length es along gives passes ord n n ∙ sym (solution-length n))
           (λ v l. alike _ _

@@ -13,19 +13,19 @@ use Rattle.words.proofs.Tests.{either}
 
 -- ---- a path and a list of vertices are the same
 
-to-list : {es : List ℕ} {through : ℕ → Bool} {v w : ℕ} → Path es through v w → ListPath es through v w
-to-list (last e) = record { inner = []; joined = e; pass = tt }
-to-list (next {u} e h t) =
-    let l = to-list t in
+to_list : {es : List ℕ} {through : ℕ → Bool} {v w : ℕ} → Path es through v w → ListPath es through v w
+to_list (last e) = record { inner = []; joined = e; pass = tt }
+to_list (next {u} e h t) =
+    let l = to_list t in
     record { inner = u ∷ l.inner; joined = (e, l.joined); pass = (h, l.pass) }
 
-of-list : {es : List ℕ} {through : ℕ → Bool} {v w : ℕ} (us : List ℕ) → Joined es v us w → AllPass through us → Path es through v w
-of-list [] e h = last e
-of-list (u ∷ us) e h = next e.0 h.0 (of-list us e.1 h.1)
+of_list : {es : List ℕ} {through : ℕ → Bool} {v w : ℕ} (us : List ℕ) → Joined es v us w → AllPass through us → Path es through v w
+of_list [] e h = last e
+of_list (u ∷ us) e h = next e.0 h.0 (of_list us e.1 h.1)
 
 -- the paths by induction are the paths as lists of vertices
-pub list-iff : (es : List ℕ) (through : ℕ → Bool) (v w : ℕ) → Path es through v w ↔ ListPath es through v w
-list-iff es through v w = (to-list, λ l. of-list l.inner l.joined l.pass)
+pub list_iff : (es : List ℕ) (through : ℕ → Bool) (v w : ℕ) → Path es through v w ↔ ListPath es through v w
+list_iff es through v w = (to_list, λ l. of_list l.inner l.joined l.pass)
 
 -- ---- growth
 
@@ -58,22 +58,22 @@ ahead : {es : List ℕ} {p q before after : ℕ → Bool} {v u w : ℕ} → Edge
 ahead e h s = record { vertex = s.vertex; passes = s.passes; meets = s.meets; arrives = next e h s.arrives; leaves = s.leaves }
 
 -- a path has no inner vertex that passes q, or is cut at the first one
-pub split-first : {es : List ℕ} {p : ℕ → Bool} {v w : ℕ} (q : ℕ → Bool) → Path es p v w
+pub split_first : {es : List ℕ} {p : ℕ → Bool} {v w : ℕ} (q : ℕ → Bool) → Path es p v w
     → Path es (λ u. p u && not (q u)) v w ⊎ Via es p q (λ u. p u && not (q u)) p v w
-split-first q (last e) = inl (last e)
-split-first {p} q (next {u} e h t) =
+split_first q (last e) = inl (last e)
+split_first {p} q (next {u} e h t) =
     ⊎_elim
     (λ m. inr (record { vertex = u; passes = h; meets = m; arrives = last e; leaves = t }))
-    (λ m. let k = and_i (p u) (not (q u)) h m in ⊎_elim (λ s. inl (next e k s)) (λ s. inr (ahead e k s)) (split-first q t))
+    (λ m. let k = and_i (p u) (not (q u)) h m in ⊎_elim (λ s. inl (next e k s)) (λ s. inr (ahead e k s)) (split_first q t))
     (either (q u))
 
 -- ---- both ends of a path are among the vertices
 
-edge-ends : {es : List ℕ} {n v w : ℕ} → Ends es n → Edge es v w → (v < n) × (w < n)
-edge-ends {n} ends e =
+edge_ends : {es : List ℕ} {n v w : ℕ} → Ends es n → Edge es v w → (v < n) × (w < n)
+edge_ends {n} ends e =
     (subst (λ (x : ℕ). x < n) e.leaves (ends.froms e.place e.listed), subst (λ (x : ℕ). x < n) e.enters (ends.tos e.place e.listed))
 
 -- where all edges end among n vertices, so do all paths
-pub path-ends : {es : List ℕ} {p : ℕ → Bool} {n v w : ℕ} → Ends es n → Path es p v w → (v < n) × (w < n)
-path-ends ends (last e) = edge-ends ends e
-path-ends ends (next e h t) = ((edge-ends ends e).0, (path-ends ends t).1)
+pub path_ends : {es : List ℕ} {p : ℕ → Bool} {n v w : ℕ} → Ends es n → Path es p v w → (v < n) × (w < n)
+path_ends ends (last e) = edge_ends ends e
+path_ends ends (next e h t) = ((edge_ends ends e).0, (path_ends ends t).1)

@@ -111,7 +111,7 @@ pub record Tables (es gives passes sets : List ℕ) : Type 0 where
   pub ends : Ends es (row_count sets)
   pub whole : length sets ≡ 8 * row_count sets
   pub gives_all : length gives ≡ length sets
-  pub passes-all : length passes ≡ length sets
+  pub passes_all : length passes ≡ length sets
 
 -- the sets of vertex v
 abbrev pub row_of : List ℕ → ℕ → List ℕ

@@ -17,26 +17,26 @@ use Rattle.halves.specs.Halves.{low_halves, high_halves, with_low, with_high, Ar
 use Rattle.sets.specs.Sets.{every_version, half_width, low_half, high_half, of_halves, every_half}
 use Rattle.words.specs.Tables.{table}
 use Rattle.words.proofs.Tables.{table-length, table_at}
-use Rattle.halves.proofs.Halves.{Parts, low_of, high-of, low-splits, parts-solved, cell, both-solved, low-solved}
+use Rattle.halves.proofs.Halves.{Parts, low_of, high_of, low_splits, parts_solved, cell, both_solved, low_solved}
 
 -- tables for what is given by halves
-pub tables-given : {es gives passes halves : List ℕ} → Tables es gives passes halves → {given : List ℕ} → length given ≡ length halves → Tables es given passes halves
-tables-given t e = record { ends = t.ends; whole = t.whole; gives_all = e; passes-all = t.passes-all }
+pub tables_given : {es gives passes halves : List ℕ} → Tables es gives passes halves → {given : List ℕ} → length given ≡ length halves → Tables es given passes halves
+tables_given t e = record { ends = t.ends; whole = t.whole; gives_all = e; passes_all = t.passes_all }
 
 -- and for other halves
-pub tables-kept : {es gives passes halves : List ℕ} → Tables es gives passes halves → {after : List ℕ} → length after ≡ length halves → Tables es gives passes after
-tables-kept {es} t e = record {
+pub tables_kept : {es gives passes halves : List ℕ} → Tables es gives passes halves → {after : List ℕ} → length after ≡ length halves → Tables es gives passes after
+tables_kept {es} t e = record {
   ends = subst (λ (x : ℕ). Ends es (x / 8)) (sym e) t.ends;
   whole = e ∙ t.whole ∙ ap (λ (x : ℕ). 8 * (x / 8)) (sym e);
   gives_all = t.gives_all ∙ sym e;
-  passes-all = t.passes-all ∙ sym e;
+  passes_all = t.passes_all ∙ sym e;
 }
 
 -- ---- a table of halves that are full where a test passes, and empty elsewhere
 
-full-or-none : (b : Bool) → cond b every_half 0 < 2 ^ half_width
-full-or-none true = lit< tt
-full-or-none false = lit< tt
+full_or_none : (b : Bool) → cond b every_half 0 < 2 ^ half_width
+full_or_none true = lit< tt
+full_or_none false = lit< tt
 
 both_halves : (b : Bool) → of_halves (cond b every_half 0) (cond b every_half 0) ≡ cond b every_version 0
 both_halves true = refl
@@ -46,86 +46,86 @@ module _ (test : ℕ → Bool) (n : ℕ) {s : List ℕ} (e : s ≡ table (λ i. 
   size_is : length s ≡ n
   size_is = ap length e ∙ table-length _ n
 
-  at-is : (x : ℕ) → x < n → get_or s x 0 ≡ cond (test x) every_half 0
-  at-is x l = ap (λ (t : List ℕ). get_or t x 0) e ∙ table_at (λ i. cond (test i) every_half 0) n x l
+  at_is : (x : ℕ) → x < n → get_or s x 0 ≡ cond (test x) every_half 0
+  at_is x l = ap (λ (t : List ℕ). get_or t x 0) e ∙ table_at (λ i. cond (test i) every_half 0) n x l
 
-  pub test-halves : AreHalves s
-  test-halves x = elim (dec_lt x n) [
-    | yes l ↦ subst (λ (m : ℕ). m < 2 ^ half_width) (sym (at-is x l)) (full-or-none (test x))
+  pub test_halves : AreHalves s
+  test_halves x = elim (dec_lt x n) [
+    | yes l ↦ subst (λ (m : ℕ). m < 2 ^ half_width) (sym (at_is x l)) (full_or_none (test x))
     | no f ↦ subst (λ (m : ℕ). m < 2 ^ half_width) (sym (get_or-eq_default s 0 (omega (arith, size_is)))) (lit< tt)
   ]
 
-  pub test-doubled : doubled s ≡ table (λ i. cond (test i) every_version 0) n
-  test-doubled =
+  pub test_doubled : doubled s ≡ table (λ i. cond (test i) every_version 0) n
+  test_doubled =
       ext_get_or 0 _ _ (table-length _ (length s) ∙ size_is ∙ sym (table-length _ n))
       (λ x l. let in-x : x < n = omega (arith, table-length (λ i. of_halves (get_or s i 0) (get_or s i 0)) (length s), size_is) in
       table_at (λ i. of_halves (get_or s i 0) (get_or s i 0)) (length s) x (omega (arith, size_is))
-      ∙ ap (λ (m : ℕ). of_halves m m) (at-is x in-x) ∙ both_halves (test x)
+      ∙ ap (λ (m : ℕ). of_halves m m) (at_is x in-x) ∙ both_halves (test x)
       ∙ sym (table_at (λ i. cond (test i) every_version 0) n x in-x))
 
 -- ---- what the functions leave
 
 -- by what is given
-pub solved-by : {es order given high passes halves : List ℕ} {along : Bool} {n r : ℕ} → given ≡ high → Solved es order along given passes n r halves
+pub solved_by : {es order given high passes halves : List ℕ} {along : Bool} {n r : ℕ} → given ≡ high → Solved es order along given passes n r halves
     → Solved es order along high passes n r halves
-solved-by {es} {order} {passes = passes} {halves} {along} {n} {r} e h = subst (λ (g : List ℕ). Solved es order along g passes n r halves) e h
+solved_by {es} {order} {passes = passes} {halves} {along} {n} {r} e h = subst (λ (g : List ℕ). Solved es order along g passes n r halves) e h
 
 module _ (sets : List ℕ) {es gives passes halves : List ℕ} (t : Tables es gives passes halves) (small : AreHalves passes) (size : length sets ≡ length halves) where
-  low-given : Parts low_half (8 * row_count halves) sets (low_halves sets)
-  low-given = record { at = λ x l. table_at (λ i. low_half (get_or sets i 0)) (length sets) x (omega (arith, t.whole, size)) }
+  low_given : Parts low_half (8 * row_count halves) sets (low_halves sets)
+  low_given = record { at = λ x l. table_at (λ i. low_half (get_or sets i 0)) (length sets) x (omega (arith, t.whole, size)) }
 
-  high-given : Parts high_half (8 * row_count halves) sets (high_halves sets)
-  high-given = record { at = λ x l. table_at (λ i. high_half (get_or sets i 0)) (length sets) x (omega (arith, t.whole, size)) }
+  high_given : Parts high_half (8 * row_count halves) sets (high_halves sets)
+  high_given = record { at = λ x l. table_at (λ i. high_half (get_or sets i 0)) (length sets) x (omega (arith, t.whole, size)) }
 
-  doubled-at : (x : ℕ) → x < 8 * row_count halves → get_or (doubled passes) x 0 ≡ of_halves (get_or passes x 0) (get_or passes x 0)
-  doubled-at x l = table_at (λ i. of_halves (get_or passes i 0) (get_or passes i 0)) (length passes) x (omega (arith, t.whole, t.passes-all))
+  doubled_at : (x : ℕ) → x < 8 * row_count halves → get_or (doubled passes) x 0 ≡ of_halves (get_or passes x 0) (get_or passes x 0)
+  doubled_at x l = table_at (λ i. of_halves (get_or passes i 0) (get_or passes i 0)) (length passes) x (omega (arith, t.whole, t.passes_all))
 
-  low-passed : Parts low_half (8 * row_count halves) (doubled passes) passes
-  low-passed = record { at = λ x l. sym (ap low_half (doubled-at x l) ∙ low_of (get_or passes x 0) (get_or passes x 0) (small x)) }
+  low_passed : Parts low_half (8 * row_count halves) (doubled passes) passes
+  low_passed = record { at = λ x l. sym (ap low_half (doubled_at x l) ∙ low_of (get_or passes x 0) (get_or passes x 0) (small x)) }
 
-  high-passed : Parts high_half (8 * row_count halves) (doubled passes) passes
-  high-passed = record { at = λ x l. sym (ap high_half (doubled-at x l) ∙ high-of (get_or passes x 0) (get_or passes x 0) (small x)) }
+  high_passed : Parts high_half (8 * row_count halves) (doubled passes) passes
+  high_passed = record { at = λ x l. sym (ap high_half (doubled_at x l) ∙ high_of (get_or passes x 0) (get_or passes x 0) (small x)) }
 
   module _ {order given low : List ℕ} {along : Bool} {r : ℕ} (ord : Order (edge_count es) order) (lows : given ≡ low_halves sets) (solved : Solved es order along given passes (row_count halves) r low) where
     c : Solved es order along (low_halves sets) passes (row_count halves) r low
     c = subst (λ (g : List ℕ). Solved es order along g passes (row_count halves) r low) lows solved
 
     -- no high half was given
-    pub solved-narrow : {after : List ℕ} → ((i : ℕ) → i < length sets → high_half (get_or sets i 0) ≡ 0) → after ≡ low → Solved es order along sets (doubled passes) (row_count halves) r after
-    solved-narrow none e =
+    pub solved_narrow : {after : List ℕ} → ((i : ℕ) → i < length sets → high_half (get_or sets i 0) ≡ 0) → after ≡ low → Solved es order along sets (doubled passes) (row_count halves) r after
+    solved_narrow none e =
         subst (λ (s : List ℕ). Solved es order along sets (doubled passes) (row_count halves) r s) (sym e)
-        (low-solved es order along (row_count halves) ord t.ends low-given high-given low-passed high-passed (λ x l. high-given.at x l ∙ none x (omega (arith, t.whole, size))) c)
+        (low_solved es order along (row_count halves) ord t.ends low_given high_given low_passed high_passed (λ x l. high_given.at x l ∙ none x (omega (arith, t.whole, size))) c)
 
     -- what is solved of low halves is a half
     low_fits : (x : ℕ) → x < 8 * row_count halves → get_or low x 0 < 2 ^ half_width
     low_fits x l =
-        let part = (parts-solved es order along (row_count halves) ord t.ends low-splits low-given low-passed c (x % 8) (omega arith)).at (x / 8) (omega arith) in
+        let part = (parts_solved es order along (row_count halves) ord t.ends low_splits low_given low_passed c (x % 8) (omega arith)).at (x / 8) (omega arith) in
         subst (λ (m : ℕ). m < 2 ^ half_width) (sym part ∙ cell low (row_count halves) x l) (mod-lt _ (lit< tt))
 
     module _ {middle : List ℕ} (made : middle ≡ with_low low sets) where
-      middle-length : length middle ≡ 8 * row_count halves
-      middle-length = ap length made ∙ table-length _ (length sets) ∙ size ∙ t.whole
+      middle_length : length middle ≡ 8 * row_count halves
+      middle_length = ap length made ∙ table-length _ (length sets) ∙ size ∙ t.whole
 
-      middle-at : (x : ℕ) → x < 8 * row_count halves → get_or middle x 0 ≡ of_halves (get_or low x 0) (high_half (get_or sets x 0))
-      middle-at x l =
+      middle_at : (x : ℕ) → x < 8 * row_count halves → get_or middle x 0 ≡ of_halves (get_or low x 0) (high_half (get_or sets x 0))
+      middle_at x l =
           ap (λ (s : List ℕ). get_or s x 0) made ∙ table_at (λ i. of_halves (get_or low i 0) (high_half (get_or sets i 0))) (length sets) x (omega (arith, t.whole, size))
 
-      high-kept : Parts high_half (8 * row_count halves) sets (high_halves middle)
-      high-kept = record {
-        at = λ x l. table_at (λ i. high_half (get_or middle i 0)) (length middle) x (omega (arith, middle-length))
-            ∙ ap high_half (middle-at x l) ∙ high-of (get_or low x 0) (high_half (get_or sets x 0)) (low_fits x l);
+      high_kept : Parts high_half (8 * row_count halves) sets (high_halves middle)
+      high_kept = record {
+        at = λ x l. table_at (λ i. high_half (get_or middle i 0)) (length middle) x (omega (arith, middle_length))
+            ∙ ap high_half (middle_at x l) ∙ high_of (get_or low x 0) (high_half (get_or sets x 0)) (low_fits x l);
       }
 
       -- both halves were solved, one after the other
-      pub solved-wide : {high after : List ℕ} {q n count : ℕ} → n ≡ row_count halves → Solved es order along (high_halves middle) passes n q high → after ≡ with_high high middle
+      pub solved_wide : {high after : List ℕ} {q n count : ℕ} → n ≡ row_count halves → Solved es order along (high_halves middle) passes n q high → after ≡ with_high high middle
           → count ≡ max r q → Solved es order along sets (doubled passes) (row_count halves) count after
-      solved-wide {high} {after} {q} rows found e most =
+      solved_wide {high} {after} {q} rows found e most =
           let d = subst (λ (n : ℕ). Solved es order along (high_halves middle) passes n q high) rows found in
           subst (λ (m : ℕ). Solved es order along sets (doubled passes) (row_count halves) m after) (sym most)
           (subst (λ (s : List ℕ). Solved es order along sets (doubled passes) (row_count halves) (max r q) s)
-          (ext_get_or 0 _ _ (table-length _ (length low) ∙ c.size ∙ sym (ap length e ∙ table-length _ (length middle) ∙ middle-length))
+          (ext_get_or 0 _ _ (table-length _ (length low) ∙ c.size ∙ sym (ap length e ∙ table-length _ (length middle) ∙ middle_length))
           (λ x l. let in-x : x < 8 * row_count halves = omega (arith, table-length (λ i. of_halves (get_or low i 0) (get_or high i 0)) (length low), c.size) in
           table_at (λ i. of_halves (get_or low i 0) (get_or high i 0)) (length low) x (omega (arith, c.size))
-          ∙ ap (λ (m : ℕ). of_halves m (get_or high x 0)) (sym (ap low_half (middle-at x in-x) ∙ low_of (get_or low x 0) (high_half (get_or sets x 0)) (low_fits x in-x)))
-          ∙ sym (ap (λ (s : List ℕ). get_or s x 0) e ∙ table_at (λ i. of_halves (low_half (get_or middle i 0)) (get_or high i 0)) (length middle) x (omega (arith, middle-length)))))
-          (both-solved es order along (row_count halves) ord t.ends low-given high-kept low-passed high-passed c d))
+          ∙ ap (λ (m : ℕ). of_halves m (get_or high x 0)) (sym (ap low_half (middle_at x in-x) ∙ low_of (get_or low x 0) (high_half (get_or sets x 0)) (low_fits x in-x)))
+          ∙ sym (ap (λ (s : List ℕ). get_or s x 0) e ∙ table_at (λ i. of_halves (low_half (get_or middle i 0)) (get_or high i 0)) (length middle) x (omega (arith, middle_length)))))
+          (both_solved es order along (row_count halves) ord t.ends low_given high_kept low_passed high_passed c d))

@@ -12,15 +12,15 @@ use Rattle.labels.specs.Uses.{is_n}
 use Rattle.labels.specs.declared.Use.{Use}
 use Rattle.labels.specs.declared.Use.TheVariants.{N, D, R, W}
 
-pub letter-use : (u : Use) → use_of_byte (letter_byte u) ≡ u
-letter-use N = refl
-letter-use D = refl
-letter-use R = refl
-letter-use W = refl
+pub letter_use : (u : Use) → use_of_byte (letter_byte u) ≡ u
+letter_use N = refl
+letter_use D = refl
+letter_use R = refl
+letter_use W = refl
 
 -- tests of a letter's byte
-pub not-n : (b : ℕ) → not (eqb b 78) ≡ not (is_n (use_of_byte b))
-not-n b = by (eqb b 78) (eqb b 68) (eqb b 82)
+pub not_n : (b : ℕ) → not (eqb b 78) ≡ not (is_n (use_of_byte b))
+not_n b = by (eqb b 78) (eqb b 68) (eqb b 82)
   where
     by : (n d r : Bool) → not n ≡ not (is_n (cond n N (cond d D (cond r R W))))
     by true d r = refl
@@ -28,8 +28,8 @@ not-n b = by (eqb b 78) (eqb b 68) (eqb b 82)
     by false false true = refl
     by false false false = refl
 
-pub n-or-r : (b : ℕ) → (eqb b 78 || eqb b 82) ≡ is_n_or_r (use_of_byte b)
-n-or-r b = by (eqb b 78) (eqb b 68) (eqb b 82) refl refl
+pub n_or_r : (b : ℕ) → (eqb b 78 || eqb b 82) ≡ is_n_or_r (use_of_byte b)
+n_or_r b = by (eqb b 78) (eqb b 68) (eqb b 82) refl refl
   where
     by : (n d r : Bool) → eqb b 68 ≡ d → eqb b 82 ≡ r → (n || r) ≡ is_n_or_r (cond n N (cond d D (cond r R W)))
     by true d r e f = refl

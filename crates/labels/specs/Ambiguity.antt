@@ -19,8 +19,8 @@ pub record Ambiguous (file : List ℕ) (a v : ℕ) : Type 0 where
   pub first : ℕ
   pub second : ℕ
   pub differ : first ≡ second → ⊥
-  pub brings-first : Brings file a v first
-  pub brings-second : Brings file a v second
+  pub brings_first : Brings file a v first
+  pub brings_second : Brings file a v second
 
 -- ---- computed
 

@@ -25,7 +25,7 @@ pub record Demand2 (routine judged : List ℕ) : Type 0 where
   -- its leaving version in the plan is k exactly where it leaves with k
   pub leaving : (a v : ℕ) → a < arrays routine → T (is_label routine a v) → (k : ℕ) → k < width → (leaving_byte routine a v ≡ k) ↔ Leaves routine a v k
   -- and 255, none, exactly where its letter is N
-  pub leaving-none : (a v : ℕ) → a < arrays routine → (leaving_byte routine a v ≡ 255) ↔ IsUse routine a v N
+  pub leaving_none : (a v : ℕ) → a < arrays routine → (leaving_byte routine a v ≡ 255) ↔ IsUse routine a v N
   -- its reaching set has the versions that reach it, and no others
   pub reaching : (a v : ℕ) → a < arrays routine → (k : ℕ) → T (has (reaching_of routine a v) k) ↔ Reaches routine a v k
   -- its kept set has the versions that it keeps, and no others

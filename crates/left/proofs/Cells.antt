@@ -13,14 +13,14 @@ use lib.Dec.{eqb}
 use lib.ListN.{length, get_or, replicate, length-replicate}
 use Rattle.words.specs.Sums.{any_below}
 use Rattle.words.specs.Tables.{with_row}
-use Rattle.words.proofs.Replaced.{replaced-length, replaced-other, replaced-at}
-use Rattle.words.proofs.Sums.{each-fails}
-use Rattle.words.proofs.Tables.{zeros-at}
+use Rattle.words.proofs.Replaced.{replaced-length, replaced_other, replaced_at}
+use Rattle.words.proofs.Sums.{each_fails}
+use Rattle.words.proofs.Tables.{zeros_at}
 use Rattle.words.proofs.Tests.{one_more}
 use Rattle.sets.specs.Sets.{several}
 use Rattle.flow.specs.Cells.{NoneBeyond, Pass}
-use Rattle.flow.proofs.Cells.{rows_to, in_cells, cells-solved}
-use Rattle.directives.proofs.Limits.{read-heads}
+use Rattle.flow.proofs.Cells.{rows_to, in_cells, cells_solved}
+use Rattle.directives.proofs.Limits.{read_heads}
 use Rattle.directives.specs.Directives.{directive}
 use Rattle.directives.specs.Fields.{DirectivesRead}
 use Rattle.directives.specs.Layout.{templates, arrays, vertices, edge_bytes}
@@ -36,55 +36,55 @@ use Rattle.left.specs.Cells.{held_gives, held_passes, held_halves, redistributes
 
 module _ {file : List ℕ} {h : Header} (is : DirectivesRead file h) where
   -- a column for each array
-  pub few-columns : arrays file ≤ 8
-  few-columns = (read-heads is).limits.few-arrays
+  pub few_columns : arrays file ≤ 8
+  few_columns = (read_heads is).limits.few_arrays
 
-  module _ {a v : ℕ} (in-a : a < arrays file) (in-v : v < vertices file) where
-    pub few-cells : 8 * v + a < 2048
-    few-cells = omega (arith, in_cells few-columns in-a in-v, (read-heads is).limits.few-vertices)
+  module _ {a v : ℕ} (in_a : a < arrays file) (in_v : v < vertices file) where
+    pub few_cells : 8 * v + a < 2048
+    few_cells = omega (arith, in_cells few_columns in_a in_v, (read_heads is).limits.few_vertices)
 
     -- the cell is in a table of all vertices
     pub in_table : (s : List ℕ) → length s ≡ 8 * vertices file → 8 * v + a < length s
-    in_table s e = omega (arith, e, in_cells few-columns in-a in-v)
+    in_table s e = omega (arith, e, in_cells few_columns in_a in_v)
 
 -- ---- a pass over what each vertex gives and passes
 
 -- by the versions that directives give
-pub gives-held : (file : List ℕ) (t : ℕ) {given gives : List ℕ} → Given file given → ArrayCells file (λ a v. held_gives file t a v (get_or given (8 * v + a) 0)) gives
+pub gives_held : (file : List ℕ) (t : ℕ) {given gives : List ℕ} → Given file given → ArrayCells file (λ a v. held_gives file t a v (get_or given (8 * v + a) 0)) gives
     → ArrayCells file (λ a v. held_gives file t a v (given_set file a v)) gives
-gives-held file t g gs = record {
+gives_held file t g gs = record {
   size = gs.size;
-  cells = λ a v in-a in-v. gs.cells a v in-a in-v ∙ ap (held_gives file t a v) (g.cells a v in-a in-v);
+  cells = λ a v in_a in_v. gs.cells a v in_a in_v ∙ ap (held_gives file t a v) (g.cells a v in_a in_v);
 }
 
-pub cells-held : {file : List ℕ} {h : Header} (is : DirectivesRead file h) (t : ℕ) {gives passes held : List ℕ}
+pub cells_held : {file : List ℕ} {h : Header} (is : DirectivesRead file h) (t : ℕ) {gives passes held : List ℕ}
     → ArrayCells file (λ a v. held_gives file t a v (given_set file a v)) gives → ArrayCells file (held_passes file t) passes
     → Pass (edge_bytes file) (vertices file) false gives passes held → ArrayCells file (λ a v. get_or (held_sets file a t) v 0) held
 unfolding held_sets held_gives held_passes
-cells-held {file} is t = cells-solved (few-columns is) (λ a v. held_gives file t a v (given_set file a v)) (held_passes file t)
+cells_held {file} is t = cells_solved (few_columns is) (λ a v. held_gives file t a v (given_set file a v)) (held_passes file t)
 
 -- what is passed of each half is passed of both
-pub held-passing : {file : List ℕ} {h : Header} (is : DirectivesRead file h) (t : ℕ) {s : List ℕ} → ArrayCells file (held_halves file t) s
+pub held_passing : {file : List ℕ} {h : Header} (is : DirectivesRead file h) (t : ℕ) {s : List ℕ} → ArrayCells file (held_halves file t) s
     → NoneBeyond (arrays file) (vertices file) s → Passing (arrays file) (vertices file) (held_passes file t) s
 unfolding held_halves held_passes
-held-passing {file} is t = passing (few-columns is) (λ a v. changes a t (directive file v))
+held_passing {file} is t = passing (few_columns is) (λ a v. changes a t (directive file v))
 
 -- ---- what a redistribute leaves
 
 module _ (file : List ℕ) (a v : ℕ) where
   -- with no template
-  nothing-by : (d : Directive) → 0 ≡ others_by file 0 a v d
+  nothing_by : (d : Directive) → 0 ≡ others_by file 0 a v d
   unfolding elsewhere
-  nothing-by Nothing = refl
-  nothing-by (Realign b x) = refl
-  nothing-by (Redistribute s m) = refl
+  nothing_by Nothing = refl
+  nothing_by (Realign b x) = refl
+  nothing_by (Redistribute s m) = refl
 
   -- with one more: where it is of another
-  joins-by : (t : ℕ) (d : Directive) → redistributes_other t d ≡ true → bit_or (others_by file t a v d) (get_or (held_sets file a t) v 0) ≡ others_by file (suc t) a v d
+  joins_by : (t : ℕ) (d : Directive) → redistributes_other t d ≡ true → bit_or (others_by file t a v d) (get_or (held_sets file a t) v 0) ≡ others_by file (suc t) a v d
   unfolding elsewhere
-  joins-by t Nothing e = absurd (true≢false (sym e))
-  joins-by t (Realign b x) e = absurd (true≢false (sym e))
-  joins-by t (Redistribute s m) e = ap (λ (b : Bool). bit_or (elsewhere file a v s t) (cond b 0 (get_or (held_sets file a t) v 0))) (sym (not-true (eqb t s) e))
+  joins_by t Nothing e = absurd (true≢false (sym e))
+  joins_by t (Realign b x) e = absurd (true≢false (sym e))
+  joins_by t (Redistribute s m) e = ap (λ (b : Bool). bit_or (elsewhere file a v s t) (cond b 0 (get_or (held_sets file a t) v 0))) (sym (not-true (eqb t s) e))
 
   -- and where it is not
   leaves_by : (t : ℕ) (d : Directive) → redistributes_other t d ≡ false → others_by file t a v d ≡ others_by file (suc t) a v d
@@ -95,56 +95,56 @@ module _ (file : List ℕ) (a v : ℕ) where
       sym (or_zero_r _) ∙ ap (λ (b : Bool). bit_or (elsewhere file a v s t) (cond b 0 (get_or (held_sets file a t) v 0))) (sym (not-false (eqb t s) e))
 
   -- with all
-  all-by : (d : Directive) → others_by file (templates file) a v d ≡ left_by file a v d
-  all-by Nothing = refl
-  all-by (Realign b x) = refl
-  all-by (Redistribute s m) = refl
+  all_by : (d : Directive) → others_by file (templates file) a v d ≡ left_by file a v d
+  all_by Nothing = refl
+  all_by (Realign b x) = refl
+  all_by (Redistribute s m) = refl
 
-  others-joined : (t : ℕ) → redistributes_other t (directive file v) ≡ true
+  others_joined : (t : ℕ) → redistributes_other t (directive file v) ≡ true
       → bit_or (others_to file t a v) (get_or (held_sets file a t) v 0) ≡ others_to file (t + 1) a v
   unfolding others_to
-  others-joined t e = joins-by t (directive file v) e ∙ ap (λ (n : ℕ). others_to file n a v) (sym (add-one t))
+  others_joined t e = joins_by t (directive file v) e ∙ ap (λ (n : ℕ). others_to file n a v) (sym (add-one t))
 
-  others-left : (t : ℕ) → redistributes_other t (directive file v) ≡ false → others_to file t a v ≡ others_to file (t + 1) a v
+  others_left : (t : ℕ) → redistributes_other t (directive file v) ≡ false → others_to file t a v ≡ others_to file (t + 1) a v
   unfolding others_to
-  others-left t e = leaves_by t (directive file v) e ∙ ap (λ (n : ℕ). others_to file n a v) (sym (add-one t))
+  others_left t e = leaves_by t (directive file v) e ∙ ap (λ (n : ℕ). others_to file n a v) (sym (add-one t))
 
 module _ (file : List ℕ) where
   -- a table that was cleared
-  pub others-none : (old : List ℕ) {s : List ℕ} → length old ≡ 8 * vertices file → s ≡ replicate (length old) 0 → ArrayCells file (others_to file 0) s
+  pub others_none : (old : List ℕ) {s : List ℕ} → length old ≡ 8 * vertices file → s ≡ replicate (length old) 0 → ArrayCells file (others_to file 0) s
   unfolding others_to
-  others-none old size e = record {
+  others_none old size e = record {
     size = ap length e ∙ length-replicate (length old) 0 ∙ size;
-    cells = λ a v in-a in-v.
-        ap (λ (l : List ℕ). get_or l (8 * v + a) 0) e ∙ zeros-at (length old) (8 * v + a) ∙ nothing-by file a v (directive file v);
+    cells = λ a v in_a in_v.
+        ap (λ (l : List ℕ). get_or l (8 * v + a) 0) e ∙ zeros_at (length old) (8 * v + a) ∙ nothing_by file a v (directive file v);
   }
 
   -- no directive asks for template t
-  pub others-unasked : (t : ℕ) {s : List ℕ} → any_below (λ v. redistributes_other t (directive file v)) (vertices file) ≡ false → ArrayCells file (others_to file t) s
+  pub others_unasked : (t : ℕ) {s : List ℕ} → any_below (λ v. redistributes_other t (directive file v)) (vertices file) ≡ false → ArrayCells file (others_to file t) s
       → ArrayCells file (others_to file (t + 1)) s
-  others-unasked t none h = record {
+  others_unasked t none h = record {
     size = h.size;
-    cells = λ a v in-a in-v. h.cells a v in-a in-v ∙ others-left file a v t (each-fails _ (vertices file) none v in-v);
+    cells = λ a v in_a in_v. h.cells a v in_a in_v ∙ others_left file a v t (each_fails _ (vertices file) none v in_v);
   }
 
-  pub others-all : {n : ℕ} {s : List ℕ} → n ≡ templates file → ArrayCells file (others_to file n) s → ArrayCells file (others_at file) s
+  pub others_all : {n : ℕ} {s : List ℕ} → n ≡ templates file → ArrayCells file (others_to file n) s → ArrayCells file (others_at file) s
   unfolding others_to others_at
-  others-all {n} e h = record {
+  others_all {n} e h = record {
     size = h.size;
-    cells = λ a v in-a in-v. h.cells a v in-a in-v ∙ ap (λ (k : ℕ). others_to file k a v) e ∙ all-by file a v (directive file v);
+    cells = λ a v in_a in_v. h.cells a v in_a in_v ∙ ap (λ (k : ℕ). others_to file k a v) e ∙ all_by file a v (directive file v);
   }
 
 -- ---- rows joined one after the other
 
 module _ {file : List ℕ} {h : Header} (is : DirectivesRead file h) (t : ℕ) {held old s : List ℕ}
     (brought : ArrayCells file (λ a v. get_or (held_sets file a t) v 0) held) (were : ArrayCells file (others_to file t) old)
-    (v : ℕ) (in-v : v < vertices file) (so_far : ArrayCells file (rows_to (others_to file (t + 1)) old v) s) where
+    (v : ℕ) (in_v : v < vertices file) (so_far : ArrayCells file (rows_to (others_to file (t + 1)) old v) s) where
   -- the row of v, which is as it was
-  row-was : (a : ℕ) → a < arrays file → get_or s (8 * v + a) 0 ≡ others_to file t a v
-  row-was a in-a =
-      so_far.cells a v in-a in-v
+  row_was : (a : ℕ) → a < arrays file → get_or s (8 * v + a) 0 ≡ others_to file t a v
+  row_was a in_a =
+      so_far.cells a v in_a in_v
       ∙ ap (λ (b : Bool). cond b (others_to file (t + 1) a v) (get_or old (8 * v + a) 0)) (le-ltb v v (omega arith))
-      ∙ were.cells a v in-a in-v
+      ∙ were.cells a v in_a in_v
 
   -- one row more
   row_next : {u : List ℕ} → length u ≡ length s → ((a : ℕ) → a < arrays file → get_or u (8 * v + a) 0 ≡ others_to file (t + 1) a v)
@@ -152,28 +152,28 @@ module _ {file : List ℕ} {h : Header} (is : DirectivesRead file h) (t : ℕ) {
       → ArrayCells file (rows_to (others_to file (t + 1)) old (v + 1)) u
   row_next {u} sized new others = record {
     size = sized ∙ so_far.size;
-    cells = λ a w in-a in-w.
+    cells = λ a w in_a in-w.
         elim (ℕ_discrete w v) [
           | yes e ↦ subst (λ (x : ℕ). get_or u (8 * x + a) 0 ≡ rows_to (others_to file (t + 1)) old (v + 1) a x) (sym e)
-              (new a in-a ∙ ap (λ (b : Bool). cond b (others_to file (t + 1) a v) (get_or old (8 * v + a) 0)) (sym (lt-ltb v (v + 1) (omega arith))))
-          | no e ↦ others a w in-a e ∙ so_far.cells a w in-a in-w
+              (new a in_a ∙ ap (λ (b : Bool). cond b (others_to file (t + 1) a v) (get_or old (8 * v + a) 0)) (sym (lt-ltb v (v + 1) (omega arith))))
+          | no e ↦ others a w in_a e ∙ so_far.cells a w in_a in-w
               ∙ ap (λ (b : Bool). cond b (others_to file (t + 1) a w) (get_or old (8 * w + a) 0)) (one_more w v e)
         ];
   }
 
-  pub row-joined : {u : List ℕ} → redistributes_other t (directive file v) ≡ true
+  pub row_joined : {u : List ℕ} → redistributes_other t (directive file v) ≡ true
       → u ≡ with_row s v (λ a. bit_or (get_or s (8 * v + a) 0) (get_or held (8 * v + a) 0)) 8
       → ArrayCells file (rows_to (others_to file (t + 1)) old (v + 1)) u
-  row-joined q e =
+  row_joined q e =
       let r : ℕ → ℕ = λ a. bit_or (get_or s (8 * v + a) 0) (get_or held (8 * v + a) 0) in
       subst (ArrayCells file (rows_to (others_to file (t + 1)) old (v + 1))) (sym e)
       (row_next (replaced-length s (8 * v) r 8)
-      (λ a in-a. replaced-at s (8 * v) r 0 8 a refl (omega (arith, few-columns is)) (omega (arith, so_far.size))
-      ∙ ap₂ bit_or (row-was a in-a) (brought.cells a v in-a in-v) ∙ others-joined file a v t q)
-      (λ a w in-a other. replaced-other s (8 * v) r 0 8 (8 * w + a) (λ b in_b p. other (omega (arith, few-columns is)))))
+      (λ a in_a. replaced_at s (8 * v) r 0 8 a refl (omega (arith, few_columns is)) (omega (arith, so_far.size))
+      ∙ ap₂ bit_or (row_was a in_a) (brought.cells a v in_a in_v) ∙ others_joined file a v t q)
+      (λ a w in_a other. replaced_other s (8 * v) r 0 8 (8 * w + a) (λ b in_b p. other (omega (arith, few_columns is)))))
 
-  pub row-left : redistributes_other t (directive file v) ≡ false → ArrayCells file (rows_to (others_to file (t + 1)) old (v + 1)) s
-  row-left q = row_next refl (λ a in-a. row-was a in-a ∙ others-left file a v t q) (λ a w in-a other. refl)
+  pub row_left : redistributes_other t (directive file v) ≡ false → ArrayCells file (rows_to (others_to file (t + 1)) old (v + 1)) s
+  row_left q = row_next refl (λ a in_a. row_was a in_a ∙ others_left file a v t q) (λ a w in_a other. refl)
 
 -- ---- 42
 
@@ -181,4 +181,4 @@ module _ {file : List ℕ} {h : Header} (is : DirectivesRead file h) (t : ℕ) {
 pub left-cell : (file : List ℕ) {given others : List ℕ} → Given file given → ArrayCells file (others_at file) others → {a v : ℕ} → a < arrays file → v < vertices file
     → several (cond (eqb (get_or given (8 * v + a) 0) 0) 0 (bit_or (get_or given (8 * v + a) 0) (get_or others (8 * v + a) 0))) ≡ several (left_set file a v)
 unfolding left_set others_at
-left-cell file g o {a} {v} in-a in-v = ap₂ (λ (x y : ℕ). several (cond (eqb x 0) 0 (bit_or x y))) (g.cells a v in-a in-v) (o.cells a v in-a in-v)
+left-cell file g o {a} {v} in_a in_v = ap₂ (λ (x y : ℕ). several (cond (eqb x 0) 0 (bit_or x y))) (g.cells a v in_a in_v) (o.cells a v in_a in_v)

@@ -7,11 +7,11 @@ use native.Mathlib.Omega.{arith}
 use lib.ListN.{length, get_or-eq_default}
 use Rattle.words.specs.Words.{word, long_word}
 
-pub word-beyond : (s : List ℕ) (at : ℕ) → length s ≤ at → word s at ≡ 0
+pub word_beyond : (s : List ℕ) (at : ℕ) → length s ≤ at → word s at ≡ 0
 unfolding word
-word-beyond s at h =
+word_beyond s at h =
     ap₂ (λ (low high : ℕ). low + 256 * high) (get_or-eq_default s 0 h) (get_or-eq_default s 0 {n = at + 1} (omega arith))
 
-pub long-beyond : (s : List ℕ) (at : ℕ) → length s ≤ at → long_word s at ≡ 0
+pub long_beyond : (s : List ℕ) (at : ℕ) → length s ≤ at → long_word s at ≡ 0
 unfolding long_word
-long-beyond s at h = ap₂ (λ (low high : ℕ). low + 65536 * high) (word-beyond s at h) (word-beyond s (at + 2) (omega arith))
+long_beyond s at h = ap₂ (λ (low high : ℕ). low + 65536 * high) (word_beyond s at h) (word_beyond s (at + 2) (omega arith))

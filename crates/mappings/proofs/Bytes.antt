@@ -12,7 +12,7 @@ use Rattle.labels.specs.Events as L
 use Rattle.routine.specs.Actions.{action_byte}
 use Rattle.routine.specs.Arrays.{array_of, array_record_of}
 use Rattle.routine.specs.Layout as R
-use Rattle.words.proofs.Lists.{get_d-behind, drop-behind}
+use Rattle.words.proofs.Lists.{get_d_behind, drop_behind}
 use Rattle.words.proofs.Tables.{rows-length, rows_at, table-length, table_at}
 use Rattle.words.specs.Tables.{rows}
 use Rattle.words.specs.Words.{word}
@@ -45,69 +45,69 @@ module _ (file : List ℕ) (given : ℕ → ℕ → List Mapping) where
   in_head i h = ap (λ (s : List ℕ). get_or s i 0) is ∙ get_or-append head (records ++ (actions ++ edge_bytes file)) 0 i h
 
   in_rest : (i : ℕ) → get_or routine (18 + i) 0 ≡ get_or (records ++ (actions ++ edge_bytes file)) i 0
-  in_rest i = ap (λ (s : List ℕ). get_or s (18 + i) 0) is ∙ get_d-behind head (records ++ (actions ++ edge_bytes file)) refl i 0
+  in_rest i = ap (λ (s : List ℕ). get_or s (18 + i) 0) is ∙ get_d_behind head (records ++ (actions ++ edge_bytes file)) refl i 0
 
   -- ---- contents: arrays, vertices and edges keep their numbers
 
-  pub arrays-are : R.arrays routine ≡ arrays file
+  pub arrays_are : R.arrays routine ≡ arrays file
   unfolding word
-  arrays-are = ap₂ (λ (x y : ℕ). x + 256 * y) (in_head 8 (lit< tt)) (in_head 9 (lit< tt)) ∙ two_bytes (arrays file)
+  arrays_are = ap₂ (λ (x y : ℕ). x + 256 * y) (in_head 8 (lit< tt)) (in_head 9 (lit< tt)) ∙ two_bytes (arrays file)
 
-  pub vertices-are : R.vertices routine ≡ vertices file
+  pub vertices_are : R.vertices routine ≡ vertices file
   unfolding word
-  vertices-are = ap₂ (λ (x y : ℕ). x + 256 * y) (in_head 12 (lit< tt)) (in_head 13 (lit< tt)) ∙ two_bytes (vertices file)
+  vertices_are = ap₂ (λ (x y : ℕ). x + 256 * y) (in_head 12 (lit< tt)) (in_head 13 (lit< tt)) ∙ two_bytes (vertices file)
 
   pub edges_are : R.edges routine ≡ edges file
   unfolding word
   edges_are = ap₂ (λ (x y : ℕ). x + 256 * y) (in_head 16 (lit< tt)) (in_head 17 (lit< tt)) ∙ two_bytes (edges file)
 
-  pub exit-is : R.exit routine ≡ exit file
-  exit-is = ap (λ (n : ℕ). n - 1) vertices-are
+  pub exit_is : R.exit routine ≡ exit file
+  exit_is = ap (λ (n : ℕ). n - 1) vertices_are
 
   -- ---- array records
 
-  pub records-size : (n : ℕ) → length (rows (array_bytes file given) n) ≡ 4 * n
-  records-size = rows-length (array_bytes file given) 4 (λ i. refl)
+  pub records_size : (n : ℕ) → length (rows (array_bytes file given) n) ≡ 4 * n
+  records_size = rows-length (array_bytes file given) 4 (λ i. refl)
 
-  pub array-is : (a : ℕ) → a < arrays file → array_of routine a ≡ array_record_of (array_bytes file given a)
+  pub array_is : (a : ℕ) → a < arrays file → array_of routine a ≡ array_record_of (array_bytes file given a)
   unfolding array_of
-  array-is a h = cc (field 0 (lit< tt), field 1 (lit< tt), field 2 (lit< tt), field 3 (lit< tt))
+  array_is a h = cc (field 0 (lit< tt), field 1 (lit< tt), field 2 (lit< tt), field 3 (lit< tt))
     where
       field : (j : ℕ) → j < 4 → get_or (take 4 (drop (R.record_at a) routine)) j 0 ≡ get_or (array_bytes file given a) j 0
       field j l =
           let e : R.record_at a + j ≡ 18 + (a * 4 + j) = omega arith in
           get_or-take 4 (drop (R.record_at a) routine) j 0 l ∙ get_or-drop (R.record_at a) routine j 0
           ∙ ap (λ (i : ℕ). get_or routine i 0) e ∙ in_rest (a * 4 + j)
-          ∙ get_or-append records (actions ++ edge_bytes file) 0 (a * 4 + j) (omega (arith, records-size (arrays file)))
+          ∙ get_or-append records (actions ++ edge_bytes file) 0 (a * 4 + j) (omega (arith, records_size (arrays file)))
           ∙ rows_at (array_bytes file given) 4 (λ i. refl) (arrays file) a j h l
 
   -- ---- rows
 
-  pub row-size : (v : ℕ) → length (row_bytes file given v) ≡ arrays file
-  row-size v = table-length (λ a. action_for file given a v (given a v)) (arrays file)
+  pub row_size : (v : ℕ) → length (row_bytes file given v) ≡ arrays file
+  row_size v = table-length (λ a. action_for file given a v (given a v)) (arrays file)
 
-  pub actions-size : (n : ℕ) → length (rows (row_bytes file given) n) ≡ n * arrays file
-  actions-size n = rows-length (row_bytes file given) (arrays file) row-size n ∙ mul_comm (arrays file) n
+  pub actions_size : (n : ℕ) → length (rows (row_bytes file given) n) ≡ n * arrays file
+  actions_size n = rows-length (row_bytes file given) (arrays file) row_size n ∙ mul_comm (arrays file) n
 
-  pub byte-is : (a v : ℕ) → a < arrays file → v < vertices file → action_byte routine a v ≡ action_for file given a v (given a v)
-  byte-is a v in-a in-v =
+  pub byte_is : (a v : ℕ) → a < arrays file → v < vertices file → action_byte routine a v ≡ action_for file given a v (given a v)
+  byte_is a v in_a in_v =
       let i = v * arrays file + a in
-      let e : R.action_at routine a v ≡ 18 + (4 * arrays file + i) = omega (arith, arrays-are, ap (λ (n : ℕ). v * n) arrays-are) in
+      let e : R.action_at routine a v ≡ 18 + (4 * arrays file + i) = omega (arith, arrays_are, ap (λ (n : ℕ). v * n) arrays_are) in
       ap (λ (i : ℕ). get_or routine i 0) e ∙ in_rest (4 * arrays file + i)
-      ∙ get_d-behind records (actions ++ edge_bytes file) (records-size (arrays file)) i 0
-      ∙ get_or-append actions (edge_bytes file) 0 i (omega (arith, actions-size (vertices file), mul-le-mul_right (arrays file) in-v))
-      ∙ rows_at (row_bytes file given) (arrays file) row-size (vertices file) v a in-v in-a
-      ∙ table_at (λ a. action_for file given a v (given a v)) (arrays file) a in-a
+      ∙ get_d_behind records (actions ++ edge_bytes file) (records_size (arrays file)) i 0
+      ∙ get_or-append actions (edge_bytes file) 0 i (omega (arith, actions_size (vertices file), mul-le-mul_right (arrays file) in_v))
+      ∙ rows_at (row_bytes file given) (arrays file) row_size (vertices file) v a in_v in_a
+      ∙ table_at (λ a. action_for file given a v (given a v)) (arrays file) a in_a
 
   -- ---- edges
 
-  pub edge-bytes : L.edge_bytes routine ≡ edge_bytes file
-  edge-bytes =
+  pub edge_bytes_lem : L.edge_bytes routine ≡ edge_bytes file
+  edge_bytes_lem =
       let n = vertices file * arrays file in
-      let e : R.edges_at routine ≡ 18 + (4 * arrays file + (n + 0)) = omega (arith, arrays-are, ap₂ ◌*◌ vertices-are arrays-are) in
-      ap₂ drop e is ∙ drop-behind head (records ++ (actions ++ edge_bytes file)) refl (4 * arrays file + (n + 0))
-      ∙ drop-behind records (actions ++ edge_bytes file) (records-size (arrays file)) (n + 0)
-      ∙ drop-behind actions (edge_bytes file) (actions-size (vertices file)) 0
+      let e : R.edges_at routine ≡ 18 + (4 * arrays file + (n + 0)) = omega (arith, arrays_are, ap₂ ◌*◌ vertices_are arrays_are) in
+      ap₂ drop e is ∙ drop_behind head (records ++ (actions ++ edge_bytes file)) refl (4 * arrays file + (n + 0))
+      ∙ drop_behind records (actions ++ edge_bytes file) (records_size (arrays file)) (n + 0)
+      ∙ drop_behind actions (edge_bytes file) (actions_size (vertices file)) 0
 
   -- ---- the end, where the file's edges fill it
 
@@ -118,11 +118,11 @@ module _ (file : List ℕ) (given : ℕ → ℕ → List Mapping) where
         arith,
         length-append records (actions ++ edge_bytes file),
         length-append actions (edge_bytes file),
-        records-size (arrays file),
-        actions-size (vertices file),
+        records_size (arrays file),
+        actions_size (vertices file),
         size,
         edges_are,
-        arrays-are,
-        ap₂ ◌*◌ vertices-are arrays-are,
+        arrays_are,
+        ap₂ ◌*◌ vertices_are arrays_are,
       ) in
       ap length is ∙ length-append head (records ++ (actions ++ edge_bytes file)) ∙ sized

@@ -187,13 +187,13 @@ spreads (suc n) = spreads n ++ redistribute 0 (cyclic (suc n) ++ undivided) ∷ 
 abbrev spread : ℕ → List ℕ
 spread n = file_of ((block ++ undivided) ∷ []) (array 0 ∷ []) (none ∷ (spreads n ++ none ∷ [])) (chain (suc n))
 
-at-limit : (check40 (spread (width - 1)) ≡ Passed) × (check41 (spread (width - 1)) ≡ Passed)
+at_limit : (check40 (spread (width - 1)) ≡ Passed) × (check41 (spread (width - 1)) ≡ Passed)
 unfolding check40 check41 rows word bit action_of
-at-limit = (refl, refl)
+at_limit = (refl, refl)
 
-above-limit : (check40 (spread width) ≡ Passed) × (check41 (spread width) ≡ Failed (TooManyMappings 0))
+above_limit : (check40 (spread width) ≡ Passed) × (check41 (spread width) ≡ Failed (TooManyMappings 0))
 unfolding check40 check41 rows word bit action_of
-above-limit = (refl, refl)
+above_limit = (refl, refl)
 
 -- ---- readings
 

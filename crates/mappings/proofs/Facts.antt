@@ -26,8 +26,8 @@ use Rattle.mappings.specs.Along.{State, initial_state, after, state_by}
 use Rattle.mappings.specs.Computed.{last_sets, realigns, alignment_of, code, align_sets, redistributes, spread_sets, spread_by, spread_of}
 use Rattle.mappings.specs.Tables.{spread_column}
 use Rattle.mappings.specs.Theorem.{Right, Formed}
-use Rattle.mappings.proofs.Along.{arrives-below, state-first, state-next, by-path}
-use Rattle.mappings.proofs.Arrivals.{last-exact, last-below, column-exact}
+use Rattle.mappings.proofs.Along.{arrives_below, state_first, state_next, by_path}
+use Rattle.mappings.proofs.Arrivals.{last_exact, last_below, column_exact}
 
 some_same : {j k : ℕ} → ◌≡◌ {A = Option ℕ} (some j) (some k) → j ≡ k
 some_same e = cc
@@ -60,7 +60,7 @@ module _ {file : List ℕ} (formed : Formed file) (w : ℕ) (test : Directive �
   Told before = (k : ℕ) × (last_version is_one number before ≡ some k) × P k (state_by file before)
 
   told : (u : ℕ) (us : List ℕ) (v : ℕ) → Arrives es (u ∷ us) v → Told (u ∷ us)
-  told = by-path formed (λ p x. Told p) (λ x e. (number entry, refl, subst (P (number entry)) (sym (state-first formed)) initially)) next
+  told = by_path formed (λ p x. Told p) (λ x e. (number entry, refl, subst (P (number entry)) (sym (state_first formed)) initially)) next
     where
       next : (p : List ℕ) (u x : ℕ) → Arrives es p u → (u ≡ entry → ⊥) → Edge es u x → Told p → Told (p ++ u ∷ [])
       next p u x path other e h =
@@ -70,19 +70,19 @@ module _ {file : List ℕ} (formed : Formed file) (w : ℕ) (test : Directive �
           (λ t. (
             number u,
             last_snoc is_one number p u ∙ ap last (is ∙ is_true _ t),
-            subst (P (number u)) (sym (state-next file p u)) (gives u (arrives-below formed p u path) t (state_by file p)),
+            subst (P (number u)) (sym (state_next file p u)) (gives u (arrives_below formed p u path) t (state_by file p)),
           ))
           (λ t. (
             h.0,
             last_snoc is_one number p u ∙ ap last (is ∙ is_false _ t) ∙ h.1,
-            subst (P h.0) (sym (state-next file p u)) (keeps u t h.0 (state_by file p) h.2),
+            subst (P h.0) (sym (state_next file p u)) (keeps u t h.0 (state_by file p) h.2),
           ))
           (either (test (directive file u)))
 
   -- what a set holds is told by some path, and what a path tells is held
-  pub held-told : (v k : ℕ) → T (has (get_or sets v 0) k) → (before : List ℕ) × Arrives es before v × P k (state_by file before)
-  held-told v k h =
-      let l = (last-exact formed.ends formed.some-vertex w is_one number (λ u l _. small u l) v k).0 h in
+  pub held_told : (v k : ℕ) → T (has (get_or sets v 0) k) → (before : List ℕ) × Arrives es before v × P k (state_by file before)
+  held_told v k h =
+      let l = (last_exact formed.ends formed.some_vertex w is_one number (λ u l _. small u l) v k).0 h in
       (l.before, l.path, go l.before l.path l.last)
     where
       go : (before : List ℕ) → Arrives es before v → last_version is_one number before ≡ some k → P k (state_by file before)
@@ -91,12 +91,12 @@ module _ {file : List ℕ} (formed : Formed file) (w : ℕ) (test : Directive �
           let t = told u us v path in
           subst (λ (j : ℕ). P j (state_by file (u ∷ us))) (some_same (sym t.1 ∙ e)) t.2
 
-  pub told-held : (v : ℕ) → (v ≡ entry → ⊥) → (before : List ℕ) → Arrives es before v → (k : ℕ) × T (has (get_or sets v 0) k) × P k (state_by file before)
-  told-held v other [] path = absurd (other path)
-  told-held v other (u ∷ us) path =
+  pub told_held : (v : ℕ) → (v ≡ entry → ⊥) → (before : List ℕ) → Arrives es before v → (k : ℕ) × T (has (get_or sets v 0) k) × P k (state_by file before)
+  told_held v other [] path = absurd (other path)
+  told_held v other (u ∷ us) path =
       let t = told u us v path in (
         t.0,
-        (last-exact formed.ends formed.some-vertex w is_one number (λ u l _. small u l) v t.0).1 (record { before = u ∷ us; path = path; last = t.1 }),
+        (last_exact formed.ends formed.some_vertex w is_one number (λ u l _. small u l) v t.0).1 (record { before = u ∷ us; path = path; last = t.1 }),
         t.2,
       )
 
@@ -117,7 +117,7 @@ same_code x y h g e =
     let f : x.exchanged ≡ y.exchanged = omega arith in
     ap₂ of_two t f
 
-module _ {file : List ℕ} (formed : Formed file) (a : ℕ) (in-a : a < arrays file) where
+module _ {file : List ℕ} (formed : Formed file) (a : ℕ) (in_a : a < arrays file) where
   abbrev start : Alignment
   start = (initial_state file).aligned a
 
@@ -133,50 +133,50 @@ module _ {file : List ℕ} (formed : Formed file) (a : ℕ) (in-a : a < arrays f
   right_of u h = go (directive file u) refl
     where
       go : (d : Directive) → directive file u ≡ d → Right file (alignment_of start d)
-      go Nothing e = formed.aligned a in-a
+      go Nothing e = formed.aligned a in_a
       go (Realign b x) e = formed.realigned u b x h e
-      go (Redistribute t m) e = formed.aligned a in-a
+      go (Redistribute t m) e = formed.aligned a in_a
 
   numbers_fit : (u : ℕ) → u < vertices file → number u < 16
-  numbers_fit u h = omega (arith, (right_of u h).0, (right_of u h).1, formed.few-templates)
+  numbers_fit u h = omega (arith, (right_of u h).0, (right_of u h).1, formed.few_templates)
 
   -- a realign of the array gives it the new alignment, any other directive leaves the old one
-  new-alignment : (d : Directive) (s : State) → T (realigns a d) → (after d s).aligned a ≡ alignment_of start d
-  new-alignment Nothing s t = absurd t
-  new-alignment (Realign b x) s t = ap (λ (c : Bool). cond c x (s.aligned a)) (is_true (eqb a b) t)
-  new-alignment (Redistribute r m) s t = absurd t
+  new_alignment : (d : Directive) (s : State) → T (realigns a d) → (after d s).aligned a ≡ alignment_of start d
+  new_alignment Nothing s t = absurd t
+  new_alignment (Realign b x) s t = ap (λ (c : Bool). cond c x (s.aligned a)) (is_true (eqb a b) t)
+  new_alignment (Redistribute r m) s t = absurd t
 
-  pub same-alignment : (d : Directive) (s : State) → T (not (realigns a d)) → (after d s).aligned a ≡ s.aligned a
-  same-alignment Nothing s t = refl
-  same-alignment (Realign b x) s t = ap (λ (c : Bool). cond c x (s.aligned a)) (is_false (eqb a b) t)
-  same-alignment (Redistribute r m) s t = refl
+  pub same_alignment : (d : Directive) (s : State) → T (not (realigns a d)) → (after d s).aligned a ≡ s.aligned a
+  same_alignment Nothing s t = refl
+  same_alignment (Realign b x) s t = ap (λ (c : Bool). cond c x (s.aligned a)) (is_false (eqb a b) t)
+  same_alignment (Redistribute r m) s t = refl
 
-  gives-it : (u : ℕ) → u < vertices file → T (realigns a (directive file u)) → (s : State) → Is (number u) (after (directive file u) s)
-  gives-it u l t s =
-      let e = new-alignment (directive file u) s t in
+  gives_it : (u : ℕ) → u < vertices file → T (realigns a (directive file u)) → (s : State) → Is (number u) (after (directive file u) s)
+  gives_it u l t s =
+      let e = new_alignment (directive file u) s t in
       (ap code e, subst (Right file) (sym e) (right_of u l))
 
-  keeps-it : (u : ℕ) → T (not (realigns a (directive file u))) → (k : ℕ) (s : State) → Is k s → Is k (after (directive file u) s)
-  keeps-it u t k s h =
-      let e = same-alignment (directive file u) s t in
+  keeps_it : (u : ℕ) → T (not (realigns a (directive file u))) → (k : ℕ) (s : State) → Is k s → Is k (after (directive file u) s)
+  keeps_it u t k s h =
+      let e = same_alignment (directive file u) s t in
       (ap code e ∙ h.0, subst (Right file) (sym e) h.1)
 
   begins : Is (number entry) (initial_state file)
-  begins = (ap (λ (d : Directive). code (alignment_of start d)) (sym formed.entry-silent), formed.aligned a in-a)
+  begins = (ap (λ (d : Directive). code (alignment_of start d)) (sym formed.entry_silent), formed.aligned a in_a)
 
   module _ (v : ℕ) (other : v ≡ entry → ⊥) where
     -- each alignment that a path brings is right
-    pub brings-right : (x : Alignment) → BringsAligned file a v x → Right file x
-    brings-right x b =
-        subst (Right file) b.is (told-held formed 16 (realigns a) number Is numbers_fit gives-it keeps-it begins v other b.before b.path).2.1
+    pub brings_right : (x : Alignment) → BringsAligned file a v x → Right file x
+    brings_right x b =
+        subst (Right file) b.is (told_held formed 16 (realigns a) number Is numbers_fit gives_it keeps_it begins v other b.before b.path).2.1
 
     -- the set of v holds 2 t + e exactly if some path brings the array aligned with template t, exchanged e
-    pub alignments-exact : (x : Alignment) → x.exchanged < 2 → T (has (get_or (align_sets file a) v 0) (code x)) ↔ BringsAligned file a v x
+    pub alignments_exact : (x : Alignment) → x.exchanged < 2 → T (has (get_or (align_sets file a) v 0) (code x)) ↔ BringsAligned file a v x
     unfolding align_sets
-    alignments-exact x small = (
-      λ h. let b = held-told formed 16 (realigns a) number Is numbers_fit gives-it keeps-it begins v (code x) h in
+    alignments_exact x small = (
+      λ h. let b = held_told formed 16 (realigns a) number Is numbers_fit gives_it keeps_it begins v (code x) h in
           record { before = b.0; path = b.1; is = same_code ((state_by file b.0).aligned a) x b.2.1.1 small b.2.0 },
-      λ b. let t = told-held formed 16 (realigns a) number Is numbers_fit gives-it keeps-it begins v other b.before b.path in
+      λ b. let t = told_held formed 16 (realigns a) number Is numbers_fit gives_it keeps_it begins v other b.before b.path in
           subst (λ (k : ℕ). T (has (get_or (align_sets file a) v 0) k)) (sym t.2.0 ∙ ap code b.is) t.1,
     )
 
@@ -200,44 +200,44 @@ module _ {file : List ℕ} (formed : Formed file) (t : ℕ) where
   Gave k s = s.spread t ≡ spread_by file t k
 
   -- a redistribute of the template gives it the new spread, any other directive leaves the old one
-  new-spread : (d : Directive) (s : State) → T (redistributes t d) → (after d s).spread t ≡ spread_of ((initial_state file).spread t) d
-  new-spread Nothing s h = absurd h
-  new-spread (Realign b x) s h = absurd h
-  new-spread (Redistribute r m) s h = ap (λ (c : Bool). cond c m (s.spread t)) (is_true (eqb t r) h)
+  new_spread : (d : Directive) (s : State) → T (redistributes t d) → (after d s).spread t ≡ spread_of ((initial_state file).spread t) d
+  new_spread Nothing s h = absurd h
+  new_spread (Realign b x) s h = absurd h
+  new_spread (Redistribute r m) s h = ap (λ (c : Bool). cond c m (s.spread t)) (is_true (eqb t r) h)
 
-  same-spread : (d : Directive) (s : State) → T (not (redistributes t d)) → (after d s).spread t ≡ s.spread t
-  same-spread Nothing s h = refl
-  same-spread (Realign b x) s h = refl
-  same-spread (Redistribute r m) s h = ap (λ (c : Bool). cond c m (s.spread t)) (is_false (eqb t r) h)
+  same_spread : (d : Directive) (s : State) → T (not (redistributes t d)) → (after d s).spread t ≡ s.spread t
+  same_spread Nothing s h = refl
+  same_spread (Realign b x) s h = refl
+  same_spread (Redistribute r m) s h = ap (λ (c : Bool). cond c m (s.spread t)) (is_false (eqb t r) h)
 
-  gives-spread : (u : ℕ) → u < vertices file → T (redistributes t (directive file u)) → (s : State) → Gave u (after (directive file u) s)
-  gives-spread u l h s = new-spread (directive file u) s h
+  gives_spread : (u : ℕ) → u < vertices file → T (redistributes t (directive file u)) → (s : State) → Gave u (after (directive file u) s)
+  gives_spread u l h s = new_spread (directive file u) s h
 
-  keeps-spread : (u : ℕ) → T (not (redistributes t (directive file u))) → (k : ℕ) (s : State) → Gave k s → Gave k (after (directive file u) s)
-  keeps-spread u h k s g = same-spread (directive file u) s h ∙ g
+  keeps_spread : (u : ℕ) → T (not (redistributes t (directive file u))) → (k : ℕ) (s : State) → Gave k s → Gave k (after (directive file u) s)
+  keeps_spread u h k s g = same_spread (directive file u) s h ∙ g
 
-  begins-spread : Gave entry (initial_state file)
-  begins-spread = ap (spread_of ((initial_state file).spread t)) (sym formed.entry-silent)
+  begins_spread : Gave entry (initial_state file)
+  begins_spread = ap (spread_of ((initial_state file).spread t)) (sym formed.entry_silent)
 
   -- a vertex of the set gave the spread that some path brings, and each such spread was given by one
-  pub spreads-exact : (v : ℕ) (m : Mapping) → (v ≡ entry → ⊥) → Giver file t v m ↔ BringsSpread file t v m
+  pub spreads_exact : (v : ℕ) (m : Mapping) → (v ≡ entry → ⊥) → Giver file t v m ↔ BringsSpread file t v m
   unfolding spread_sets
-  spreads-exact v m other = (
-    λ g. let b = held-told formed (vertices file) (redistributes t) (λ u. u) Gave (λ u l. l) gives-spread keeps-spread begins-spread v g.vertex g.held in
+  spreads_exact v m other = (
+    λ g. let b = held_told formed (vertices file) (redistributes t) (λ u. u) Gave (λ u l. l) gives_spread keeps_spread begins_spread v g.vertex g.held in
         record { before = b.0; path = b.1; is = b.2 ∙ g.gave },
-    λ b. let h = told-held formed (vertices file) (redistributes t) (λ u. u) Gave (λ u l. l) gives-spread keeps-spread begins-spread v other b.before b.path in
+    λ b. let h = told_held formed (vertices file) (redistributes t) (λ u. u) Gave (λ u l. l) gives_spread keeps_spread begins_spread v other b.before b.path in
         record { vertex = h.0; held = h.1; gave = sym h.2 ∙ b.is },
   )
 
   -- the vertices in the sets are vertices of the file
-  pub spread-below : (v k : ℕ) → T (has (get_or (spread_sets file t) v 0) k) → k < vertices file
+  pub spread_below : (v k : ℕ) → T (has (get_or (spread_sets file t) v 0) k) → k < vertices file
   unfolding spread_sets
-  spread-below v k h =
-      last-below formed.ends formed.some-vertex (vertices file) (λ u. eqb u entry || redistributes t (directive file u)) (λ u. u) (λ u l _. l) v k h
+  spread_below v k h =
+      last_below formed.ends formed.some_vertex (vertices file) (λ u. eqb u entry || redistributes t (directive file u)) (λ u. u) (λ u l _. l) v k h
 
   -- columns hold the same
-  pub spread-column : (v c b : ℕ) → b < width → has (get_or (spread_column file t c) v 0) b ≡ has (get_or (spread_sets file t) v 0) (width * c + b)
+  pub spread_column_lem : (v c b : ℕ) → b < width → has (get_or (spread_column file t c) v 0) b ≡ has (get_or (spread_sets file t) v 0) (width * c + b)
   unfolding spread_sets spread_column
-  spread-column v c b l =
+  spread_column_lem v c b l =
       same_test _ _
-      (column-exact formed.ends formed.some-vertex (vertices file) (λ u. eqb u entry || redistributes t (directive file u)) (λ u. u) (λ u l _. l) c b v l)
+      (column_exact formed.ends formed.some_vertex (vertices file) (λ u. eqb u entry || redistributes t (directive file u)) (λ u. u) (λ u l _. l) c b v l)

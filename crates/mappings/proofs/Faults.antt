@@ -9,8 +9,8 @@ use Prim.Native.Nat.{ℕ, ◌≤◌, ◌<◌}
 use borrow.Author.Tests.{lt-ltb, ltb-false, not-true}
 use lib.Dec.{T, ltb, ltb→lt}
 use lib.ListN.{length}
-use Rattle.refusal.proofs.Checks.{holds-true, each-passed}
-use Rattle.refusal.proofs.Faults.{row-passed, row-failed, fault-passed, fault-failed}
+use Rattle.refusal.proofs.Checks.{holds_true, each_passed}
+use Rattle.refusal.proofs.Faults.{row_passed, row_failed, fault_passed, fault_failed}
 use Rattle.refusal.specs.Checks.{holds}
 use Rattle.refusal.specs.declared.Refusal.TheVariants.{TooManyMappings, TwoMappings}
 use Rattle.refusal.specs.declared.Verdict.TheVariants.{Passed}
@@ -22,33 +22,33 @@ use Rattle.mappings.specs.Demand.{MappingFaults}
 use Rattle.mappings.specs.Rules.{TooMany, InTwo}
 use Rattle.mappings.specs.Theorem.{Formed}
 use Rattle.mappings.proofs.Formed.{formed}
-use Rattle.mappings.proofs.Left.{two-exact}
-use Rattle.mappings.proofs.Numbers.{many-exact}
+use Rattle.mappings.proofs.Left.{two_exact}
+use Rattle.mappings.proofs.Numbers.{many_exact}
 
 -- more versions than the limit
 abbrev too_many : List ℕ → ℕ → Bool
 too_many file a = ltb width (length (versions_of file a))
 
 -- 41 leaves no array with more
-pub few-versions : (file : List ℕ) → check41 file ≡ Passed → (a : ℕ) → a < arrays file → length (versions_of file a) ≤ width
+pub few_versions : (file : List ℕ) → check41 file ≡ Passed → (a : ℕ) → a < arrays file → length (versions_of file a) ≤ width
 unfolding check41
-few-versions file e a h =
-    ltb-false width _ (not-true _ (holds-true _ _ (each-passed (λ a. holds (not (too_many file a)) (TooManyMappings a)) (arrays file) e a h)))
+few_versions file e a h =
+    ltb-false width _ (not-true _ (holds_true _ _ (each_passed (λ a. holds (not (too_many file a)) (TooManyMappings a)) (arrays file) e a h)))
 
-pub mapping-faults : (file : List ℕ) → check40 file ≡ Passed → MappingFaults file
+pub mapping_faults : (file : List ℕ) → check40 file ≡ Passed → MappingFaults file
 unfolding check41 check42
-mapping-faults file passed = record {
-  few = row-passed (too_many file) TooManyMappings (arrays file) (TooMany file width) many;
-  many = row-failed (too_many file) TooManyMappings (arrays file) (TooMany file width) many;
-  single = λ e. fault-passed (λ v a. several (left_set file a v)) TwoMappings (vertices file) (arrays file) (λ v a. InTwo file a v) (two e);
-  double = λ e. fault-failed (λ v a. several (left_set file a v)) TwoMappings (vertices file) (arrays file) (λ v a. InTwo file a v) (two e);
+mapping_faults file passed = record {
+  few = row_passed (too_many file) TooManyMappings (arrays file) (TooMany file width) many;
+  many = row_failed (too_many file) TooManyMappings (arrays file) (TooMany file width) many;
+  single = λ e. fault_passed (λ v a. several (left_set file a v)) TwoMappings (vertices file) (arrays file) (λ v a. InTwo file a v) (two e);
+  double = λ e. fault_failed (λ v a. several (left_set file a v)) TwoMappings (vertices file) (arrays file) (λ v a. InTwo file a v) (two e);
 }
   where
     f : Formed file
     f = formed file passed
 
     many : (a : ℕ) → a < arrays file → T (too_many file a) ↔ TooMany file width a
-    many a h = Iff.trans (ltb→lt width (length (versions_of file a)), λ l. rw (lt-ltb width (length (versions_of file a)) l) tt) (many-exact f a h width)
+    many a h = Iff.trans (ltb→lt width (length (versions_of file a)), λ l. rw (lt-ltb width (length (versions_of file a)) l) tt) (many_exact f a h width)
 
     two : check41 file ≡ Passed → (v a : ℕ) → a < arrays file → T (several (left_set file a v)) ↔ InTwo file a v
-    two e v a h = two-exact f a h (few-versions file e a h) v
+    two e v a h = two_exact f a h (few_versions file e a h) v

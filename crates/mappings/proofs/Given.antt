@@ -12,7 +12,7 @@ use lib.Ieee.Bits.{is_true, is_false}
 use lib.ListN.{get_or}
 use Rattle.labels.specs.Reaching.{Arrives}
 use Rattle.sets.specs.Sets.{has}
-use Rattle.words.proofs.Tests.{either, eqb-iff}
+use Rattle.words.proofs.Tests.{either, eqb_iff}
 use Rattle.words.specs.Tables.{rows}
 use Rattle.directives.specs.Directives.{directive}
 use Rattle.directives.specs.Layout.{arrays, vertices, entry, edge_bytes}
@@ -25,11 +25,11 @@ use Rattle.mappings.specs.Computed.{code, align_sets, spread_sets, spread_by, gi
 use Rattle.mappings.specs.Converted.{is_listed, version_in}
 use Rattle.mappings.specs.Rules.{Gives, mapping_after, initial_mapping}
 use Rattle.mappings.specs.Theorem.{Formed}
-use Rattle.mappings.proofs.Along.{unmoved, arrives-below, state-first, state-next, by-path}
-use Rattle.mappings.proofs.Facts.{BringsAligned, brings-right, alignments-exact, spreads-exact, spread-below}
-use Rattle.mappings.proofs.Lists.{listed-rows, listed-none, listed-head, number-head, numbered-some, numbered-first, numbered-all}
+use Rattle.mappings.proofs.Along.{unmoved, arrives_below, state_first, state_next, by_path}
+use Rattle.mappings.proofs.Facts.{BringsAligned, brings_right, alignments_exact, spreads_exact, spread_below}
+use Rattle.mappings.proofs.Lists.{listed_rows, listed_none, listed_head, number_head, numbered_some, numbered_first, numbered_all}
 
-module _ {file : List ℕ} (formed : Formed file) (a : ℕ) (in-a : a < arrays file) where
+module _ {file : List ℕ} (formed : Formed file) (a : ℕ) (in_a : a < arrays file) where
   module _ (v : ℕ) (m : Mapping) where
     -- on some path the directive d at v remaps the array, and gives it m
     record GivesBy (d : Directive) : Type 0 where
@@ -46,17 +46,17 @@ module _ {file : List ℕ} (formed : Formed file) (a : ℕ) (in-a : a < arrays f
     redistributed : (t : ℕ) (r : Mapping) (s : State) → T (eqb (s.aligned a).template t) → mapping (after (Redistribute t r) s) a ≡ turned (s.aligned a).exchanged r
     redistributed t r s h = ap (λ (c : Bool). turned (s.aligned a).exchanged (cond c r (s.spread (s.aligned a).template))) (is_true (eqb (s.aligned a).template t) h)
 
-    by-realign : (v ≡ entry → ⊥) → (b : ℕ) (x : Alignment) → T (is_listed m (given_by file a v (Realign b x))) ↔ GivesBy (Realign b x)
-    by-realign other b x = ⊎_elim yes no (either (eqb a b))
+    by_realign : (v ≡ entry → ⊥) → (b : ℕ) (x : Alignment) → T (is_listed m (given_by file a v (Realign b x))) ↔ GivesBy (Realign b x)
+    by_realign other b x = ⊎_elim yes no (either (eqb a b))
       where
         all : T (is_listed m (rows (λ u. cond (has (get_or (spread_sets file x.template) v 0) u) (turned x.exchanged (spread_by file x.template u) ∷ []) []) (vertices file)))
             ↔ ((u : ℕ) × (u < vertices file) × T (has (get_or (spread_sets file x.template) v 0) u) × (turned x.exchanged (spread_by file x.template u) ≡ m))
-        all = listed-rows m (λ u. has (get_or (spread_sets file x.template) v 0) u) (λ u. turned x.exchanged (spread_by file x.template u)) (vertices file)
+        all = listed_rows m (λ u. has (get_or (spread_sets file x.template) v 0) u) (λ u. turned x.exchanged (spread_by file x.template u)) (vertices file)
 
         yes : T (eqb a b) → T (is_listed m (given_by file a v (Realign b x))) ↔ GivesBy (Realign b x)
         yes t = rw (is_true (eqb a b) t) (
           λ h. let g = all.0 h in
-              let p = (spreads-exact formed x.template v (spread_by file x.template g.0) other).0 (record { vertex = g.0; held = g.2; gave = refl }) in
+              let p = (spreads_exact formed x.template v (spread_by file x.template g.0) other).0 (record { vertex = g.0; held = g.2; gave = refl }) in
               record {
                 before = p.before;
                 path = p.path;
@@ -64,24 +64,24 @@ module _ {file : List ℕ} (formed : Formed file) (a : ℕ) (in-a : a < arrays f
                 is = realigned x b (state_by file p.before) t ∙ ap (turned x.exchanged) p.is ∙ g.3;
               },
           λ g. let s = state_by file g.before in
-              let p = (spreads-exact formed x.template v (s.spread x.template) other).1 (record { before = g.before; path = g.path; is = refl }) in
+              let p = (spreads_exact formed x.template v (s.spread x.template) other).1 (record { before = g.before; path = g.path; is = refl }) in
               all.1 (
                 p.vertex,
-                spread-below formed x.template v p.vertex p.held,
+                spread_below formed x.template v p.vertex p.held,
                 p.held,
                 ap (turned x.exchanged) p.gave ∙ sym (realigned x b s t) ∙ g.is,
               ),
         )
 
         no : T (not (eqb a b)) → T (is_listed m (given_by file a v (Realign b x))) ↔ GivesBy (Realign b x)
-        no t = rw (is_false (eqb a b) t) (λ h. absurd (listed-none m h), λ g. absurd (T_not (eqb a b) t g.remaps))
+        no t = rw (is_false (eqb a b) t) (λ h. absurd (listed_none m h), λ g. absurd (T_not (eqb a b) t g.remaps))
 
-    by-redistribute : (v ≡ entry → ⊥) → (t : ℕ) (r : Mapping) → T (is_listed m (given_by file a v (Redistribute t r))) ↔ GivesBy (Redistribute t r)
-    by-redistribute other t r = (
+    by_redistribute : (v ≡ entry → ⊥) → (t : ℕ) (r : Mapping) → T (is_listed m (given_by file a v (Redistribute t r))) ↔ GivesBy (Redistribute t r)
+    by_redistribute other t r = (
       λ h. let g = all.0 h in
           let x : Alignment = record { template = t; exchanged = g.0 } in
-          let p = (alignments-exact formed a in-a v other x g.1).0 g.2 in
-          let with-t : T (eqb ((state_by file p.before).aligned a).template t) = (eqb-iff _ t).1 (ap (λ (y : Alignment). y.template) p.is) in
+          let p = (alignments_exact formed a in_a v other x g.1).0 g.2 in
+          let with-t : T (eqb ((state_by file p.before).aligned a).template t) = (eqb_iff _ t).1 (ap (λ (y : Alignment). y.template) p.is) in
           record {
             before = p.before;
             path = p.path;
@@ -90,29 +90,29 @@ module _ {file : List ℕ} (formed : Formed file) (a : ℕ) (in-a : a < arrays f
           },
       λ g. let y = (state_by file g.before).aligned a in
           let b : BringsAligned file a v y = record { before = g.before; path = g.path; is = refl } in
-          let small = (brings-right formed a in-a v other y b).1 in
-          let e : code y ≡ 2 * t + y.exchanged = ap (λ (n : ℕ). 2 * n + y.exchanged) ((eqb-iff y.template t).0 g.remaps) in
+          let small = (brings_right formed a in_a v other y b).1 in
+          let e : code y ≡ 2 * t + y.exchanged = ap (λ (n : ℕ). 2 * n + y.exchanged) ((eqb_iff y.template t).0 g.remaps) in
           all.1 (
             y.exchanged,
             small,
-            subst (λ (k : ℕ). T (has (get_or (align_sets file a) v 0) k)) e ((alignments-exact formed a in-a v other y small).1 b),
+            subst (λ (k : ℕ). T (has (get_or (align_sets file a) v 0) k)) e ((alignments_exact formed a in_a v other y small).1 b),
             sym (redistributed t r (state_by file g.before) g.remaps) ∙ g.is,
           ),
     )
       where
         all : T (is_listed m (given_by file a v (Redistribute t r))) ↔ ((e : ℕ) × (e < 2) × T (has (get_or (align_sets file a) v 0) (2 * t + e)) × (turned e r ≡ m))
-        all = listed-rows m (λ e. has (get_or (align_sets file a) v 0) (2 * t + e)) (λ e. turned e r) 2
+        all = listed_rows m (λ e. has (get_or (align_sets file a) v 0) (2 * t + e)) (λ e. turned e r) 2
 
-    by-directive : (d : Directive) → (v ≡ entry → d ≡ Nothing) → T (is_listed m (given_by file a v d)) ↔ GivesBy d
-    by-directive Nothing first = (λ h. absurd (listed-none m h), λ g. absurd g.remaps)
-    by-directive (Realign b x) first = by-realign (λ e. let z : ◌≡◌ {A = ℕ} 0 1 = cc (first e) in omega arith) b x
-    by-directive (Redistribute t r) first = by-redistribute (λ e. let z : ◌≡◌ {A = ℕ} 0 1 = cc (first e) in omega arith) t r
+    by_directive : (d : Directive) → (v ≡ entry → d ≡ Nothing) → T (is_listed m (given_by file a v d)) ↔ GivesBy d
+    by_directive Nothing first = (λ h. absurd (listed_none m h), λ g. absurd g.remaps)
+    by_directive (Realign b x) first = by_realign (λ e. let z : ◌≡◌ {A = ℕ} 0 1 = cc (first e) in omega arith) b x
+    by_directive (Redistribute t r) first = by_redistribute (λ e. let z : ◌≡◌ {A = ℕ} 0 1 = cc (first e) in omega arith) t r
 
     -- the list holds m exactly if on some path the directive at v remaps the array and gives it m
-    pub given-exact : T (is_listed m (given_to file a v)) ↔ Gives file a v m
+    pub given_exact : T (is_listed m (given_to file a v)) ↔ Gives file a v m
     unfolding given_to
-    given-exact =
-        let f = by-directive (directive file v) (λ e. ap (directive file) e ∙ formed.entry-silent) in (
+    given_exact =
+        let f = by_directive (directive file v) (λ e. ap (directive file) e ∙ formed.entry_silent) in (
           λ h. let g = f.0 h in record { before = g.before; path = g.path; remaps = g.remaps; is = g.is },
           λ g. f.1 (record { before = g.before; path = g.path; remaps = g.remaps; is = g.is }),
         )
@@ -123,35 +123,35 @@ module _ {file : List ℕ} (formed : Formed file) (a : ℕ) (in-a : a < arrays f
   all = versions_of file a
 
   -- what a directive gives is one of them
-  pub given-listed : {v : ℕ} {m : Mapping} → Gives file a v m → T (is_listed m all)
-  given-listed {v} {m} g =
-      numbered-all (initial_mapping file a) (given_to file a) (vertices file) v m (arrives-below formed g.before v g.path) ((given-exact v m).1 g)
+  pub given_listed : {v : ℕ} {m : Mapping} → Gives file a v m → T (is_listed m all)
+  given_listed {v} {m} g =
+      numbered_all (initial_mapping file a) (given_to file a) (vertices file) v m (arrives_below formed g.before v g.path) ((given_exact v m).1 g)
 
   -- and so is the initial mapping, with number 0
-  pub initial-listed : T (is_listed (initial_mapping file a) all)
-  initial-listed =
-      listed-head (initial_mapping file a) all (numbered-some (initial_mapping file a) (given_to file a) (vertices file))
-      (numbered-first (initial_mapping file a) (given_to file a) (vertices file) (initial_mapping file a))
+  pub initial_listed : T (is_listed (initial_mapping file a) all)
+  initial_listed =
+      listed_head (initial_mapping file a) all (numbered_some (initial_mapping file a) (given_to file a) (vertices file))
+      (numbered_first (initial_mapping file a) (given_to file a) (vertices file) (initial_mapping file a))
 
-  pub initial-number : version_in all (initial_mapping file a) ≡ 0
-  initial-number = number-head (initial_mapping file a) all (numbered-first (initial_mapping file a) (given_to file a) (vertices file) (initial_mapping file a))
+  pub initial_number : version_in all (initial_mapping file a) ≡ 0
+  initial_number = number_head (initial_mapping file a) all (numbered_first (initial_mapping file a) (given_to file a) (vertices file) (initial_mapping file a))
 
   -- after a vertex the array is in a mapping that the directive gives, or in the one before it
-  after-either : (p : List ℕ) (u : ℕ) → Arrives (edge_bytes file) p u → T (is_listed (mapping (state_by file p) a) all) → T (is_listed (mapping_after file p u a) all)
-  after-either p u path h = ⊎_elim
-      (λ t. given-listed (record { before = p; path = path; remaps = t; is = refl }))
+  after_either : (p : List ℕ) (u : ℕ) → Arrives (edge_bytes file) p u → T (is_listed (mapping (state_by file p) a) all) → T (is_listed (mapping_after file p u a) all)
+  after_either p u path h = ⊎_elim
+      (λ t. given_listed (record { before = p; path = path; remaps = t; is = refl }))
       (λ t. subst (λ (m : Mapping). T (is_listed m all)) (sym (unmoved (state_by file p) (directive file u) a (is_false _ t))) h)
       (either (remaps_in (state_by file p) (directive file u) a))
 
   -- every mapping that a path brings is one of the versions: 41 counts all that some path can give
-  brought-listed : (before : List ℕ) (v : ℕ) → Arrives (edge_bytes file) before v → T (is_listed (mapping (state_by file before) a) all)
+  brought_listed : (before : List ℕ) (v : ℕ) → Arrives (edge_bytes file) before v → T (is_listed (mapping (state_by file before) a) all)
   unfolding along
-  brought-listed [] v path = initial-listed
-  brought-listed (u ∷ us) v path =
-      by-path formed (λ p x. T (is_listed (mapping (state_by file p) a) all))
-      (λ x e. subst (λ (s : State). T (is_listed (mapping s a) all)) (sym (state-first formed)) initial-listed)
-      (λ p u x path other e h. subst (λ (s : State). T (is_listed (mapping s a) all)) (sym (state-next file p u)) (after-either p u path h))
+  brought_listed [] v path = initial_listed
+  brought_listed (u ∷ us) v path =
+      by_path formed (λ p x. T (is_listed (mapping (state_by file p) a) all))
+      (λ x e. subst (λ (s : State). T (is_listed (mapping s a) all)) (sym (state_first formed)) initial_listed)
+      (λ p u x path other e h. subst (λ (s : State). T (is_listed (mapping s a) all)) (sym (state_next file p u)) (after_either p u path h))
       u us v path
 
-  pub after-listed : (p : List ℕ) (u : ℕ) → Arrives (edge_bytes file) p u → T (is_listed (mapping_after file p u a) all)
-  after-listed p u path = after-either p u path (brought-listed p u path)
+  pub after_listed : (p : List ℕ) (u : ℕ) → Arrives (edge_bytes file) p u → T (is_listed (mapping_after file p u a) all)
+  after_listed p u path = after_either p u path (brought_listed p u path)

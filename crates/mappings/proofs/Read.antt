@@ -13,8 +13,8 @@ use Rattle.flow.specs.Paths.{edge_from, edge_to}
 use Rattle.labels.proofs.Rules.Proper as P
 use Rattle.refusal.specs.declared.Verdict.TheVariants.{Passed}
 use Rattle.routine.proofs.Accepted.{accepts}
-use Rattle.routine.proofs.Form.{few-actions}
-use Rattle.routine.proofs.Actions.{known-no-call, reference-family, remap-family}
+use Rattle.routine.proofs.Form.{few_actions}
+use Rattle.routine.proofs.Actions.{known_no_call, reference_family, remap_family}
 use Rattle.routine.specs.Actions as A
 use Rattle.routine.specs.Actions.{action_of, action_byte, is_known, remaps_below, family_of, differ, is_at_entry_or_exit, is_mixed_in_row, action_check}
 use Rattle.routine.specs.Arrays.{record_check, array_check}
@@ -29,7 +29,7 @@ use Rattle.routine.specs.declared.array.ArrayRecord.{ArrayRecord}
 use Rattle.routine.specs.declared.reader.Answer.TheVariants.{Routine}
 use Rattle.sets.specs.Sets.{width}
 use Rattle.words.proofs.Sums.{none_below}
-use Rattle.words.proofs.Tests.{by-test}
+use Rattle.words.proofs.Tests.{by_test}
 use Rattle.words.specs.Words.{word}
 use Rattle.directives.specs.Fields.{directive_byte, is_entry_or_exit, edge_of, rises, check40}
 use Rattle.directives.specs.Layout.{arrays, vertices, edges, entry, array_at, reference_at}
@@ -39,10 +39,10 @@ use Rattle.mappings.specs.Along.{state_by, remaps_in}
 use Rattle.mappings.specs.Converted.{versions, head_bytes, converted_by}
 use Rattle.mappings.specs.Rules.{initial_mapping}
 use Rattle.mappings.specs.Theorem.{Accepted}
-use Rattle.mappings.proofs.Bytes.{in_head, arrays-are, vertices-are, edges_are, exit-is, array-is, byte-is, edge-bytes, ends_there}
-use Rattle.mappings.proofs.Formed.{limits, kind-known, reference-zero, silent, silent-at, edge-facts, edges-size, edge-from, edge_to_is}
-use Rattle.mappings.proofs.Lists.{numbered-some}
-use Rattle.mappings.proofs.Theorem.{stays, byte-either, remaps-to}
+use Rattle.mappings.proofs.Bytes.{in_head, arrays_are, vertices_are, edges_are, exit_is, array_is, byte_is, edge_bytes_lem, ends_there}
+use Rattle.mappings.proofs.Formed.{limits, kind_known, reference_zero, silent, silent_at, edge_facts, edges_size, edge_from_lem, edge_to_is}
+use Rattle.mappings.proofs.Lists.{numbered_some}
+use Rattle.mappings.proofs.Theorem.{stays, byte_either, remaps_to}
 
 -- ---- a byte of a row of family f, for an array of n versions
 
@@ -56,15 +56,15 @@ module _ (n : ℕ) {b : ℕ} where
   unfolding action_of
   nothing_right f e = subst (RightByte n f) (sym e) (record { known = refl; below = refl; family = inl refl })
 
-  reference-right : {r : Access} → action_of b ≡ Reference r → RightByte n 1 b
-  reference-right e = record { known = rw e refl; below = rw e refl; family = inr (reference-family b e) }
+  reference_right : {r : Access} → action_of b ≡ Reference r → RightByte n 1 b
+  reference_right e = record { known = rw e refl; below = rw e refl; family = inr (reference_family b e) }
 
-  remap-right : {k : ℕ} → k < n → action_of b ≡ Remap k → RightByte n 2 b
-  remap-right {k} h e = record { known = rw e refl; below = rw e (lt-ltb k n h); family = inr (remap-family b e) }
+  remap_right : {k : ℕ} → k < n → action_of b ≡ Remap k → RightByte n 2 b
+  remap_right {k} h e = record { known = rw e refl; below = rw e (lt-ltb k n h); family = inr (remap_family b e) }
 
 -- two bytes of one row do not differ
-one-family : (f x y : ℕ) → (x ≡ 0) ⊎ (x ≡ f) → (y ≡ 0) ⊎ (y ≡ f) → differ x y ≡ false
-one-family f x y p q = ⊎_elim
+one_family : (f x y : ℕ) → (x ≡ 0) ⊎ (x ≡ f) → (y ≡ 0) ⊎ (y ≡ f) → differ x y ≡ false
+one_family f x y p q = ⊎_elim
     (λ (e : x ≡ 0). rw e refl)
     (λ (e : x ≡ f). ⊎_elim
     (λ (d : y ≡ 0). rw d (and-false (not (eqb x 0))))
@@ -81,107 +81,107 @@ module _ (file : List ℕ) (passed : check40 file ≡ Passed) {given : ℕ → �
       let l = limits file passed in
       record {
         limits = record {
-          some-array = omega (arith, arrays-are file given, l.some-array);
-          few-arrays = omega (arith, arrays-are file given, l.few-arrays);
-          two-vertices = omega (arith, vertices-are file given, l.two-vertices);
-          few-vertices = omega (arith, vertices-are file given, l.few-vertices);
-          few-edges = omega (arith, edges_are file given, l.few-edges);
+          some_array = omega (arith, arrays_are file given, l.some_array);
+          few_arrays = omega (arith, arrays_are file given, l.few_arrays);
+          two_vertices = omega (arith, vertices_are file given, l.two_vertices);
+          few_vertices = omega (arith, vertices_are file given, l.few_vertices);
+          few_edges = omega (arith, edges_are file given, l.few_edges);
         };
-        ends = ends_there file given (edges-size file passed);
+        ends = ends_there file given (edges_size file passed);
       }
 
   -- ---- arrays
 
-  array-passes : (a : ℕ) → a < arrays file → array_check routine a ≡ Passed
+  array_passes : (a : ℕ) → a < arrays file → array_check routine a ≡ Passed
   unfolding array_check
-  array-passes a h =
-      ap (λ (r : ArrayRecord). record_check r (record_at a)) (array-is file given a h)
+  array_passes a h =
+      ap (λ (r : ArrayRecord). record_check r (record_at a)) (array_is file given a h)
       ∙ rw (
-        le-leb (get_or file (array_at file a) 0) 3 (kind-known file passed a h),
-        le-leb 1 (length (versions file given a)) (numbered-some (initial_mapping file a) (given a) (vertices file)),
+        le-leb (get_or file (array_at file a) 0) 3 (kind_known file passed a h),
+        le-leb 1 (length (versions file given a)) (numbered_some (initial_mapping file a) (given a) (vertices file)),
         le-leb (length (versions file given a)) width (accepted.few a h),
       ) refl
 
   -- ---- actions
 
-  module _ (v : ℕ) (in-v : v < vertices file) where
+  module _ (v : ℕ) (in_v : v < vertices file) where
     -- a vertex without directive keeps its bytes
     kept : directive_byte file v ≡ 0 → (a : ℕ) → a < arrays file → action_byte routine a v ≡ get_or file (reference_at file v a) 0
-    kept e a in-a =
-        byte-is file given a v in-a in-v
+    kept e a in_a =
+        byte_is file given a v in_a in_v
         ∙ ⊎_elim
         (λ p. p.1)
-        (λ p. absurd (subst (λ (d : Directive). T (remaps_in (state_by file p.1.before) d a)) (silent file passed v in-v e) p.1.remaps))
-        (byte-either accepted a in-a v in-v)
+        (λ p. absurd (subst (λ (d : Directive). T (remaps_in (state_by file p.1.before) d a)) (silent file passed v in_v e) p.1.remaps))
+        (byte_either accepted a in_a v in_v)
 
     abbrev RightRow : ℕ → Type 0
     RightRow f = (a : ℕ) → a < arrays file → RightByte (length (versions file given a)) f (action_byte routine a v)
 
     -- it has references; one with a directive has remappings
     kept_row : directive_byte file v ≡ 0 → RightRow 1
-    kept_row e a in-a =
-        subst (RightByte (length (versions file given a)) 1) (sym (kept e a in-a))
-        (⊎_elim (nothing_right _ 1) (λ p. reference-right _ p.1) (stays (get_or file (reference_at file v a) 0) (accepted.formed.references v a in-v in-a)))
+    kept_row e a in_a =
+        subst (RightByte (length (versions file given a)) 1) (sym (kept e a in_a))
+        (⊎_elim (nothing_right _ 1) (λ p. reference_right _ p.1) (stays (get_or file (reference_at file v a) 0) (accepted.formed.references v a in_v in_a)))
 
-    remapped-row : eqb (directive_byte file v) 0 ≡ false → RightRow 2
-    remapped-row q a in-a =
-        subst (RightByte (length (versions file given a)) 2) (sym (byte-is file given a v in-a in-v))
+    remapped_row : eqb (directive_byte file v) 0 ≡ false → RightRow 2
+    remapped_row q a in_a =
+        subst (RightByte (length (versions file given a)) 2) (sym (byte_is file given a v in_a in_v))
         (⊎_elim
-        (λ p. nothing_right _ 2 (p.1 ∙ reference-zero file passed v in-v a in-a (ap (λ (b : Bool). b && not (is_entry_or_exit file v)) q)))
-        (λ p. remap-right _ p.2.0 (ap action_of p.3 ∙ remaps-to accepted a in-a v in-v p.2))
-        (byte-either accepted a in-a v in-v))
+        (λ p. nothing_right _ 2 (p.1 ∙ reference_zero file passed v in_v a in_a (ap (λ (b : Bool). b && not (is_entry_or_exit file v)) q)))
+        (λ p. remap_right _ p.2.0 (ap action_of p.3 ∙ remaps_to accepted a in_a v in_v p.2))
+        (byte_either accepted a in_a v in_v))
 
-    right-row : (f : ℕ) × RightRow f
-    right-row = by-test (eqb (directive_byte file v) 0) (λ q. (1, kept_row (eqb-true _ 0 q))) (λ q. (2, remapped-row q))
+    right_row : (f : ℕ) × RightRow f
+    right_row = by_test (eqb (directive_byte file v) 0) (λ q. (1, kept_row (eqb-true _ 0 q))) (λ q. (2, remapped_row q))
 
     -- the rows of the entry and the exit are all 00
-    zero-there : (a : ℕ) → a < arrays file → is_at_entry_or_exit routine a v ≡ false
-    zero-there a in-a = by-test (is_entry_or_exit file v)
+    zero_there : (a : ℕ) → a < arrays file → is_at_entry_or_exit routine a v ≡ false
+    zero_there a in_a = by_test (is_entry_or_exit file v)
         (λ q. let e : action_byte routine a v ≡ 0 =
-        kept (silent-at file passed v in-v q) a in-a
-        ∙ reference-zero file passed v in-v a in-a (ap (λ (b : Bool). eqb (directive_byte file v) 0 && not b) q ∙ and-false (eqb (directive_byte file v) 0)) in
+        kept (silent_at file passed v in_v q) a in_a
+        ∙ reference_zero file passed v in_v a in_a (ap (λ (b : Bool). eqb (directive_byte file v) 0 && not b) q ∙ and-false (eqb (directive_byte file v) 0)) in
         ap (λ (b : Bool). A.is_entry_or_exit routine v && not b) (eq-eqb (action_byte routine a v) 0 e) ∙ and-false (A.is_entry_or_exit routine v))
-        (λ q. ap (λ (b : Bool). b && not (eqb (action_byte routine a v) 0)) (ap (λ (n : ℕ). eqb v entry || eqb v n) (exit-is file given) ∙ q))
+        (λ q. ap (λ (b : Bool). b && not (eqb (action_byte routine a v) 0)) (ap (λ (n : ℕ). eqb v entry || eqb v n) (exit_is file given) ∙ q))
 
     action-passes : (a : ℕ) → a < arrays file → action_check routine a v ≡ Passed
     unfolding action_check
-    action-passes a in-a =
-        let (f, row) = right-row in
-        let r = row a in-a in
+    action-passes a in_a =
+        let (f, row) = right_row in
+        let r = row a in_a in
         let b = action_byte routine a v in
-        let no_call = known-no-call b r.known in
-        let unmixed : is_mixed_in_row routine a v ≡ false = none_below _ a (λ c l. one-family f _ _ r.family (row c (omega arith)).family) in
-        let versions-are = ap (λ (r : ArrayRecord). r.versions) (array-is file given a in-a) in
-        rw (unmixed, zero-there a in-a, r.known, no_call, versions-are, r.below) refl
+        let no_call = known_no_call b r.known in
+        let unmixed : is_mixed_in_row routine a v ≡ false = none_below _ a (λ c l. one_family f _ _ r.family (row c (omega arith)).family) in
+        let versions_are = ap (λ (r : ArrayRecord). r.versions) (array_is file given a in_a) in
+        rw (unmixed, zero_there a in_a, r.known, no_call, versions_are, r.below) refl
 
   -- ---- edges
 
   from_is : (i : ℕ) → (E.edge_of routine i).from ≡ (edge_of file i).from
-  from_is i = sym (P.edge-from routine i) ∙ ap (λ (s : List ℕ). edge_from s i) (edge-bytes file given) ∙ edge-from file passed i
+  from_is i = sym (P.edge_from_lem routine i) ∙ ap (λ (s : List ℕ). edge_from s i) (edge_bytes_lem file given) ∙ edge_from_lem file passed i
 
   to_is : (i : ℕ) → (E.edge_of routine i).to ≡ (edge_of file i).to
-  to_is i = sym (P.edge_to_is routine i) ∙ ap (λ (s : List ℕ). edge_to s i) (edge-bytes file given) ∙ edge_to_is file passed i
+  to_is i = sym (P.edge_to_is routine i) ∙ ap (λ (s : List ℕ). edge_to s i) (edge_bytes_lem file given) ∙ edge_to_is file passed i
 
-  rises-is : (i : ℕ) → E.rises routine i ≡ rises file i
+  rises_is : (i : ℕ) → E.rises routine i ≡ rises file i
   unfolding E.rises rises
-  rises-is zero = refl
-  rises-is (suc i) = rw (from_is i, to_is i, from_is (suc i), to_is (suc i)) refl
+  rises_is zero = refl
+  rises_is (suc i) = rw (from_is i, to_is i, from_is (suc i), to_is (suc i)) refl
 
   edge-passes : (i : ℕ) → i < edges file → edge_check routine i ≡ Passed
   unfolding edge_check
   edge-passes i h =
-      let f = edge-facts file passed i h in
+      let f = edge_facts file passed i h in
       let x = (edge_of file i).from in
       let y = (edge_of file i).to in
       rw (
         from_is i,
         to_is i,
-        vertices-are file given,
+        vertices_are file given,
         lt-ltb x (vertices file) (omega (arith, f.0)),
         lt-ltb y (vertices file) f.2,
         ne_eqb y 0 (λ e. omega (arith, f.1)),
         ne_eqb x (vertices file - 1) (λ e. omega (arith, f.0)),
-        rises-is i,
+        rises_is i,
         f.3,
       ) refl
 
@@ -190,9 +190,9 @@ module _ (file : List ℕ) (passed : check40 file ≡ Passed) {given : ℕ → �
   passes : ChecksPassed routine
   passes = record {
     laid = laid;
-    arrays-pass = λ a h. array-passes a (omega (arith, arrays-are file given));
-    actions-pass = λ a v in-a in-v. action-passes v (omega (arith, vertices-are file given)) a (omega (arith, arrays-are file given));
-    edges-pass = λ i h. edge-passes i (omega (arith, edges_are file given));
+    arrays_pass = λ a h. array_passes a (omega (arith, arrays_are file given));
+    actions_pass = λ a v in_a in_v. action-passes v (omega (arith, vertices_are file given)) a (omega (arith, arrays_are file given));
+    edges_pass = λ i h. edge-passes i (omega (arith, edges_are file given));
   }
 
   offset : (i n : ℕ) → i + 1 < 18 → get_or (head_bytes file given) i 0 + 256 * get_or (head_bytes file given) (i + 1) 0 ≡ n → word routine i ≡ n
@@ -214,23 +214,23 @@ module _ (file : List ℕ) (passed : check40 file ≡ Passed) {given : ℕ → �
         offset 10 (18 + 4 * arrays file) (lit< tt) (omega arith),
         offset 14 (18 + 4 * arrays file + vertices file * arrays file) (lit< tt) (omega arith),
         eq-eqb (length routine) (R.end_at routine) laid.ends,
-        arrays-are file given,
-        vertices-are file given,
+        arrays_are file given,
+        vertices_are file given,
         edges_are file given,
-        le-leb 1 (arrays file) l.some-array,
-        le-leb (arrays file) 8 l.few-arrays,
-        le-leb 2 (vertices file) l.two-vertices,
-        le-leb (vertices file) 256 l.few-vertices,
+        le-leb 1 (arrays file) l.some_array,
+        le-leb (arrays file) 8 l.few_arrays,
+        le-leb 2 (vertices file) l.two_vertices,
+        le-leb (vertices file) 256 l.few_vertices,
         le-leb 0 (edges file) (omega arith),
-        le-leb (edges file) 1024 l.few-edges,
+        le-leb (edges file) 1024 l.few_edges,
         eq-eqb (18 + 4 * arrays file) (18 + 4 * arrays file) refl,
         eq-eqb (18 + 4 * arrays file + vertices file * arrays file) (18 + 4 * arrays file + vertices file * arrays file) refl,
       ) refl
 
   -- its length: at most 8 arrays, 256 vertices and 1,024 edges
-  pub converted-fits : length routine ≤ 6194
-  converted-fits = omega (arith, laid.ends, laid.limits.few-arrays, few-actions laid.limits, edges_are file given, (limits file passed).few-edges)
+  pub converted_fits : length routine ≤ 6194
+  converted_fits = omega (arith, laid.ends, laid.limits.few_arrays, few_actions laid.limits, edges_are file given, (limits file passed).few_edges)
 
   -- the reader accepts it
-  pub converted-read : read_of routine ≡ Routine (header_of routine)
-  converted-read = accepts routine form passes
+  pub converted_read : read_of routine ≡ Routine (header_of routine)
+  converted_read = accepts routine form passes

@@ -17,18 +17,18 @@ use Rattle.directives.specs.declared.spread.Mapping.{Mapping}
 use Rattle.mappings.specs.Along.{alike}
 use Rattle.mappings.specs.Computed.{version_set}
 use Rattle.mappings.specs.Converted.{is_listed, extended, version_in}
-use Rattle.mappings.proofs.Lists.{alike-iff, listed_cons, listed-later, number_of, number-head}
+use Rattle.mappings.proofs.Lists.{alike_iff, listed_cons, listed_later, number_of, number_head}
 
 -- ---- the list
 
 module _ (m : Mapping) (ms : List Mapping) where
-  pub extended-listed : T (is_listed m ms) → extended ms (m ∷ []) ≡ ms
+  pub extended_listed : T (is_listed m ms) → extended ms (m ∷ []) ≡ ms
   unfolding extended
-  extended-listed t = rw (is_true (is_listed m ms) t)
+  extended_listed t = rw (is_true (is_listed m ms) t)
 
-  pub extended-unlisted : T (not (is_listed m ms)) → extended ms (m ∷ []) ≡ ms ++ m ∷ []
+  pub extended_unlisted : T (not (is_listed m ms)) → extended ms (m ∷ []) ≡ ms ++ m ∷ []
   unfolding extended
-  extended-unlisted f = rw (is_false (is_listed m ms) f)
+  extended_unlisted f = rw (is_false (is_listed m ms) f)
 
 -- ---- numbers
 
@@ -38,26 +38,26 @@ module _ (m : Mapping) where
   unfolding version_in
   number_behind [] ns new = omega arith
   number_behind (x ∷ ms) ns new =
-      let other : T (not (alike x m)) = ⊎_elim (λ t. absurd (new ((listed_cons m x ms).1 (inl ((alike-iff x m).0 t))))) (λ f. f) (either (alike x m)) in
-      rw (is_false (alike x m) other) (omega (arith, number_behind ms ns (λ t. new (listed-later m x ms t))))
+      let other : T (not (alike x m)) = ⊎_elim (λ t. absurd (new ((listed_cons m x ms).1 (inl ((alike_iff x m).0 t))))) (λ f. f) (either (alike x m)) in
+      rw (is_false (alike x m) other) (omega (arith, number_behind ms ns (λ t. new (listed_later m x ms t))))
 
   -- at the end of such a list
-  pub number-last : (ms : List Mapping) → (T (is_listed m ms) → ⊥) → version_in (ms ++ m ∷ []) m ≡ length ms
-  number-last ms new = number_behind ms (m ∷ []) new ∙ ap (λ (k : ℕ). length ms + k) (number-head m (m ∷ []) refl) ∙ add-zero (length ms)
+  pub number_last : (ms : List Mapping) → (T (is_listed m ms) → ⊥) → version_in (ms ++ m ∷ []) m ≡ length ms
+  number_last ms new = number_behind ms (m ∷ []) new ∙ ap (λ (k : ℕ). length ms + k) (number_head m (m ∷ []) refl) ∙ add-zero (length ms)
 
   -- a mapping that is not listed has the number behind the last
-  number-none : (ms : List Mapping) → (T (is_listed m ms) → ⊥) → version_in ms m ≡ length ms
+  number_none : (ms : List Mapping) → (T (is_listed m ms) → ⊥) → version_in ms m ≡ length ms
   unfolding version_in
-  number-none ms new = ap (λ (xs : List Mapping). version_in xs m) (sym (append-nil ms)) ∙ number_behind ms [] new ∙ add-zero (length ms)
+  number_none ms new = ap (λ (xs : List Mapping). version_in xs m) (sym (append-nil ms)) ∙ number_behind ms [] new ∙ add-zero (length ms)
 
-  pub number-below : (ms : List Mapping) → version_in ms m < length ms → T (is_listed m ms)
-  number-below ms h = ⊎_elim (λ t. t) (λ f. absurd (omega (arith, number-none ms (subst T (is_false (is_listed m ms) f))))) (either (is_listed m ms))
+  pub number_below : (ms : List Mapping) → version_in ms m < length ms → T (is_listed m ms)
+  number_below ms h = ⊎_elim (λ t. t) (λ f. absurd (omega (arith, number_none ms (subst T (is_false (is_listed m ms) f))))) (either (is_listed m ms))
 
-  pub number-within : (ms : List Mapping) → version_in ms m ≤ length ms
-  number-within ms =
+  pub number_within : (ms : List Mapping) → version_in ms m ≤ length ms
+  number_within ms =
       ⊎_elim
       (λ t. omega (arith, (number_of m ms t).0))
-      (λ f. omega (arith, number-none ms (subst T (is_false (is_listed m ms) f))))
+      (λ f. omega (arith, number_none ms (subst T (is_false (is_listed m ms) f))))
       (either (is_listed m ms))
 
 -- ---- sets

@@ -36,11 +36,11 @@ pub record Demand4 (file : List ℕ) : Type 0 where
   pub read : read_of (converted file) ≡ Routine (R.header_of (converted file))
   pub fits : length (converted file) ≤ 6194
   -- arrays, vertices and edges keep their numbers
-  pub arrays-kept : R.arrays (converted file) ≡ arrays file
-  pub vertices-kept : R.vertices (converted file) ≡ vertices file
-  pub edges-kept : L.edge_bytes (converted file) ≡ edge_bytes file
+  pub arrays_kept : R.arrays (converted file) ≡ arrays file
+  pub vertices_kept : R.vertices (converted file) ≡ vertices file
+  pub edges_kept : L.edge_bytes (converted file) ≡ edge_bytes file
   -- an array keeps its kind, has its number of mappings as versions, and starts in version 0
-  pub array-is :
+  pub array_is :
       (a : ℕ) → a < arrays file
       → array_of (converted file) a ≡ record { kind = get_or file (array_at file a) 0; versions = length (versions_of file a); initial = 0; zero = 0 }
   -- versions are numbered for each array from its initial mapping on, then by lowest vertex
@@ -53,4 +53,4 @@ pub record Demand4 (file : List ℕ) : Type 0 where
   pub bytes-kept :
       (a v : ℕ) → a < arrays file → v < vertices file → (Remaps file a v → ⊥) → action_byte (converted file) a v ≡ get_or file (reference_at file v a) 0
   -- at each reference on a path from the entry the mapping that the directives give is that of the version which the routine names
-  pub mappings-kept : KeepsMappings file (given_to file)
+  pub mappings_kept : KeepsMappings file (given_to file)

@@ -59,8 +59,8 @@ pub record InTwo (file : List ℕ) (a v : ℕ) : Type 0 where
   pub first : Mapping
   pub second : Mapping
   pub differ : first ≡ second → ⊥
-  pub leaves-first : CanLeave file a v first
-  pub leaves-second : CanLeave file a v second
+  pub leaves_first : CanLeave file a v first
+  pub leaves_second : CanLeave file a v second
 
 -- ---- versions: the initial mapping, then by lowest vertex
 
@@ -74,5 +74,5 @@ pub record Numbering (file : List ℕ) (a : ℕ) (ms : List Mapping) : Type 0 wh
   -- the lowest vertex that gives version k, for each but version 0; these rise
   pub lowest : ℕ → ℕ
   pub given : (k : ℕ) (d : Mapping) → 0 < k → k < length ms → Gives file a (lowest k) (get_or ms k d)
-  pub none-lower : (k v : ℕ) (d : Mapping) → 0 < k → k < length ms → v < lowest k → Gives file a v (get_or ms k d) → ⊥
+  pub none_lower : (k v : ℕ) (d : Mapping) → 0 < k → k < length ms → v < lowest k → Gives file a v (get_or ms k d) → ⊥
   pub rising : (j k : ℕ) → 0 < j → j < k → k < length ms → lowest j ≤ lowest k

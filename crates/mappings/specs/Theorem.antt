@@ -24,14 +24,14 @@ Right file x = (x.template < templates file) × (x.exchanged < 2)
 
 -- what check 40 leaves
 pub record Formed (file : List ℕ) : Type 0 where
-  pub some-vertex : 0 < vertices file
-  pub few-templates : templates file ≤ 8
+  pub some_vertex : 0 < vertices file
+  pub few_templates : templates file ≤ 8
   pub aligned : (a : ℕ) → a < arrays file → Right file ((initial_state file).aligned a)
   pub realigned : (v b : ℕ) (x : Alignment) → v < vertices file → directive file v ≡ Realign b x → Right file x
   pub ends : Ends (edge_bytes file) (vertices file)
-  pub none-enters : (v : ℕ) → Edge (edge_bytes file) v entry → ⊥
-  pub none-leaves : (v : ℕ) → Edge (edge_bytes file) (exit file) v → ⊥
-  pub entry-silent : directive file entry ≡ Nothing
+  pub none_enters : (v : ℕ) → Edge (edge_bytes file) v entry → ⊥
+  pub none_leaves : (v : ℕ) → Edge (edge_bytes file) (exit file) v → ⊥
+  pub entry_silent : directive file entry ≡ Nothing
   pub references : (v a : ℕ) → v < vertices file → a < arrays file
       → T (eqb (get_or file (reference_at file v a) 0) 0 || is_reference (action_of (get_or file (reference_at file v a) 0)))
 

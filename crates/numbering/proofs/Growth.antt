@@ -23,23 +23,23 @@ grows_none room most = record { room = room; most = most; holds = λ ms ns h. rw
 pub grows_in : {b : Bool} {m n : Mapping} {list list' : List ℕ} {p q : Numbered} → b ≡ true → m ≡ n → Grows (m ∷ []) list p list' q → Grows (cond b (n ∷ []) []) list p list' q
 grows_in {list = list} {list' = list'} {p = p} {q = q} t e g = rw t (subst (λ (x : Mapping). Grows (x ∷ []) list p list' q) e g)
 
-pub grows-out : {b : Bool} (n : Mapping) {list : List ℕ} {p : Numbered} → b ≡ false → length list ≡ 2 * width → p.count ≤ width + 1 → Grows (cond b (n ∷ []) []) list p list p
-grows-out n f room most = rw f (grows_none room most)
+pub grows_out : {b : Bool} (n : Mapping) {list : List ℕ} {p : Numbered} → b ≡ false → length list ≡ 2 * width → p.count ≤ width + 1 → Grows (cond b (n ∷ []) []) list p list p
+grows_out n f room most = rw f (grows_none room most)
 
 module _ {list list' list'' : List ℕ} {p q r : Numbered} where
   -- by one list after the other
-  grows-more : {xs ys : List Mapping} → Grows xs list p list' q → Grows ys list' q list'' r → Grows (xs ++ ys) list p list'' r
-  grows-more {xs} {ys} g h = record {
+  grows_more : {xs ys : List Mapping} → Grows xs list p list' q → Grows ys list' q list'' r → Grows (xs ++ ys) list p list'' r
+  grows_more {xs} {ys} g h = record {
     room = h.room;
     most = h.most;
     holds = λ ms ns k. rw (extended-append ms xs ys, ← append_assoc ns xs ys) (h.holds _ _ (g.holds ms ns k));
   }
 
   -- the same list and count, by other names
-  pub grows-as : {xs : List Mapping} → list'' ≡ list' → r ≡ q → Grows xs list p list' q → Grows xs list p list'' r
-  grows-as {xs} e f g = subst (λ (l : List ℕ). Grows xs list p l r) (sym e) (subst (Grows xs list p list') (sym f) g)
+  pub grows_as : {xs : List Mapping} → list'' ≡ list' → r ≡ q → Grows xs list p list' q → Grows xs list p list'' r
+  grows_as {xs} e f g = subst (λ (l : List ℕ). Grows xs list p l r) (sym e) (subst (Grows xs list p list') (sym f) g)
 
   -- row by row
-  pub grows-row : (row : ℕ → List Mapping) (u : ℕ) → Grows (rows row u) list p list' q → Grows (row u) list' q list'' r → Grows (rows row (u + 1)) list p list'' r
+  pub grows_row : (row : ℕ → List Mapping) (u : ℕ) → Grows (rows row u) list p list' q → Grows (row u) list' q list'' r → Grows (rows row (u + 1)) list p list'' r
   unfolding rows
-  grows-row row u g h = subst (λ (n : ℕ). Grows (rows row n) list p list'' r) (sym (add-one u)) (grows-more g h)
+  grows_row row u g h = subst (λ (n : ℕ). Grows (rows row n) list p list'' r) (sym (add-one u)) (grows_more g h)

@@ -13,8 +13,8 @@ use lib.Dec.{T, ltb, ltb→lt, nltb→le}
 use lib.ListN.{length, get_or, set, drop, length-append, length-set, length-drop, get_or-append}
 use lib.Seq.{drop-cons, get_or_at, get_or-set_same, get_or-set_other}
 use Rattle.directives.specs.declared.spread.Mapping.{Mapping}
-use Rattle.mappings.proofs.Lists.{listed-either, number_of, extended-old, extended-new, extended-longer, extended-set}
-use Rattle.mappings.proofs.VersionSets.{extended-listed, extended-unlisted, number-last, number-below, number-within, set_more}
+use Rattle.mappings.proofs.Lists.{listed_either, number_of, extended_old, extended_new, extended_longer, extended-set}
+use Rattle.mappings.proofs.VersionSets.{extended_listed, extended_unlisted, number_last, number_below, number_within, set_more}
 use Rattle.mappings.specs.Along.{alike}
 use Rattle.mappings.specs.Computed.{version_set}
 use Rattle.mappings.specs.Converted.{is_listed, extended, version_in}
@@ -27,18 +27,18 @@ use Rattle.numbering.specs.declared.list.Numbered.{Numbered}
 
 -- ---- what stands in it
 
-pub mappings-length : (list : List ℕ) (n : ℕ) → length (mappings_of list n) ≡ n
+pub mappings_length : (list : List ℕ) (n : ℕ) → length (mappings_of list n) ≡ n
 unfolding rows
-mappings-length list zero = refl
-mappings-length list (suc n) = omega (arith, length-append (mappings_of list n) (mapping_at list n ∷ []), mappings-length list n)
+mappings_length list zero = refl
+mappings_length list (suc n) = omega (arith, length-append (mappings_of list n) (mapping_at list n ∷ []), mappings_length list n)
 
-pub mappings-at : (list : List ℕ) (n k : ℕ) (d : Mapping) → k < n → get_or (mappings_of list n) k d ≡ mapping_at list k
+pub mappings_at : (list : List ℕ) (n k : ℕ) (d : Mapping) → k < n → get_or (mappings_of list n) k d ≡ mapping_at list k
 unfolding rows
-mappings-at list zero k d h = absurd (omega arith)
-mappings-at list (suc n) k d h =
+mappings_at list zero k d h = absurd (omega arith)
+mappings_at list (suc n) k d h =
     ⊎_elim
-    (λ e. get_or_at (mappings_of list n) (mapping_at list n) [] d k (mappings-length list n ∙ sym e) ∙ ap (mapping_at list) (sym e))
-    (λ l. get_or-append (mappings_of list n) (mapping_at list n ∷ []) d k (omega (arith, mappings-length list n)) ∙ mappings-at list n k d l)
+    (λ e. get_or_at (mappings_of list n) (mapping_at list n) [] d k (mappings_length list n ∙ sym e) ∙ ap (mapping_at list) (sym e))
+    (λ l. get_or-append (mappings_of list n) (mapping_at list n ∷ []) d k (omega (arith, mappings_length list n)) ∙ mappings_at list n k d l)
     (eq-or-lt_of_le (le_of_suc-le-suc h))
 
 -- both dimensions of version k stored
@@ -55,9 +55,9 @@ module _ (list : List ℕ) (k : ℕ) (m : Mapping) where
   before : (j : ℕ) → j < 2 * k → get_or twice j 0 ≡ get_or list j 0
   before j h = get_or-set_other once (2 * k + 1) j m.second 0 (λ e. omega arith) ∙ get_or-set_other list (2 * k) j m.first 0 (λ e. omega arith)
 
-  pub mappings-put : 2 * k + 1 < length list → mappings_of twice (k + 1) ≡ mappings_of list k ++ m ∷ []
+  pub mappings_put : 2 * k + 1 < length list → mappings_of twice (k + 1) ≡ mappings_of list k ++ m ∷ []
   unfolding rows
-  mappings-put room =
+  mappings_put room =
       ap (mappings_of twice) (add-one k)
       ∙ ap₂ ◌++◌
       (rows_same (λ i. mapping_at twice i ∷ []) (λ i. mapping_at list i ∷ []) k (λ i l. ap₂ row (before (2 * i) (omega arith)) (before (2 * i + 1) (omega arith))))
@@ -72,19 +72,19 @@ pub record Searching (ms : List Mapping) (m : Mapping) (k : ℕ) : Type 0 where
   pub within : k ≤ length ms
   pub is : version_in ms m ≡ k + version_in (drop k ms) m
 
-pub search-begin : (ms : List Mapping) (m : Mapping) → Searching ms m 0
-search-begin ms m = record { within = omega arith; is = omega arith }
+pub search_begin : (ms : List Mapping) (m : Mapping) → Searching ms m 0
+search_begin ms m = record { within = omega arith; is = omega arith }
 
 module _ {ms : List Mapping} {m : Mapping} {k : ℕ} (s : Searching ms m k) where
   here : k < length ms → version_in ms m ≡ k + cond (alike (get_or ms k m) m) 0 (suc (version_in (drop (suc k) ms) m))
   unfolding version_in
   here l = s.is ∙ ap (λ (xs : List Mapping). k + version_in xs m) (drop-cons ms k m l)
 
-  pub search-found : k < length ms → alike (get_or ms k m) m ≡ true → version_in ms m ≡ k
-  search-found l e = here l ∙ ap (λ (b : Bool). k + cond b 0 (suc (version_in (drop (suc k) ms) m))) e ∙ (let z : k + 0 ≡ k = omega arith in z)
+  pub search_found : k < length ms → alike (get_or ms k m) m ≡ true → version_in ms m ≡ k
+  search_found l e = here l ∙ ap (λ (b : Bool). k + cond b 0 (suc (version_in (drop (suc k) ms) m))) e ∙ (let z : k + 0 ≡ k = omega arith in z)
 
-  pub search-next : k < length ms → alike (get_or ms k m) m ≡ false → Searching ms m (k + 1)
-  search-next l e = record {
+  pub search_next : k < length ms → alike (get_or ms k m) m ≡ false → Searching ms m (k + 1)
+  search_next l e = record {
     within = omega arith;
     is =
         let rest = version_in (drop (suc k) ms) m in
@@ -92,8 +92,8 @@ module _ {ms : List Mapping} {m : Mapping} {k : ℕ} (s : Searching ms m k) wher
         ∙ (let z : k + suc rest ≡ k + 1 + rest = omega arith in z) ∙ ap (λ (j : ℕ). k + 1 + version_in (drop j ms) m) (sym (add-one k));
   }
 
-  pub search-end : length ms ≤ k → version_in ms m ≡ k
-  search-end l = omega (arith, s, number-within m (drop k ms), length-drop k ms)
+  pub search_end : length ms ≤ k → version_in ms m ≡ k
+  search_end l = omega (arith, s, number_within m (drop k ms), length-drop k ms)
 
 -- ---- what adding one leaves
 
@@ -107,7 +107,7 @@ module _ {ms ns : List Mapping} {list : List ℕ} {p : Numbered} (h : Holds ms n
 
   -- those at hand stay listed
   listed_more : (m x : Mapping) → T (is_listed x (ns ++ m ∷ [])) → T (is_listed x (extended ms (m ∷ [])))
-  listed_more m x t = ⊎_elim (λ g. extended-old x ms (m ∷ []) (h.listed x g)) (extended-new x ms (m ∷ [])) (listed-either x ns (m ∷ []) t)
+  listed_more m x t = ⊎_elim (λ g. extended_old x ms (m ∷ []) (h.listed x g)) (extended_new x ms (m ∷ [])) (listed_either x ns (m ∷ []) t)
 
   -- all are there after it too
   all_there : (m : Mapping) {list' : List ℕ} {q : Numbered} {xs : List Mapping} → length list' ≡ 2 * width → extended ms (m ∷ []) ≡ xs → length xs ≤ width
@@ -121,14 +121,14 @@ module _ {ms ns : List Mapping} {list : List ℕ} {p : Numbered} (h : Holds ms n
       })
 
 -- there are too many already
-pub grows-full : {list : List ℕ} {p : Numbered} (m : Mapping) → length list ≡ 2 * width → width < p.count → p.count ≤ width + 1 → Grows (m ∷ []) list p list p
-grows-full m room over most = record {
+pub grows_full : {list : List ℕ} {p : Numbered} (m : Mapping) → length list ≡ 2 * width → width < p.count → p.count ≤ width + 1 → Grows (m ∷ []) list p list p
+grows_full m room over most = record {
   room = room;
   most = most;
   holds = λ ms ns h. record {
     room = room;
     listed = listed_more h m;
-    few = λ few. absurd (omega (arith, large h over, extended-longer ms (m ∷ [])));
+    few = λ few. absurd (omega (arith, large h over, extended_longer ms (m ∷ [])));
     many = λ _. omega arith;
   };
 }
@@ -155,16 +155,16 @@ module _ {list : List ℕ} {p : Numbered} {m : Mapping} {k : ℕ} (found : Found
     unlisted l = ⊎_elim (λ t. absurd (omega (arith, size, number, (number_of m ms t).0))) (λ f. f) (either (is_listed m ms))
 
   pub found_within : k ≤ p.count
-  found_within = omega (arith, found.is, number-within m (mappings_of list p.count), mappings-length list p.count)
+  found_within = omega (arith, found.is, number_within m (mappings_of list p.count), mappings_length list p.count)
 
   -- one too many
-  pub grows-over : {q : Numbered} → k ≡ width → q.count ≡ width + 1 → Grows (m ∷ []) list p list q
-  grows-over e count = record {
+  pub grows_over : {q : Numbered} → k ≡ width → q.count ≡ width + 1 → Grows (m ∷ []) list p list q
+  grows_over e count = record {
     room = found.room;
     most = omega arith;
     holds = λ ms ns h.
         let longer : length (ms ++ m ∷ []) ≡ width + 1 = omega (arith, length-append ms (m ∷ []), size h, found_within) in
-        let all = ap length (extended-unlisted m ms (unlisted h (omega arith))) ∙ longer in
+        let all = ap length (extended_unlisted m ms (unlisted h (omega arith))) ∙ longer in
         record {
           room = found.room;
           listed = listed_more h m;
@@ -174,13 +174,13 @@ module _ {list : List ℕ} {p : Numbered} {m : Mapping} {k : ℕ} (found : Found
   }
 
   -- one that is listed
-  pub grows-listed : {q : Numbered} → k < p.count → q.count ≡ p.count → q.given ≡ bit_or p.given (2 ^ k) → Grows (m ∷ []) list p list q
-  grows-listed l count given = record {
+  pub grows_listed : {q : Numbered} → k < p.count → q.count ≡ p.count → q.given ≡ bit_or p.given (2 ^ k) → Grows (m ∷ []) list p list q
+  grows_listed l count given = record {
     room = found.room;
     most = omega arith;
     holds = λ ms ns h.
         all_there h m found.room
-        (extended-listed m ms (number-below m ms (omega (arith, size h, number h))))
+        (extended_listed m ms (number_below m ms (omega (arith, size h, number h))))
         (small h found.few)
         (count ∙ size h)
         (h.few (small h found.few)).1
@@ -188,17 +188,17 @@ module _ {list : List ℕ} {p : Numbered} {m : Mapping} {k : ℕ} (found : Found
   }
 
   -- a new one
-  pub grows-new : {list' : List ℕ} {q : Numbered} → length list' ≡ 2 * width → k < width → p.count ≤ k → mappings_of list' (k + 1) ≡ mappings_of list k ++ m ∷ []
+  pub grows_new : {list' : List ℕ} {q : Numbered} → length list' ≡ 2 * width → k < width → p.count ≤ k → mappings_of list' (k + 1) ≡ mappings_of list k ++ m ∷ []
       → q.count ≡ k + 1 → q.given ≡ bit_or p.given (2 ^ k) → Grows (m ∷ []) list p list' q
-  grows-new {list'} room' below new put count given = record {
+  grows_new {list'} room' below new put count given = record {
     room = room';
     most = omega arith;
     holds = λ ms ns h.
         let last : k ≡ p.count = omega (arith, found_within) in
-        let e : extended ms (m ∷ []) ≡ ms ++ m ∷ [] = extended-unlisted m ms (unlisted h new) in
+        let e : extended ms (m ∷ []) ≡ ms ++ m ∷ [] = extended_unlisted m ms (unlisted h new) in
         let longer : length (ms ++ m ∷ []) ≡ k + 1 = omega (arith, length-append ms (m ∷ []), size h) in
         let old : version_set (ms ++ m ∷ []) ns ≡ p.given = ap (λ (xs : List Mapping). version_set xs ns) (sym e) ∙ extended-set ms (m ∷ []) ns h.listed ∙ sym (h.few (small h found.few)).2 in
-        let behind : version_in (ms ++ m ∷ []) m ≡ k = number-last m ms (λ t. omega (arith, (number_of m ms t).0, number h, size h)) ∙ sym (last ∙ size h) in
+        let behind : version_in (ms ++ m ∷ []) m ≡ k = number_last m ms (λ t. omega (arith, (number_of m ms t).0, number h, size h)) ∙ sym (last ∙ size h) in
         all_there h m room' e (omega arith) (count ∙ sym longer)
         (ap (mappings_of list') longer ∙ put ∙ ap (λ (xs : List Mapping). xs ++ m ∷ []) (ap (mappings_of list) last ∙ are h))
         (given ∙ sym (set_more (ms ++ m ∷ []) ns m ∙ ap₂ (λ (s k : ℕ). bit_or s (2 ^ k)) old behind));

@@ -47,5 +47,5 @@ pub record ColumnNumbered (file : List ℕ) (a : ℕ) (before : List ℕ) (count
 
 -- where 41 passes: the versions that directives give, and how many each array has
 pub record AllNumbered (file : List ℕ) (answer : Verdict) (given counts : List ℕ) : Type 0 where
-  pub given-are : answer ≡ Passed → Given file given
-  pub counts-are : answer ≡ Passed → VersionCounts file counts
+  pub given_are : answer ≡ Passed → Given file given
+  pub counts_are : answer ≡ Passed → VersionCounts file counts

@@ -10,17 +10,17 @@ use lib.ListN.{length, get_or, set, length-set}
 use lib.Seq.{get_or-set_same, get_or-set_other}
 use Rattle.words.proofs.Tables.{table-length, table_at, at_set}
 use Rattle.flow.specs.Order.{Order, max_edges, natural}
-use Rattle.flow.proofs.Rounds.{natural-order}
+use Rattle.flow.proofs.Rounds.{natural_order}
 use Rattle.order.specs.Places.{Placed}
 
 -- ---- the edges by their numbers
 
-pub natural-placed : (c m : ℕ) (order place : List ℕ) → c ≤ m → m ≡ max_edges → order ≡ natural c → place ≡ natural m → Placed c order place
-natural-placed c m order place most size e f = rw (e, f) (record {
+pub natural_placed : (c m : ℕ) (order place : List ℕ) → c ≤ m → m ≡ max_edges → order ≡ natural c → place ≡ natural m → Placed c order place
+natural_placed c m order place most size e f = rw (e, f) (record {
   all = table-length (λ i. i) c;
   most = omega arith;
   room = table-length (λ i. i) m ∙ size;
-  within = (natural-order c).within;
+  within = (natural_order c).within;
   known = λ i h. subst (λ (x : ℕ). x < c) (sym (table_at (λ i. i) m i (lt_of_lt_of_le h most))) h;
   stands = λ i h. ap (λ (x : ℕ). get_or (natural c) x 0) (table_at (λ i. i) m i (lt_of_lt_of_le h most)) ∙ table_at (λ i. i) c i h;
 })
@@ -28,8 +28,8 @@ natural-placed c m order place most size e f = rw (e, f) (record {
 -- ---- places
 
 -- an edge's place is its turn
-pub placed-order : (c : ℕ) (order place : List ℕ) → Placed c order place → Order c order
-placed-order c order place p =
+pub placed_order : (c : ℕ) (order place : List ℕ) → Placed c order place → Order c order
+placed_order c order place p =
     record { all = p.all; within = p.within; turn = λ i h. (get_or place i 0, p.known i h, p.stands i h) }
 
 module _ (c : ℕ) (order place : List ℕ) (p : Placed c order place) (slot i : ℕ) (s : slot < c) (e : i < c) where
@@ -56,14 +56,14 @@ module _ (c : ℕ) (order place : List ℕ) (p : Placed c order place) (slot i :
       at_room : at < length order
       at_room = omega (arith, p.all, p.known i e)
 
-      slot-room : slot < length (set order at other)
-      slot-room = simp length-set (omega (arith, p.all))
+      slot_room : slot < length (set order at other)
+      slot_room = simp length-set (omega (arith, p.all))
 
-      other-room : other < length place
-      other-room = omega (arith, p.room, p.most, p.within slot s)
+      other_room : other < length place
+      other_room = omega (arith, p.room, p.most, p.within slot s)
 
-      i-room : i < length (set place other at)
-      i-room = simp length-set (omega (arith, p.room, p.most))
+      i_room : i < length (set place other at)
+      i_room = simp length-set (omega (arith, p.room, p.most))
 
       order' : List ℕ
       order' = set (set order at other) slot i
@@ -71,13 +71,13 @@ module _ (c : ℕ) (order place : List ℕ) (p : Placed c order place) (slot i :
       -- edge i
       first : get_or order' (get_or (set (set place other at) i slot) i 0) 0 ≡ i
       first =
-          ap (λ (x : ℕ). get_or order' x 0) (get_or-set_same (set place other at) i slot 0 i-room)
-          ∙ get_or-set_same (set order at other) slot i 0 slot-room
+          ap (λ (x : ℕ). get_or order' x 0) (get_or-set_same (set place other at) i slot 0 i_room)
+          ∙ get_or-set_same (set order at other) slot i 0 slot_room
 
       -- the other edge, if it is another
       second : (other ≡ i → ⊥) → get_or order' (get_or (set place other at) other 0) 0 ≡ other
       second n =
-          ap (λ (x : ℕ). get_or order' x 0) (get_or-set_same place other at 0 other-room)
+          ap (λ (x : ℕ). get_or order' x 0) (get_or-set_same place other at 0 other_room)
           ∙ get_or-set_other (set order at other) slot at i 0 (λ h. n (sym (ap (λ (x : ℕ). get_or order x 0) h) ∙ p.stands i e))
           ∙ get_or-set_same order at other 0 at_room
 

@@ -44,8 +44,8 @@ Letters file s = Cells file (λ a v. letter_byte (use_of file a v)) s
 
 -- letters and kept sets: what a run reads of the plan
 pub record LettersAndKept (file letters kept : List ℕ) : Type 0 where
-  pub letters-are : Letters file letters
-  pub kept-are : Cells file (kept_of file) kept
+  pub letters_are : Letters file letters
+  pub kept_are : Cells file (kept_of file) kept
 
 -- ---- a pass over the edges of the file
 abbrev pub Pass : List ℕ → Bool → List ℕ → List ℕ → List ℕ → Type 0

@@ -21,27 +21,27 @@ use Rattle.routine.specs.Layout.{edges}
 use Rattle.routine.specs.Reader.{WellFormed}
 use Rattle.words.specs.Sums.{total}
 use Rattle.words.specs.Tables.{table}
-use Rattle.words.proofs.Sums.{count-few, each-fails}
+use Rattle.words.proofs.Sums.{count_few, each_fails}
 use Rattle.words.proofs.Tables.{table-length, table_at}
-use Rattle.words.proofs.Tests.{by-test}
+use Rattle.words.proofs.Tests.{by_test}
 
-pub passes-few : (file path : List ℕ) (k n : ℕ) → passes_up_to file path k n ≤ k
+pub passes_few : (file path : List ℕ) (k n : ℕ) → passes_up_to file path k n ≤ k
 unfolding passes_up_to
-passes-few file path k n = count-few (λ i. joins file (vertex_at path i) (vertex_at path (suc i)) n) k
+passes_few file path k n = count_few (λ i. joins file (vertex_at path i) (vertex_at path (suc i)) n) k
 
 pub passes_none : (file path : List ℕ) (n : ℕ) → passes_up_to file path 0 n ≡ 0
-passes_none file path n = omega (arith, passes-few file path 0 n)
+passes_none file path n = omega (arith, passes_few file path 0 n)
 
 -- one step more
-passes-more : (file path : List ℕ) (k n : ℕ) {b : Bool} → joins file (vertex_at path k) (vertex_at path (suc k)) n ≡ b → passes_up_to file path (suc k) n ≡ passes_up_to file path k n + cond b 1 0
+passes_more : (file path : List ℕ) (k n : ℕ) {b : Bool} → joins file (vertex_at path k) (vertex_at path (suc k)) n ≡ b → passes_up_to file path (suc k) n ≡ passes_up_to file path k n + cond b 1 0
 unfolding passes_up_to total
-passes-more file path k n e = ap (λ (b : Bool). total (λ i. cond (joins file (vertex_at path i) (vertex_at path (suc i)) n) 1 0) k + cond b 1 0) e
+passes_more file path k n e = ap (λ (b : Bool). total (λ i. cond (joins file (vertex_at path i) (vertex_at path (suc i)) n) 1 0) k + cond b 1 0) e
 
 -- ---- what the test says of a step
 
-pub no-arrival : (file path : List ℕ) (i : ℕ) → is_edge file (vertex_at path i) (vertex_at path (i + 1)) ≡ false → Failed (NoSuchEdge (i + 1)) ≡ arrival_check file path (i + 1)
+pub no_arrival : (file path : List ℕ) (i : ℕ) → is_edge file (vertex_at path i) (vertex_at path (i + 1)) ≡ false → Failed (NoSuchEdge (i + 1)) ≡ arrival_check file path (i + 1)
 unfolding arrival_check
-no-arrival file path i e = let back : i + 1 - 1 ≡ i = omega arith in rw (back, e)
+no_arrival file path i e = let back : i + 1 - 1 ≡ i = omega arith in rw (back, e)
 
 pub arrival : (file path : List ℕ) (i : ℕ) {n : ℕ} → n < edges file → joins file (vertex_at path i) (vertex_at path (i + 1)) n ≡ true → Passed ≡ arrival_check file path (i + 1)
 unfolding arrival_check is_edge
@@ -49,7 +49,7 @@ arrival file path i {n} h joined =
     let back : i + 1 - 1 ≡ i = omega arith in
     let test = joins file (vertex_at path i) (vertex_at path (i + 1)) in
     let there : is_edge file (vertex_at path i) (vertex_at path (i + 1)) ≡ true =
-    by-test (is_edge file (vertex_at path i) (vertex_at path (i + 1))) (λ t. t) (λ f. absurd (true≢false (sym joined ∙ each-fails test (edges file) f n h))) in
+    by_test (is_edge file (vertex_at path i) (vertex_at path (i + 1))) (λ t. t) (λ f. absurd (true≢false (sym joined ∙ each_fails test (edges file) f n h))) in
     rw (back, there)
 
 -- a check that fails does not pass
@@ -59,8 +59,8 @@ never e f = let z : ◌≡◌ {A = ℕ} 0 1 = cc in omega arith
 -- ---- the counts
 
 -- no edge is passed before the first step
-pub counts-begin : (file path : List ℕ) {taken : List ℕ} → taken ≡ replicate (edges file) 0 → taken ≡ table (passes_up_to file path 0) (edges file)
-counts-begin file path {taken} e =
+pub counts_begin : (file path : List ℕ) {taken : List ℕ} → taken ≡ replicate (edges file) 0 → taken ≡ table (passes_up_to file path 0) (edges file)
+counts_begin file path {taken} e =
     ext_get_or 0 taken (table (passes_up_to file path 0) (edges file)) (sized ∙ sym (table-length _ (edges file)))
     (λ n h.
     let l : n < edges file = omega (arith, sized) in
@@ -77,8 +77,8 @@ module _ (file path : List ℕ) (i : ℕ) {taken : List ℕ} {p : ℕ} (well : W
   pub count_at : get_or taken p 0 ≡ passes_up_to file path i p
   count_at = ap (λ (t : List ℕ). get_or t p 0) are ∙ table_at (passes_up_to file path i) (edges file) p listed
 
-  pub counts-next : joins file (vertex_at path i) (vertex_at path (i + 1)) p ≡ true → set taken p (get_or taken p 0 + 1) ≡ table (passes_up_to file path (i + 1)) (edges file)
-  counts-next arrives =
+  pub counts_next : joins file (vertex_at path i) (vertex_at path (i + 1)) p ≡ true → set taken p (get_or taken p 0 + 1) ≡ table (passes_up_to file path (i + 1)) (edges file)
+  counts_next arrives =
       ext_get_or 0 (set taken p (get_or taken p 0 + 1)) (table (passes_up_to file path (i + 1)) (edges file)) (same_length ∙ counts-length ∙ sym (table-length _ (edges file)))
       (λ n h. let l : n < edges file = omega (arith, same_length, counts-length) in at n l ∙ ap (λ (k : ℕ). passes_up_to file path k n) (sym (add-one i)) ∙ sym (table_at (passes_up_to file path (i + 1)) (edges file) n l))
     where
@@ -90,14 +90,14 @@ module _ (file path : List ℕ) (i : ℕ) {taken : List ℕ} {p : ℕ} (well : W
 
       at : (n : ℕ) → n < edges file → get_or (set taken p (get_or taken p 0 + 1)) n 0 ≡ passes_up_to file path (suc i) n
       at n l =
-          by-test (eqb n p)
+          by_test (eqb n p)
           (λ t.
           let e = eqb-true n p t in
           ap (λ (m : ℕ). get_or (set taken p (get_or taken p 0 + 1)) m 0) e ∙ get_or-set_same taken p (get_or taken p 0 + 1) 0 (omega (arith, counts-length))
-          ∙ ap (λ (m : ℕ). m + 1) count_at ∙ sym (passes-more file path i p joined) ∙ ap (passes_up_to file path (suc i)) (sym e))
+          ∙ ap (λ (m : ℕ). m + 1) count_at ∙ sym (passes_more file path i p joined) ∙ ap (passes_up_to file path (suc i)) (sym e))
           (λ f.
           let ne = eqb-false n p f in
-          let not-joined : joins file (vertex_at path i) (vertex_at path (suc i)) n ≡ false = by-test (joins file (vertex_at path i) (vertex_at path (suc i)) n) (λ g. absurd (ne (only well (vertex_at path i) (vertex_at path (suc i)) n p l listed g joined))) (λ g. g) in
+          let not-joined : joins file (vertex_at path i) (vertex_at path (suc i)) n ≡ false = by_test (joins file (vertex_at path i) (vertex_at path (suc i)) n) (λ g. absurd (ne (only well (vertex_at path i) (vertex_at path (suc i)) n p l listed g joined))) (λ g. g) in
           let none : passes_up_to file path i n ≡ passes_up_to file path i n + 0 = omega arith in
           get_or-set_other taken p n (get_or taken p 0 + 1) 0 ne ∙ ap (λ (t : List ℕ). get_or t n 0) are ∙ table_at (passes_up_to file path i) (edges file) n l
-          ∙ none ∙ sym (passes-more file path i n not-joined))
+          ∙ none ∙ sym (passes_more file path i n not-joined))

@@ -9,30 +9,30 @@ use borrow.Author.Tests.{eqb-true}
 use lib.Dec.{eqb}
 use Rattle.flow.specs.Paths.{Edge}
 use Rattle.labels.specs.Events.{edge_bytes}
-use Rattle.labels.proofs.Rules.Proper.{edge-count, edge-from, edge_to_is}
+use Rattle.labels.proofs.Rules.Proper.{edge_count_lem, edge_from_lem, edge_to_is}
 use Rattle.routine.specs.Edges.{edge_of}
 use Rattle.routine.specs.Layout.{vertices, edges, entry}
 use Rattle.routine.specs.Reader.{WellFormed}
 use Rattle.refusal.specs.Checks.{first_failed}
 use Rattle.refusal.specs.declared.Verdict.TheVariants.{Passed}
-use Rattle.refusal.proofs.Checks.{holds-true, parts, shift, each-passed}
+use Rattle.refusal.proofs.Checks.{holds_true, parts, shift, each_passed}
 use Rattle.words.specs.Sums.{any_below}
 use Rattle.words.proofs.Tests.{or_cases}
 use Rattle.path.specs.Paths.{steps, vertex_at, joins, is_edge, arrival_check, check32, path_check}
 
 module _ {file : List ℕ} (w : WellFormed file) where
-  edge-there : (u v n : ℕ) → n ≤ edges file → any_below (joins file u v) n ≡ true → Edge (edge_bytes file) u v
+  edge_there : (u v n : ℕ) → n ≤ edges file → any_below (joins file u v) n ≡ true → Edge (edge_bytes file) u v
   unfolding any_below
-  edge-there u v zero h e = absurd (false≢true e)
-  edge-there u v (suc n) h e =
+  edge_there u v zero h e = absurd (false≢true e)
+  edge_there u v (suc n) h e =
       or_cases (any_below (joins file u v) n) (joins file u v n)
-      (edge-there u v n (omega arith))
+      (edge_there u v n (omega arith))
       (λ g.
       let q = (and-eq-true_iff (eqb (edge_of file n).from u) _).0 g in
       record {
         place = n;
-        listed = omega (arith, edge-count file w.laid);
-        leaves = edge-from file n ∙ eqb-true _ u q.0;
+        listed = omega (arith, edge_count_lem file w.laid);
+        leaves = edge_from_lem file n ∙ eqb-true _ u q.0;
         enters = edge_to_is file n ∙ eqb-true _ v q.1;
       })
       e
@@ -54,7 +54,7 @@ unfolding arrival_check
 arrives file path i e =
     let here : i ≡ i + 1 - 1 = omega arith in
     let there : suc i ≡ i + 1 = omega arith in
-    ap₂ (λ (j k : ℕ). is_edge file (vertex_at path j) (vertex_at path k)) here there ∙ holds-true _ _ e
+    ap₂ (λ (j k : ℕ). is_edge file (vertex_at path j) (vertex_at path k)) here there ∙ holds_true _ _ e
 
 pub walk : {file path : List ℕ} → WellFormed file → path_check file path ≡ Passed → Walk file path
 unfolding path_check is_edge
@@ -65,8 +65,8 @@ walk {file} {path} w e =
       begins = search parts;
       joined = λ i h.
           let all : check32 file path ≡ Passed = search parts in
-          let passed = each-passed (λ i. arrival_check file path (i + 1)) (steps path - 1) (arrivals file path ∙ all) i (omega arith) in
-          edge-there w (vertex_at path i) (vertex_at path (suc i)) (edges file) (omega arith) (arrives file path i passed);
+          let passed = each_passed (λ i. arrival_check file path (i + 1)) (steps path - 1) (arrivals file path ∙ all) i (omega arith) in
+          edge_there w (vertex_at path i) (vertex_at path (suc i)) (edges file) (omega arith) (arrives file path i passed);
     }
 
 -- its vertices are vertices of the routine
@@ -74,5 +74,5 @@ pub within-vertices : {file path : List ℕ} → WellFormed file → Walk file p
 within-vertices w p zero h = omega (arith, p.begins, w.laid.limits)
 within-vertices {file} w p (suc i) h =
     let e = p.joined i h in
-    let listed : e.place < edges file = omega (arith, edge-count file w.laid, e.listed) in
-    omega (arith, w.edge-limits listed, edge_to_is file e.place, e.enters)
+    let listed : e.place < edges file = omega (arith, edge_count_lem file w.laid, e.listed) in
+    omega (arith, w.edge_limits listed, edge_to_is file e.place, e.enters)

@@ -14,23 +14,23 @@ use lib.ListN.{length, get_or, set, length-set}
 use lib.Seq.{get_or-set_same, get_or-set_other}
 use Rattle.path.specs.Paths.{joins, is_edge}
 use Rattle.path.specs.Places.{RowStart, Starts}
-use Rattle.path.proofs.Rising.{ends, from-rise, to-rise}
+use Rattle.path.proofs.Rising.{ends, from_rise, to_rise}
 use Rattle.routine.specs.Edges.{edge_of}
 use Rattle.routine.specs.Layout.{vertices, edges}
 use Rattle.routine.specs.Reader.{WellFormed}
 use Rattle.words.proofs.Sums.{none_below}
-use Rattle.words.proofs.Tests.{at-cond, by-test}
+use Rattle.words.proofs.Tests.{at_cond, by_test}
 
 -- ---- where the edges from each vertex start
 
-pub first-start : (file : List ℕ) → RowStart file 0 0
-first-start file = record { within = omega arith; earlier = λ n h. absurd (omega arith); later = λ n h l. omega arith }
+pub first_start : (file : List ℕ) → RowStart file 0 0
+first_start file = record { within = omega arith; earlier = λ n h. absurd (omega arith); later = λ n h l. omega arith }
 
 module _ {file : List ℕ} {v : ℕ} where
   -- the rows of v and of the next vertex do not overlap
-  pub starts-rise : {at next : ℕ} → RowStart file v at → RowStart file (v + 1) next → at ≤ next
-  starts-rise {at} {next} r s =
-      by-test (leb at next) (leb-true at next)
+  pub starts_rise : {at next : ℕ} → RowStart file v at → RowStart file (v + 1) next → at ≤ next
+  starts_rise {at} {next} r s =
+      by_test (leb at next) (leb-true at next)
       (λ f. let l = leb-false at next f in absurd (omega (arith, r.within, r.earlier next l, s.later next (le_refl next) (omega (arith, r.within)))))
 
 -- the edges from v go up to i: i is the end, or leaves a later vertex
@@ -39,8 +39,8 @@ pub record InRow (file : List ℕ) (v i : ℕ) : Type 0 where
   pub earlier : (n : ℕ) → n < i → (edge_of file n).from < v + 1
   pub later : (n : ℕ) → i ≤ n → n < edges file → v ≤ (edge_of file n).from
 
-pub row-begin : {file : List ℕ} {v at : ℕ} → RowStart file v at → InRow file v at
-row-begin r = record { within = r.within; earlier = λ n h. omega (arith, r.earlier n h); later = r.later }
+pub row_begin : {file : List ℕ} {v at : ℕ} → RowStart file v at → InRow file v at
+row_begin r = record { within = r.within; earlier = λ n h. omega (arith, r.earlier n h); later = r.later }
 
 module _ {file : List ℕ} {v i : ℕ} (r : InRow file v i) where
   pub row_next : i < edges file → (edge_of file i).from ≡ v → InRow file v (i + 1)
@@ -51,15 +51,15 @@ module _ {file : List ℕ} {v i : ℕ} (r : InRow file v i) where
   }
 
   -- edge i leaves a later vertex, and so do those behind it
-  pub row-stop : WellFormed file → i < edges file → ((edge_of file i).from ≡ v → ⊥) → RowStart file (v + 1) i
-  row-stop well h ne =
+  pub row_stop : WellFormed file → i < edges file → ((edge_of file i).from ≡ v → ⊥) → RowStart file (v + 1) i
+  row_stop well h ne =
       let beyond : v + 1 ≤ (edge_of file i).from = omega (arith, r.later i (le_refl i) h, ne) in
       record {
         within = r.within;
         earlier = r.earlier;
         later = λ n l m. ⊎_elim
             (λ (e : i ≡ n). subst (λ (k : ℕ). v + 1 ≤ (edge_of file k).from) e beyond)
-            (λ (g : i < n). omega (arith, beyond, from-rise well i n g m))
+            (λ (g : i < n). omega (arith, beyond, from_rise well i n g m))
             (eq-or-lt_of_le {n = i} {m = n} l);
       }
 
@@ -71,11 +71,11 @@ pub record StartsTo (file old starts : List ℕ) (v : ℕ) : Type 0 where
   pub sized : length starts ≡ length old
   pub are : (u : ℕ) → u < v → RowStart file u (get_or starts u 0)
 
-pub starts-begin : (file old : List ℕ) → StartsTo file old old 0
-starts-begin file old = record { sized = refl; are = λ u h. absurd (omega arith) }
+pub starts_begin : (file old : List ℕ) → StartsTo file old old 0
+starts_begin file old = record { sized = refl; are = λ u h. absurd (omega arith) }
 
-pub starts-next : {file old starts : List ℕ} {v at : ℕ} → StartsTo file old starts v → v < length old → RowStart file v at → StartsTo file old (set starts v at) (v + 1)
-starts-next {file} {old} {starts} {v} {at} t room r = record {
+pub starts_next : {file old starts : List ℕ} {v at : ℕ} → StartsTo file old starts v → v < length old → RowStart file v at → StartsTo file old (set starts v at) (v + 1)
+starts_next {file} {old} {starts} {v} {at} t room r = record {
   sized = simp length-set t.sized;
   are = λ u h. below_more (λ u. RowStart file u (get_or (set starts v at) u 0)) v
       (λ u l. subst (RowStart file u) (sym (get_or-set_other starts v u at 0 (λ e. omega arith))) (t.are u l))
@@ -92,35 +92,35 @@ pub record Among (file : List ℕ) (v w low size : ℕ) : Type 0 where
   pub has : (n : ℕ) → n < edges file → joins file v w n ≡ true → (low ≤ n) × (n < low + size)
 
 -- the row of v
-pub among-row : {file starts : List ℕ} {v : ℕ} (w : ℕ) → Starts file starts → v < vertices file → Among file v w (get_or starts v 0) (get_or starts (v + 1) 0 - get_or starts v 0)
-among-row {file} {starts} {v} w s h =
+pub among_row : {file starts : List ℕ} {v : ℕ} (w : ℕ) → Starts file starts → v < vertices file → Among file v w (get_or starts v 0) (get_or starts (v + 1) 0 - get_or starts v 0)
+among_row {file} {starts} {v} w s h =
     let r = s.are v (omega arith) in
     let t = s.are (v + 1) (omega arith) in
-    let up = starts-rise r t in
+    let up = starts_rise r t in
     record {
       listed = omega (arith, up, t.within);
       leave = λ n l m. omega (arith, r.later n l (omega (arith, up, m, t.within)), t.earlier n (omega (arith, up, m)));
       has = λ n l j.
           let e = (ends file v w n j).0 in (
-            by-test (leb (get_or starts v 0) n) (leb-true (get_or starts v 0) n) (λ f. absurd (omega (arith, e, r.earlier n (leb-false (get_or starts v 0) n f)))),
-            by-test (leb (get_or starts (v + 1) 0) n) (λ f. absurd (omega (arith, e, t.later n (leb-true (get_or starts (v + 1) 0) n f) l))) (λ f. omega (arith, up, leb-false (get_or starts (v + 1) 0) n f)),
+            by_test (leb (get_or starts v 0) n) (leb-true (get_or starts v 0) n) (λ f. absurd (omega (arith, e, r.earlier n (leb-false (get_or starts v 0) n f)))),
+            by_test (leb (get_or starts (v + 1) 0) n) (λ f. absurd (omega (arith, e, t.later n (leb-true (get_or starts (v + 1) 0) n f) l))) (λ f. omega (arith, up, leb-false (get_or starts (v + 1) 0) n f)),
           );
     }
 
 module _ {file : List ℕ} {v w low size : ℕ} (a : Among file v w low size) where
   -- the half in which an edge to w is
-  pub among-half : WellFormed file → 1 < size → Among file v w (cond (leb (edge_of file (low + size / 2)).to w) (low + size / 2) low) (size - size / 2)
-  among-half well h =
+  pub among_half : WellFormed file → 1 < size → Among file v w (cond (leb (edge_of file (low + size / 2)).to w) (low + size / 2) low) (size - size / 2)
+  among_half well h =
       let half = size / 2 in
-      at-cond (λ l. Among file v w l (size - half)) (leb (edge_of file (low + half)).to w)
+      at_cond (λ l. Among file v w l (size - half)) (leb (edge_of file (low + half)).to w)
       (λ t. record {
         listed = omega (arith, a.listed);
         leave = λ n l m. a.leave n (omega arith) (omega arith);
         has = λ n l j.
             let q = ends file v w n j in
             let p = a.has n l j in (
-              by-test (leb (low + half) n) (leb-true (low + half) n)
-                  (λ f. absurd (omega (arith, q.1, leb-true (edge_of file (low + half)).to w t, to-rise well n (low + half) (leb-false (low + half) n f) (omega (arith, a.listed)) (q.0 ∙ sym middle)))),
+              by_test (leb (low + half) n) (leb-true (low + half) n)
+                  (λ f. absurd (omega (arith, q.1, leb-true (edge_of file (low + half)).to w t, to_rise well n (low + half) (leb-false (low + half) n f) (omega (arith, a.listed)) (q.0 ∙ sym middle)))),
               omega (arith, p.1),
             );
       })
@@ -131,10 +131,10 @@ module _ {file : List ℕ} {v w low size : ℕ} (a : Among file v w low size) wh
             let q = ends file v w n j in
             let p = a.has n l j in (
               p.0,
-              by-test (leb (low + half) n)
+              by_test (leb (low + half) n)
                   (λ g. ⊎_elim
                   (λ (s : low + half ≡ n). absurd (omega (arith, ap (λ (k : ℕ). (edge_of file k).to) s, q.1, leb-false (edge_of file (low + half)).to w f)))
-                  (λ (m : low + half < n). absurd (omega (arith, q.1, leb-false (edge_of file (low + half)).to w f, to-rise well (low + half) n m l (middle ∙ sym q.0))))
+                  (λ (m : low + half < n). absurd (omega (arith, q.1, leb-false (edge_of file (low + half)).to w f, to_rise well (low + half) n m l (middle ∙ sym q.0))))
                   (eq-or-lt_of_le {n = low + half} {m = n} (leb-true (low + half) n g)))
                   (λ g. omega (arith, leb-false (low + half) n g)),
             );
@@ -146,14 +146,14 @@ module _ {file : List ℕ} {v w low size : ℕ} (a : Among file v w low size) wh
   -- none is left
   pub none_left : size ≡ 0 → is_edge file v w ≡ false
   unfolding is_edge
-  none_left z = none_below (joins file v w) (edges file) (λ n h. by-test (joins file v w n) (λ t. absurd (omega (arith, z, a.has n h t))) (λ f. f))
+  none_left z = none_below (joins file v w) (edges file) (λ n h. by_test (joins file v w n) (λ t. absurd (omega (arith, z, a.has n h t))) (λ f. f))
 
   -- one is left, and leads elsewhere
-  pub other-left : size ≤ 1 → ((edge_of file low).to ≡ w → ⊥) → is_edge file v w ≡ false
+  pub other_left : size ≤ 1 → ((edge_of file low).to ≡ w → ⊥) → is_edge file v w ≡ false
   unfolding is_edge
-  other-left o ne =
+  other_left o ne =
       none_below (joins file v w) (edges file)
-      (λ n h. by-test (joins file v w n)
+      (λ n h. by_test (joins file v w n)
       (λ t.
       let p = a.has n h t in
       let here : n ≡ low = omega (arith, o, p.0, p.1) in
@@ -170,4 +170,4 @@ pub outside : {file : List ℕ} → WellFormed file → (v w : ℕ) → vertices
 unfolding is_edge
 outside {file} well v w h =
     none_below (joins file v w) (edges file)
-    (λ n l. by-test (joins file v w n) (λ t. absurd (omega (arith, (ends file v w n t).0, (well.edge-limits {i = n} l).from-below))) (λ f. f))
+    (λ n l. by_test (joins file v w n) (λ t. absurd (omega (arith, (ends file v w n t).0, (well.edge_limits {i = n} l).from_below))) (λ f. f))

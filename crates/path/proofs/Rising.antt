@@ -15,7 +15,7 @@ use Rattle.routine.specs.Edges.{edge_of}
 use Rattle.routine.specs.Layout.{edges}
 use Rattle.routine.specs.Reader.{WellFormed}
 use Rattle.routine.specs.declared.edge.Edge.{Edge}
-use Rattle.words.proofs.Tests.{or_cases, by-test}
+use Rattle.words.proofs.Tests.{or_cases, by_test}
 
 -- the ends of an edge that joins v to w
 pub ends : (file : List ℕ) (v w n : ℕ) → joins file v w n ≡ true → ((edge_of file n).from ≡ v) × ((edge_of file n).to ≡ w)
@@ -28,10 +28,10 @@ abbrev key : Edge → ℕ
 key e = 65536 * e.from + e.to
 
 module _ {file : List ℕ} (well : WellFormed file) where
-  next-key : (i : ℕ) → suc i < edges file → key (edge_of file i) < key (edge_of file (suc i))
-  next-key i h =
-      let few = well.laid.limits.few-vertices in
-      let here = well.edge-limits {i = i} (omega arith) in
+  next_key : (i : ℕ) → suc i < edges file → key (edge_of file i) < key (edge_of file (suc i))
+  next_key i h =
+      let few = well.laid.limits.few_vertices in
+      let here = well.edge_limits {i = i} (omega arith) in
       let d = edge_of file i in
       let e = edge_of file (suc i) in
       or_cases (ltb d.from e.from) _
@@ -39,23 +39,23 @@ module _ {file : List ℕ} (well : WellFormed file) where
       (λ b.
       let q = (and-eq-true_iff (eqb d.from e.from) _).0 b in
       omega (arith, eqb-true d.from e.from q.0, ltb-true d.to e.to q.1))
-      (rw add-one at (well.edges-rise i (omega arith)))
+      (rw add-one at (well.edges_rise i (omega arith)))
 
-  keys-rise : (i j : ℕ) → i < j → j < edges file → key (edge_of file i) < key (edge_of file j)
-  keys-rise i zero l h = absurd (omega arith)
-  keys-rise i (suc j) l h =
+  keys_rise : (i j : ℕ) → i < j → j < edges file → key (edge_of file i) < key (edge_of file j)
+  keys_rise i zero l h = absurd (omega arith)
+  keys_rise i (suc j) l h =
       ⊎_elim
-      (λ (e : i ≡ j). rw (← e) (next-key i (omega arith)))
-      (λ (m : i < j). omega (arith, keys-rise i j m (omega arith), next-key j h))
+      (λ (e : i ≡ j). rw (← e) (next_key i (omega arith)))
+      (λ (m : i < j). omega (arith, keys_rise i j m (omega arith), next_key j h))
       (eq-or-lt_of_le {n = i} {m = j} (omega arith))
 
   -- no later edge leaves an earlier vertex
-  pub from-rise : (i j : ℕ) → i < j → j < edges file → (edge_of file i).from ≤ (edge_of file j).from
-  from-rise i j l h = omega (arith, keys-rise i j l h, (well.edge-limits {i = j} h).to_below, well.laid.limits.few-vertices)
+  pub from_rise : (i j : ℕ) → i < j → j < edges file → (edge_of file i).from ≤ (edge_of file j).from
+  from_rise i j l h = omega (arith, keys_rise i j l h, (well.edge_limits {i = j} h).to_below, well.laid.limits.few_vertices)
 
   -- a later edge from the same vertex leads further
-  pub to-rise : (i j : ℕ) → i < j → j < edges file → (edge_of file i).from ≡ (edge_of file j).from → (edge_of file i).to < (edge_of file j).to
-  to-rise i j l h e = omega (arith, keys-rise i j l h)
+  pub to_rise : (i j : ℕ) → i < j → j < edges file → (edge_of file i).from ≡ (edge_of file j).from → (edge_of file i).to < (edge_of file j).to
+  to_rise i j l h e = omega (arith, keys_rise i j l h)
 
   -- one edge at most joins two vertices
   pub only : (v w n p : ℕ) → n < edges file → p < edges file → joins file v w n ≡ true → joins file v w p ≡ true → n ≡ p
@@ -63,6 +63,6 @@ module _ {file : List ℕ} (well : WellFormed file) where
       let q = ends file v w n e in
       let r = ends file v w p f in
       let same : key (edge_of file n) ≡ key (edge_of file p) = omega (arith, q.0, q.1, r.0, r.1) in
-      by-test (leb n p)
-      (λ g. ⊎_elim (λ (x : n ≡ p). x) (λ (l : n < p). absurd (omega (arith, same, keys-rise n p l hp))) (eq-or-lt_of_le {n = n} {m = p} (leb-true n p g)))
-      (λ g. absurd (omega (arith, same, keys-rise p n (leb-false n p g) hn)))
+      by_test (leb n p)
+      (λ g. ⊎_elim (λ (x : n ≡ p). x) (λ (l : n < p). absurd (omega (arith, same, keys_rise n p l hp))) (eq-or-lt_of_le {n = n} {m = p} (leb-true n p g)))
+      (λ g. absurd (omega (arith, same, keys_rise p n (leb-false n p g) hn)))

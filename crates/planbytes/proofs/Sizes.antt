@@ -16,22 +16,22 @@ use Rattle.routine.specs.Layout.{arrays, vertices}
 use Rattle.routine.specs.Reader.{Laid}
 use Rattle.words.specs.Sums.{total}
 use Rattle.words.specs.Tables.{rows}
-use Rattle.words.proofs.Filling.{Filling, fill-length, fill-next, fill-at}
-use Rattle.words.proofs.Sums.{total-none, total-more, total-few, count-few, rows-total}
+use Rattle.words.proofs.Filling.{Filling, fill_length, fill_next, fill_at}
+use Rattle.words.proofs.Sums.{total_none, total_more, total_few, count_few, rows-total}
 use Rattle.words.proofs.Tables.{rows_empty, rows-length}
 
 -- ---- a count over columns of which those from m on count for nothing
 
 pub none_yet : (size : ℕ → ℕ) (m : ℕ) → 0 ≡ total size (min 0 m)
-none_yet size m = let e : 0 ≡ min 0 m = omega arith in total-none size ∙ ap (total size) e
+none_yet size m = let e : 0 ≡ min 0 m = omega arith in total_none size ∙ ap (total size) e
 
-pub next-column : {count more : ℕ} (size : ℕ → ℕ) (m a : ℕ) → count ≡ total size (min a m) → (a < m → more ≡ size a) → (m ≤ a → more ≡ 0)
+pub next_column : {count more : ℕ} (size : ℕ → ℕ) (m a : ℕ) → count ≡ total size (min a m) → (a < m → more ≡ size a) → (m ≤ a → more ≡ 0)
     → count + more ≡ total size (min (a + 1) m)
-next-column {count} {more} size m a e f g = elim (dec_lt a m) [
+next_column {count} {more} size m a e f g = elim (dec_lt a m) [
   | yes l ↦
       let before : min a m ≡ a = omega arith in
       let after : a + 1 ≡ min (a + 1) m = omega arith in
-      total-more size a (e ∙ ap (total size) before) (f l) ∙ ap (total size) after
+      total_more size a (e ∙ ap (total size) before) (f l) ∙ ap (total size) after
   | no l ↦
       let same : min a m ≡ min (a + 1) m = omega arith in
       let none : count + more ≡ count = omega (arith, g (omega arith)) in
@@ -42,45 +42,45 @@ next-column {count} {more} size m a e f g = elim (dec_lt a m) [
 
 pub record IndexEntry (file firsts : List ℕ) (v : ℕ) : Type 0 where
   pub inside : v + 1 < length firsts
-  pub first-is : get_or firsts v 0 ≡ labels_before file v
-  pub count-is : get_or firsts (v + 1) 0 - get_or firsts v 0 ≡ labels_at file v
+  pub first_is : get_or firsts v 0 ≡ labels_before file v
+  pub count_is : get_or firsts (v + 1) 0 - get_or firsts v 0 ≡ labels_at file v
   pub rises : get_or firsts v 0 ≤ get_or firsts (v + 1) 0
   pub few : get_or firsts (v + 1) 0 ≤ 2048
 
 module _ (file : List ℕ) where
   pub before_more : {count more : ℕ} (v : ℕ) → count ≡ labels_before file v → more ≡ labels_at file v → count + more ≡ labels_before file (v + 1)
   unfolding labels_before
-  before_more v e f = total-more (labels_at file) v e f
+  before_more v e f = total_more (labels_at file) v e f
 
   -- the last entry: how many labels there are
-  pub firsts-done : {old new : List ℕ} {size v n count : ℕ} → Filling (labels_before file) size old new v → v ≡ n → n ≡ vertices file → vertices file < size → count ≡ labels_before file v
+  pub firsts_done : {old new : List ℕ} {size v n count : ℕ} → Filling (labels_before file) size old new v → v ≡ n → n ≡ vertices file → vertices file < size → count ≡ labels_before file v
       → Firsts file (set new n count)
-  firsts-done {old} {new} {size} {v} {n} {count} t e f room g =
-      let done = fill-next t (omega (arith, e, f)) g in
-      subst (λ (m : ℕ). Firsts file (set new m count)) e (record { size = omega (arith, fill-length done); first = λ u l. fill-at done u (omega (arith, e, f)) })
+  firsts_done {old} {new} {size} {v} {n} {count} t e f room g =
+      let done = fill_next t (omega (arith, e, f)) g in
+      subst (λ (m : ℕ). Firsts file (set new m count)) e (record { size = omega (arith, fill_length done); first = λ u l. fill_at done u (omega (arith, e, f)) })
 
   module _ (laid : Laid file) where
-    pub at-few : (v : ℕ) → labels_at file v ≤ 8
+    pub at_few : (v : ℕ) → labels_at file v ≤ 8
     unfolding labels_at
-    at-few v = omega (arith, count-few (λ a. is_label file a v) (arrays file), laid.limits.few-arrays)
+    at_few v = omega (arith, count_few (λ a. is_label file a v) (arrays file), laid.limits.few_arrays)
 
-    pub before-few : (v : ℕ) → labels_before file v ≤ 8 * v
+    pub before_few : (v : ℕ) → labels_before file v ≤ 8 * v
     unfolding labels_before
-    before-few v = total-few (labels_at file) 8 at-few v
+    before_few v = total_few (labels_at file) 8 at_few v
 
     -- counts and indices fit 16 bits
-    pub labels-few : label_count file ≤ 2048
+    pub labels_few : label_count file ≤ 2048
     unfolding label_count
-    labels-few = omega (arith, before-few (vertices file), laid.limits.few-vertices)
+    labels_few = omega (arith, before_few (vertices file), laid.limits.few_vertices)
 
-    pub plan-few : plan_length file ≤ 25608
+    pub plan_few : plan_length file ≤ 25608
     unfolding plan_length
-    plan-few = omega (arith, labels-few, laid.limits.few-vertices)
+    plan_few = omega (arith, labels_few, laid.limits.few_vertices)
 
   -- a vertex without labels writes nothing
-  pub row-none : (v : ℕ) → ((a : ℕ) → a < arrays file → is_label file a v ≡ false) → label_row file v ≡ []
+  pub row_none : (v : ℕ) → ((a : ℕ) → a < arrays file → is_label file a v ≡ false) → label_row file v ≡ []
   unfolding label_row label_entry
-  row-none v none = rows_empty (λ a. label_entry file a v) (arrays file) (λ a l. ap (λ (b : Bool). cond b (label_bytes file a v) []) (none a l))
+  row_none v none = rows_empty (λ a. label_entry file a v) (arrays file) (λ a l. ap (λ (b : Bool). cond b (label_bytes file a v) []) (none a l))
 
   -- vertex v's entry of the contents, from two indices
   pub entry-holds : {firsts : List ℕ} → Laid file → Firsts file firsts → {v : ℕ} → v < vertices file → IndexEntry file firsts v
@@ -89,10 +89,10 @@ module _ (file : List ℕ) where
       let behind = f.first (v + 1) (omega arith) ∙ sym (before_more v refl refl) in
       record {
         inside = omega (arith, f.size);
-        first-is = here;
-        count-is = omega (arith, here, behind);
+        first_is = here;
+        count_is = omega (arith, here, behind);
         rises = omega (arith, here, behind);
-        few = omega (arith, behind, before-few laid v, at-few laid v, laid.limits.few-vertices);
+        few = omega (arith, behind, before_few laid v, at_few laid v, laid.limits.few_vertices);
       }
 
   -- ---- lengths
@@ -110,13 +110,13 @@ module _ (file : List ℕ) where
       go true = refl
       go false = refl
 
-  label-row-length : (v : ℕ) → length (label_row file v) ≡ 12 * labels_at file v
+  label_row_length : (v : ℕ) → length (label_row file v) ≡ 12 * labels_at file v
   unfolding label_row labels_at
-  label-row-length v = rows-total (λ a. label_entry file a v) (λ a. cond (is_label file a v) 1 0) 12 (λ a. entry_length a v) (arrays file)
+  label_row_length v = rows-total (λ a. label_entry file a v) (λ a. cond (is_label file a v) 1 0) 12 (λ a. entry_length a v) (arrays file)
 
   pub labels_length : length (labels file) ≡ 12 * label_count file
   unfolding labels label_count labels_before
-  labels_length = rows-total (label_row file) (labels_at file) 12 label-row-length (vertices file)
+  labels_length = rows-total (label_row file) (labels_at file) 12 label_row_length (vertices file)
 
   -- where the labels stand
   pub labels_at_is : 8 + 4 * vertices file ≡ length (plan_head (vertices file) (label_count file) ++ contents file)
@@ -124,12 +124,12 @@ module _ (file : List ℕ) where
   labels_at_is = omega (arith, entry_at (vertices file))
 
   -- by the header and the count
-  pub length-is : {h : Header} {count : ℕ} → ReadAs file h → count ≡ label_count file → 8 + 4 * h.vertices + 12 * count ≡ plan_length file
+  pub length_is : {h : Header} {count : ℕ} → ReadAs file h → count ≡ label_count file → 8 + 4 * h.vertices + 12 * count ≡ plan_length file
   unfolding plan_length
-  length-is is e = omega (arith, is.heads.vertices-are, e)
+  length_is is e = omega (arith, is.heads.vertices_are, e)
 
   -- contents 4 bytes a vertex, 12 bytes a label
-  pub plan-length : length (plan_bytes file) ≡ plan_length file
+  pub plan_length_lem : length (plan_bytes file) ≡ plan_length file
   unfolding plan_bytes plan_length
-  plan-length =
+  plan_length_lem =
       length-append (plan_head (vertices file) (label_count file) ++ contents file) (labels file) ∙ omega (arith, labels_at_is, labels_length)

@@ -11,9 +11,9 @@ use Rattle.sets.specs.Sets.{has}
 
 -- versions, letters, reaching sets and kept sets: what the plan is written from
 pub record Tabled (file versions letters reaching kept : List ℕ) : Type 0 where
-  pub versions-are : Versions file versions
-  pub reaching-are : Cells file (reaching_of file) reaching
-  pub letters-and-kept : LettersAndKept file letters kept
+  pub versions_are : Versions file versions
+  pub reaching_are : Cells file (reaching_of file) reaching
+  pub letters_and_kept : LettersAndKept file letters kept
 
 -- the index of each vertex's first label, and behind the last vertex how many there are
 pub record Firsts (file firsts : List ℕ) : Type 0 where

@@ -7,8 +7,8 @@ use Prim.Native.Nat.{ℕ, ◌≤◌, ◌<◌}
 use native.Mathlib.Omega.{arith}
 use borrow.Author.Tests.{le-leb, lt-leb, leb-true}
 use lib.ListN.{length}
-use Rattle.calls.proofs.Calls.{demand2-calls}
-use Rattle.calls.proofs.Checks.{no-calls-routine, no-calls-check, calls-routine, calls-expanded}
+use Rattle.calls.proofs.Calls.{demand2_calls}
+use Rattle.calls.proofs.Checks.{no_calls_routine, no_calls_check, calls_routine, calls_expanded}
 use Rattle.calls.proofs.Interfaces.{expandable}
 use Rattle.calls.specs.Calls.{has_calls}
 use Rattle.calls.specs.Checks.{check22, calls_check}
@@ -18,7 +18,7 @@ use Rattle.labels.specs.Checks.{programmer_check}
 use Rattle.labels.specs.Demand.{Demand2}
 use Rattle.planned.specs.Calls.{plan_check, plan_of, plan_into, Planned, planner_check, PlannedRead}
 use Rattle.planbytes.specs.Plan.{plan_bytes, plan_length}
-use Rattle.planbytes.proofs.Sizes.{plan-length}
+use Rattle.planbytes.proofs.Sizes.{plan_length_lem}
 use Rattle.refusal.specs.Checks.{◌and_then◌}
 use Rattle.refusal.specs.Replies.{written, filled_by, reply_outcome}
 use Rattle.refusal.specs.declared.Refusal.{Refusal}
@@ -27,8 +27,8 @@ use Rattle.refusal.specs.declared.Reply.{Reply}
 use Rattle.refusal.specs.declared.Reply.TheVariants.{Written, Denied}
 use Rattle.refusal.specs.declared.Verdict.{Verdict}
 use Rattle.refusal.specs.declared.Verdict.TheVariants.{Passed, Failed}
-use Rattle.refusal.proofs.Checks.{written-passed, passed-left, passed-right, holds-true}
-use Rattle.routine.proofs.Accepted.{passed-read}
+use Rattle.refusal.proofs.Checks.{written_passed, passed_left, passed_right, holds_true}
+use Rattle.routine.proofs.Accepted.{passed_read}
 use Rattle.routine.specs.Reader.{read_check}
 use Rattle.words.specs.Tables.{wrote}
 
@@ -38,46 +38,46 @@ not_written e = absurd (let z : ◌≡◌ {A = ℕ} 0 1 = cc in omega arith)
 
 module _ (file : List ℕ) (size : ℕ) {v : Verdict} (is : v ≡ programmer_check file) where
   -- 20 or 21
-  pub plan-denied : {r : Refusal} → v ≡ Failed r → Denied r ≡ written (planner_check file size) (plan_length file)
+  pub plan_denied : {r : Refusal} → v ≡ Failed r → Denied r ≡ written (planner_check file size) (plan_length file)
   unfolding planner_check
-  plan-denied e = rw (← is, e)
+  plan_denied e = rw (← is, e)
 
   -- 1
-  pub plan-short : v ≡ Passed → size < plan_length file → Denied (ShortPlanBuffer (plan_length file)) ≡ written (planner_check file size) (plan_length file)
+  pub plan_short : v ≡ Passed → size < plan_length file → Denied (ShortPlanBuffer (plan_length file)) ≡ written (planner_check file size) (plan_length file)
   unfolding planner_check
-  plan-short e h = rw (← is, e, lt-leb (plan_length file) size h)
+  plan_short e h = rw (← is, e, lt-leb (plan_length file) size h)
 
-  pub plan-written : v ≡ Passed → plan_length file ≤ size → Written (plan_length file) ≡ written (planner_check file size) (plan_length file)
+  pub plan_written : v ≡ Passed → plan_length file ≤ size → Written (plan_length file) ≡ written (planner_check file size) (plan_length file)
   unfolding planner_check
-  plan-written e h = rw (← is, e, le-leb (plan_length file) size h)
+  plan_written e h = rw (← is, e, le-leb (plan_length file) size h)
 
 -- ---- a plan of a routine that was read, from its reply
 
 module _ (file before : List ℕ) {reply : Reply} (is : reply ≡ written (planner_check file (length before)) (plan_length file)) where
-  pub denied-planned : {r : Refusal} → reply ≡ Denied r → PlannedRead file before reply before
-  denied-planned e = record { answer = is; buffer = subst (λ (r : Reply). before ≡ filled_by r (plan_bytes file) before) (sym e) refl }
+  pub denied_planned : {r : Refusal} → reply ≡ Denied r → PlannedRead file before reply before
+  denied_planned e = record { answer = is; buffer = subst (λ (r : Reply). before ≡ filled_by r (plan_bytes file) before) (sym e) refl }
 
   -- all checks have passed
   module _ {n : ℕ} (e : reply ≡ Written n) where
-    checks-passed : planner_check file (length before) ≡ Passed
-    checks-passed = written-passed (planner_check file (length before)) (plan_length file) (sym is ∙ e)
+    checks_passed : planner_check file (length before) ≡ Passed
+    checks_passed = written_passed (planner_check file (length before)) (plan_length file) (sym is ∙ e)
 
-    pub plan-passed : programmer_check file ≡ Passed
+    pub plan_passed : programmer_check file ≡ Passed
     unfolding planner_check
-    plan-passed = passed-left (programmer_check file) _ checks-passed
+    plan_passed = passed_left (programmer_check file) _ checks_passed
 
-    pub plan-fits : length (plan_bytes file) ≤ length before
+    pub plan_fits : length (plan_bytes file) ≤ length before
     unfolding planner_check
-    plan-fits = omega (arith, plan-length file, leb-true (plan_length file) (length before) (holds-true _ _ (passed-right (programmer_check file) _ checks-passed)))
+    plan_fits = omega (arith, plan_length_lem file, leb-true (plan_length file) (length before) (holds_true _ _ (passed_right (programmer_check file) _ checks_passed)))
 
-    pub written-planned : {after : List ℕ} → after ≡ wrote before (plan_bytes file) → PlannedRead file before reply after
-    written-planned {after} w = record { answer = is; buffer = subst (λ (r : Reply). after ≡ filled_by r (plan_bytes file) before) (sym e) w }
+    pub written_planned : {after : List ℕ} → after ≡ wrote before (plan_bytes file) → PlannedRead file before reply after
+    written_planned {after} w = record { answer = is; buffer = subst (λ (r : Reply). after ≡ filled_by r (plan_bytes file) before) (sym e) w }
 
 -- ---- the call, for every list of bytes
 
 module _ (file before : List ℕ) where
   demand : (read_check file and_then check22 file) ≡ Passed → Demand2 (routine_of file) (referring file)
-  demand e = demand2-calls file (expandable file (passed-left (read_check file) (check22 file) e) (passed-right (read_check file) (check22 file) e))
+  demand e = demand2_calls file (expandable file (passed_left (read_check file) (check22 file) e) (passed_right (read_check file) (check22 file) e))
 
   planned : {reply : Reply} {after : List ℕ} → reply ≡ plan_of file (length before) → after ≡ plan_into reply file before → Planned file before reply after
   planned e b = record { answer = e; outcome = ap reply_outcome e; buffer = b; demand = demand }
@@ -88,28 +88,28 @@ module _ (file before : List ℕ) where
   denied failed e = planned (e ∙ sym (rw failed)) (subst (λ (r : Reply). before ≡ plan_into r file before) (sym e) refl)
 
   -- 10 to 19
-  pub read-denied : {reply : Reply} {r : Refusal} → read_check file ≡ Failed r → reply ≡ Denied r → Planned file before reply before
+  pub read_denied : {reply : Reply} {r : Refusal} → read_check file ≡ Failed r → reply ≡ Denied r → Planned file before reply before
   unfolding plan_check
-  read-denied failed = denied (rw failed)
+  read_denied failed = denied (rw failed)
 
   module _ (read : read_check file ≡ Passed) where
     -- 22, 20 or 21
-    pub calls-denied : {reply : Reply} {r : Refusal} → calls_check file ≡ Failed r → reply ≡ Denied r → Planned file before reply before
+    pub calls_denied : {reply : Reply} {r : Refusal} → calls_check file ≡ Failed r → reply ≡ Denied r → Planned file before reply before
     unfolding plan_check
-    calls-denied failed = denied (rw (read, failed))
+    calls_denied failed = denied (rw (read, failed))
 
     -- what is said of the routine is said of the file, where 22, 20 and 21 are what 20 and 21 are of the routine
-    as-routine : {reply : Reply} {after : List ℕ} → calls_check file ≡ programmer_check (routine_of file) → PlannedRead (routine_of file) before reply after → Planned file before reply after
+    as_routine : {reply : Reply} {after : List ℕ} → calls_check file ≡ programmer_check (routine_of file) → PlannedRead (routine_of file) before reply after → Planned file before reply after
     unfolding plan_of plan_check planner_check
-    as-routine same p = planned (p.answer ∙ sym (rw (read, same))) p.buffer
+    as_routine same p = planned (p.answer ∙ sym (rw (read, same))) p.buffer
 
     -- no calls: the file is the routine
-    pub plain-planned : {reply : Reply} {after : List ℕ} → has_calls file ≡ false → PlannedRead file before reply after → Planned file before reply after
-    plain-planned {reply} {after} none p =
-        let itself = sym (no-calls-routine file none) in
-        as-routine (no-calls-check file none (passed-read file read) ∙ ap programmer_check itself) (subst (λ (s : List ℕ). PlannedRead s before reply after) itself p)
+    pub plain_planned : {reply : Reply} {after : List ℕ} → has_calls file ≡ false → PlannedRead file before reply after → Planned file before reply after
+    plain_planned {reply} {after} none p =
+        let itself = sym (no_calls_routine file none) in
+        as_routine (no_calls_check file none (passed_read file read) ∙ ap programmer_check itself) (subst (λ (s : List ℕ). PlannedRead s before reply after) itself p)
 
     -- calls: the routine is the expanded one
-    pub calls-planned : {reply : Reply} {after : List ℕ} → has_calls file ≡ true → calls_check file ≡ Passed → PlannedRead (expanded file) before reply after → Planned file before reply after
-    calls-planned {reply} {after} some passed p =
-        as-routine (passed ∙ sym (calls-routine file read passed)) (subst (λ (s : List ℕ). PlannedRead s before reply after) (sym (calls-expanded file some)) p)
+    pub calls_planned : {reply : Reply} {after : List ℕ} → has_calls file ≡ true → calls_check file ≡ Passed → PlannedRead (expanded file) before reply after → Planned file before reply after
+    calls_planned {reply} {after} some passed p =
+        as_routine (passed ∙ sym (calls_routine file read passed)) (subst (λ (s : List ℕ). PlannedRead s before reply after) (sym (calls_expanded file some)) p)

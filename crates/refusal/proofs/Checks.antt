@@ -25,40 +25,40 @@ pub passes : {v w x rest : Verdict} → v ≡ w → v ≡ Passed → x ≡ rest 
 passes is e next = rw (← is, e) next
 
 -- a check that passes adds nothing behind others
-pub then-passed : (v : Verdict) → (v and_then Passed) ≡ v
-then-passed Passed = refl
-then-passed (Failed r) = refl
+pub then_passed : (v : Verdict) → (v and_then Passed) ≡ v
+then_passed Passed = refl
+then_passed (Failed r) = refl
 
-pub then-assoc : (u v w : Verdict) → ((u and_then v) and_then w) ≡ (u and_then v and_then w)
-then-assoc Passed v w = refl
-then-assoc (Failed r) v w = refl
+pub then_assoc : (u v w : Verdict) → ((u and_then v) and_then w) ≡ (u and_then v and_then w)
+then_assoc Passed v w = refl
+then_assoc (Failed r) v w = refl
 
 -- a call that writes has passed its checks
-pub written-passed : (v : Verdict) (m : ℕ) {n : ℕ} → written v m ≡ Written n → v ≡ Passed
-written-passed Passed m e = refl
-written-passed (Failed r) m e = cc
+pub written_passed : (v : Verdict) (m : ℕ) {n : ℕ} → written v m ≡ Written n → v ≡ Passed
+written_passed Passed m e = refl
+written_passed (Failed r) m e = cc
 
 -- two tests are one, with the refusal of the first that fails
-pub holds-or : (a b : Bool) (r s : Refusal) → (holds (not a) r and_then holds (not b) s) ≡ holds (not (a || b)) (cond a r s)
-holds-or true b r s = refl
-holds-or false b r s = refl
+pub holds_or : (a b : Bool) (r s : Refusal) → (holds (not a) r and_then holds (not b) s) ≡ holds (not (a || b)) (cond a r s)
+holds_or true b r s = refl
+holds_or false b r s = refl
 
 -- ---- what a row that passes tells of its parts
 
-pub passed-left : (v w : Verdict) → (v and_then w) ≡ Passed → v ≡ Passed
-passed-left Passed w e = refl
-passed-left (Failed r) w e = e
+pub passed_left : (v w : Verdict) → (v and_then w) ≡ Passed → v ≡ Passed
+passed_left Passed w e = refl
+passed_left (Failed r) w e = e
 
-pub passed-right : (v w : Verdict) → (v and_then w) ≡ Passed → w ≡ Passed
-passed-right Passed w e = e
-passed-right (Failed r) w e = cc
+pub passed_right : (v w : Verdict) → (v and_then w) ≡ Passed → w ≡ Passed
+passed_right Passed w e = e
+passed_right (Failed r) w e = cc
 
-pub holds-true : (b : Bool) (r : Refusal) → holds b r ≡ Passed → b ≡ true
-holds-true true r e = refl
-holds-true false r e = cc
+pub holds_true : (b : Bool) (r : Refusal) → holds b r ≡ Passed → b ≡ true
+holds_true true r e = refl
+holds_true false r e = cc
 
 -- each test of the row, and the fact that it stands for
-pub ruleset parts = (passed-left, passed-right, holds-true, and_left, and_right, not-true, not-false, leb-true, ltb-true, eqb-true, eqb-false)
+pub ruleset parts = (passed_left, passed_right, holds_true, and_left, and_right, not-true, not-false, leb-true, ltb-true, eqb-true, eqb-false)
 
 -- ---- a scan for the first item that fails
 
@@ -76,53 +76,53 @@ module _ {item : ℕ → Verdict} {n i : ℕ} (u : Undecided item n i) where
       u.rest ∙ ap (first_failed item i) e
 
   -- v is what the item at i says
-  pub scan-stop : {v : Verdict} {r : Refusal} → i < n → v ≡ item i → v ≡ Failed r → v ≡ first_failed item 0 n
-  scan-stop h is e = fails _ is e ∙ sym (head h)
+  pub scan_stop : {v : Verdict} {r : Refusal} → i < n → v ≡ item i → v ≡ Failed r → v ≡ first_failed item 0 n
+  scan_stop h is e = fails _ is e ∙ sym (head h)
 
-  pub scan-next : {v : Verdict} → i < n → v ≡ item i → v ≡ Passed → Undecided item n (i + 1)
-  scan-next h is e = record { within = omega arith; rest = head h ∙ sym (passes is e refl) }
+  pub scan_next : {v : Verdict} → i < n → v ≡ item i → v ≡ Passed → Undecided item n (i + 1)
+  scan_next h is e = record { within = omega arith; rest = head h ∙ sym (passes is e refl) }
 
-  pub scan-done : n ≤ i → Passed ≡ first_failed item 0 n
+  pub scan_done : n ≤ i → Passed ≡ first_failed item 0 n
   unfolding first_failed
-  scan-done h =
+  scan_done h =
       let e : n - i ≡ 0 = omega arith in
       sym (u.rest ∙ ap (first_failed item i) e)
 
-pub scan-start : (item : ℕ → Verdict) (n : ℕ) → Undecided item n 0
-scan-start item n =
+pub scan_start : (item : ℕ → Verdict) (n : ℕ) → Undecided item n 0
+scan_start item n =
     let e : n ≡ n - 0 = omega arith in
     record { within = omega arith; rest = ap (first_failed item 0) e }
 
 -- ---- scans of the same items are the same
 
-pub scan-alike : {item other : ℕ → Verdict} → ((i : ℕ) → item i ≡ other i) → (from n : ℕ) → first_failed item from n ≡ first_failed other from n
+pub scan_alike : {item other : ℕ → Verdict} → ((i : ℕ) → item i ≡ other i) → (from n : ℕ) → first_failed item from n ≡ first_failed other from n
 unfolding first_failed
-scan-alike same from zero = refl
-scan-alike same from (suc n) = ap₂ ◌and_then◌ (same from) (scan-alike same (from + 1) n)
+scan_alike same from zero = refl
+scan_alike same from (suc n) = ap₂ ◌and_then◌ (same from) (scan_alike same (from + 1) n)
 
 -- ---- what a scan says: it passes exactly if every item passes, and fails with r exactly if the first item that fails does so with r
 
 record FirstAt (item : ℕ → Verdict) (from n : ℕ) (r : Refusal) : Type 0 where
   at : ℕ
   within : at < n
-  fails-there : item (from + at) ≡ Failed r
-  passed-before : (i : ℕ) → i < at → item (from + i) ≡ Passed
+  fails_there : item (from + at) ≡ Failed r
+  passed_before : (i : ℕ) → i < at → item (from + i) ≡ Passed
 
 module _ (item : ℕ → Verdict) where
   -- an item counted from the next one on
-  next-item : (from i : ℕ) → item (from + suc i) ≡ item (from + 1 + i)
-  next-item from i =
+  next_item : (from i : ℕ) → item (from + suc i) ≡ item (from + 1 + i)
+  next_item from i =
       let e : from + suc i ≡ from + 1 + i = omega arith in
       ap item e
 
   -- the last item behind the others
-  pub first-last : (from n : ℕ) → first_failed item from (suc n) ≡ (first_failed item from n and_then item (from + n))
+  pub first_last : (from n : ℕ) → first_failed item from (suc n) ≡ (first_failed item from n and_then item (from + n))
   unfolding first_failed
-  first-last from zero = rw add-zero (then-passed (item from))
-  first-last from (suc n) =
-      ap (λ (w : Verdict). item from and_then w) (first-last (from + 1) n)
-      ∙ sym (then-assoc (item from) _ _)
-      ∙ ap (λ (w : Verdict). first_failed item from (suc n) and_then w) (sym (next-item from n))
+  first_last from zero = rw add-zero (then_passed (item from))
+  first_last from (suc n) =
+      ap (λ (w : Verdict). item from and_then w) (first_last (from + 1) n)
+      ∙ sym (then_assoc (item from) _ _)
+      ∙ ap (λ (w : Verdict). first_failed item from (suc n) and_then w) (sym (next_item from n))
 
   -- the items from the next one on, as items of their own
   pub shift : (from n : ℕ) → first_failed item (from + 1) n ≡ first_failed (λ i. item (i + 1)) from n
@@ -133,25 +133,25 @@ module _ (item : ℕ → Verdict) where
   -- the first item passes, and so do those from the next one on
   onward : (from n : ℕ) → item from ≡ Passed → ((i : ℕ) → i < n → item (from + 1 + i) ≡ Passed) → (i : ℕ) → i < suc n → item (from + i) ≡ Passed
   onward from n p all zero h = rw add-zero p
-  onward from n p all (suc i) h = next-item from i ∙ all i (omega arith)
+  onward from n p all (suc i) h = next_item from i ∙ all i (omega arith)
 
-  scan-passed : (from n : ℕ) → first_failed item from n ≡ Passed → (i : ℕ) → i < n → item (from + i) ≡ Passed
+  scan_passed : (from n : ℕ) → first_failed item from n ≡ Passed → (i : ℕ) → i < n → item (from + i) ≡ Passed
   unfolding first_failed
-  scan-passed from zero e = λ i h. absurd (omega arith)
-  scan-passed from (suc n) e =
-      onward from n (passed-left (item from) _ e) (scan-passed (from + 1) n (passed-right (item from) _ e))
+  scan_passed from zero e = λ i h. absurd (omega arith)
+  scan_passed from (suc n) e =
+      onward from n (passed_left (item from) _ e) (scan_passed (from + 1) n (passed_right (item from) _ e))
 
-  passed-scan : (from n : ℕ) → ((i : ℕ) → i < n → item (from + i) ≡ Passed) → first_failed item from n ≡ Passed
+  passed_scan : (from n : ℕ) → ((i : ℕ) → i < n → item (from + i) ≡ Passed) → first_failed item from n ≡ Passed
   unfolding first_failed
-  passed-scan from zero all = refl
-  passed-scan from (suc n) all =
+  passed_scan from zero all = refl
+  passed_scan from (suc n) all =
       rw (rw add-zero at (all 0 (omega arith)))
-      (passed-scan (from + 1) n (λ i h. sym (next-item from i) ∙ all (suc i) (omega arith)))
+      (passed_scan (from + 1) n (λ i h. sym (next_item from i) ∙ all (suc i) (omega arith)))
 
-  scan-failed : (from n : ℕ) {r : Refusal} → first_failed item from n ≡ Failed r → FirstAt item from n r
+  scan_failed : (from n : ℕ) {r : Refusal} → first_failed item from n ≡ Failed r → FirstAt item from n r
   unfolding first_failed
-  scan-failed from zero e = absurd (let z : ◌≡◌ {A = ℕ} 0 1 = cc in omega arith)
-  scan-failed from (suc n) {r} e = go (item from) refl e (scan-failed (from + 1) n)
+  scan_failed from zero e = absurd (let z : ◌≡◌ {A = ℕ} 0 1 = cc in omega arith)
+  scan_failed from (suc n) {r} e = go (item from) refl e (scan_failed (from + 1) n)
     where
       go : (v : Verdict) → item from ≡ v → (v and_then first_failed item (from + 1) n) ≡ Failed r → (first_failed item (from + 1) n ≡ Failed r → FirstAt item (from + 1) n r) → FirstAt item from (suc n) r
       go Passed p e later =
@@ -159,37 +159,37 @@ module _ (item : ℕ → Verdict) where
           record {
             at = suc f.at;
             within = omega arith;
-            fails-there = next-item from f.at ∙ f.fails-there;
-            passed-before = onward from f.at p f.passed-before;
+            fails_there = next_item from f.at ∙ f.fails_there;
+            passed_before = onward from f.at p f.passed_before;
           }
       go (Failed s) p e later =
           record {
             at = 0;
             within = omega arith;
-            fails-there = rw add-zero (p ∙ e);
-            passed-before = λ i h. absurd (omega arith);
+            fails_there = rw add-zero (p ∙ e);
+            passed_before = λ i h. absurd (omega arith);
           }
 
-  failed-from : (from n k : ℕ) {r : Refusal} → k < n → item (from + k) ≡ Failed r → ((i : ℕ) → i < k → item (from + i) ≡ Passed) → first_failed item from n ≡ Failed r
+  failed_from : (from n k : ℕ) {r : Refusal} → k < n → item (from + k) ≡ Failed r → ((i : ℕ) → i < k → item (from + i) ≡ Passed) → first_failed item from n ≡ Failed r
   unfolding first_failed
-  failed-from from zero k h e all = absurd (omega arith)
-  failed-from from (suc n) zero h e all =
+  failed_from from zero k h e all = absurd (omega arith)
+  failed_from from (suc n) zero h e all =
       let f = rw add-zero at e in
       sym (fails _ refl f) ∙ f
-  failed-from from (suc n) (suc k) h e all =
+  failed_from from (suc n) (suc k) h e all =
       rw (rw add-zero at (all 0 (omega arith)))
-      (failed-from (from + 1) n k (omega arith) (sym (next-item from k) ∙ e) (λ i h. sym (next-item from i) ∙ all (suc i) (omega arith)))
+      (failed_from (from + 1) n k (omega arith) (sym (next_item from k) ∙ e) (λ i h. sym (next_item from i) ∙ all (suc i) (omega arith)))
 
   -- from the first item on
-  pub each-passed : (n : ℕ) → first_failed item 0 n ≡ Passed → (i : ℕ) → i < n → item i ≡ Passed
-  each-passed n e i h = rw zero-add at (scan-passed 0 n e i h)
+  pub each_passed : (n : ℕ) → first_failed item 0 n ≡ Passed → (i : ℕ) → i < n → item i ≡ Passed
+  each_passed n e i h = rw zero-add at (scan_passed 0 n e i h)
 
-  pub all-passed : (n : ℕ) → ((i : ℕ) → i < n → item i ≡ Passed) → first_failed item 0 n ≡ Passed
-  all-passed n all = passed-scan 0 n (λ i h. rw zero-add (all i h))
+  pub all_passed : (n : ℕ) → ((i : ℕ) → i < n → item i ≡ Passed) → first_failed item 0 n ≡ Passed
+  all_passed n all = passed_scan 0 n (λ i h. rw zero-add (all i h))
 
-  pub scan-failed-iff : (n : ℕ) (r : Refusal)
+  pub scan_failed_iff : (n : ℕ) (r : Refusal)
       → (first_failed item 0 n ≡ Failed r) ↔ ((i : ℕ) × (i < n) × (item i ≡ Failed r) × ((j : ℕ) → j < i → item j ≡ Passed))
-  scan-failed-iff n r = (
-    λ e. let f = scan-failed 0 n e in (f.at, f.within, rw zero-add at f.fails-there, λ j h. rw zero-add at (f.passed-before j h)),
-    λ p. failed-from 0 n p.0 p.1 (rw zero-add p.2) (λ j h. rw zero-add (p.3 j h)),
+  scan_failed_iff n r = (
+    λ e. let f = scan_failed 0 n e in (f.at, f.within, rw zero-add at f.fails_there, λ j h. rw zero-add at (f.passed_before j h)),
+    λ p. failed_from 0 n p.0 p.1 (rw zero-add p.2) (λ j h. rw zero-add (p.3 j h)),
   )

@@ -12,18 +12,18 @@ use Rattle.refusal.specs.declared.Verdict.{Verdict}
 use Rattle.refusal.specs.declared.Verdict.TheVariants.{Passed, Failed}
 use Rattle.refusal.specs.Checks.{holds, first_failed}
 use Rattle.refusal.specs.Faults.{FirstOf, first_fault, FirstFault}
-use Rattle.refusal.proofs.Checks.{each-passed, all-passed, scan-failed-iff}
+use Rattle.refusal.proofs.Checks.{each_passed, all_passed, scan_failed_iff}
 
 -- ---- one item
 
 module _ {F : Type 0} where
-  item-passed : (b : Bool) (r : Refusal) → T b ↔ F → (holds (not b) r ≡ Passed) ↔ (F → ⊥)
-  item-passed true r f = (λ e x. let z : ◌≡◌ {A = ℕ} 0 1 = cc in omega arith, λ n. absurd (n (f.0 tt)))
-  item-passed false r f = (λ e. f.1, λ n. refl)
+  item_passed : (b : Bool) (r : Refusal) → T b ↔ F → (holds (not b) r ≡ Passed) ↔ (F → ⊥)
+  item_passed true r f = (λ e x. let z : ◌≡◌ {A = ℕ} 0 1 = cc in omega arith, λ n. absurd (n (f.0 tt)))
+  item_passed false r f = (λ e. f.1, λ n. refl)
 
-  item-failed : (b : Bool) (r s : Refusal) → T b ↔ F → (holds (not b) r ≡ Failed s) ↔ (F × (s ≡ r))
-  item-failed true r s f = (λ e. (f.0 tt, cc), λ p. ap Failed (sym p.1))
-  item-failed false r s f = (λ e. absurd (let z : ◌≡◌ {A = ℕ} 0 1 = cc in omega arith), λ p. absurd (f.1 p.0))
+  item_failed : (b : Bool) (r s : Refusal) → T b ↔ F → (holds (not b) r ≡ Failed s) ↔ (F × (s ≡ r))
+  item_failed true r s f = (λ e. (f.0 tt, cc), λ p. ap Failed (sym p.1))
+  item_failed false r s f = (λ e. absurd (let z : ◌≡◌ {A = ℕ} 0 1 = cc in omega arith), λ p. absurd (f.1 p.0))
 
 -- ---- a row of n items
 
@@ -32,24 +32,24 @@ module _ (fault : ℕ → Bool) (refusal : ℕ → Refusal) (n : ℕ) (Fault : �
   item i = holds (not (fault i)) (refusal i)
 
   -- passed: none has a fault
-  pub row-passed : (first_failed item 0 n ≡ Passed) ↔ ((i : ℕ) → i < n → Fault i → ⊥)
-  row-passed = (
-    λ e i h. (item-passed (fault i) _ (exact i h)).0 (each-passed item n e i h),
-    λ none. all-passed item n (λ i h. (item-passed (fault i) _ (exact i h)).1 (none i h)),
+  pub row_passed : (first_failed item 0 n ≡ Passed) ↔ ((i : ℕ) → i < n → Fault i → ⊥)
+  row_passed = (
+    λ e i h. (item_passed (fault i) _ (exact i h)).0 (each_passed item n e i h),
+    λ none. all_passed item n (λ i h. (item_passed (fault i) _ (exact i h)).1 (none i h)),
   )
 
   -- failed: the first that has
-  pub row-failed : (r : Refusal) → (first_failed item 0 n ≡ Failed r) ↔ ((i : ℕ) × FirstOf Fault n i × (r ≡ refusal i))
-  row-failed r = (
-    λ e. let (i, within, there, before) = (scan-failed-iff item n r).0 e in
-        let f = (item-failed (fault i) _ r (exact i within)).0 there in
-        (i, record { within = within; fault = f.0; none-earlier = λ j h. (item-passed (fault j) _ (exact j (lt_trans h within))).0 (before j h) }, f.1),
+  pub row_failed : (r : Refusal) → (first_failed item 0 n ≡ Failed r) ↔ ((i : ℕ) × FirstOf Fault n i × (r ≡ refusal i))
+  row_failed r = (
+    λ e. let (i, within, there, before) = (scan_failed_iff item n r).0 e in
+        let f = (item_failed (fault i) _ r (exact i within)).0 there in
+        (i, record { within = within; fault = f.0; none_earlier = λ j h. (item_passed (fault j) _ (exact j (lt_trans h within))).0 (before j h) }, f.1),
     λ p. let (i, f, is) = p in
-        (scan-failed-iff item n r).1 (
+        (scan_failed_iff item n r).1 (
           i,
           f.within,
-          (item-failed (fault i) _ r (exact i f.within)).1 (f.fault, is),
-          λ j h. (item-passed (fault j) _ (exact j (lt_trans h f.within))).1 (f.none-earlier j h),
+          (item_failed (fault i) _ r (exact i f.within)).1 (f.fault, is),
+          λ j h. (item_passed (fault j) _ (exact j (lt_trans h f.within))).1 (f.none_earlier j h),
         ),
   )
 
@@ -60,33 +60,33 @@ module _ (fault : ℕ → ℕ → Bool) (refusal : ℕ → ℕ → Refusal) (ver
   abbrev row : ℕ → Verdict
   row v = first_failed (λ a. holds (not (fault v a)) (refusal v a)) 0 arrays
 
-  passed-at : (v : ℕ) → (row v ≡ Passed) ↔ ((a : ℕ) → a < arrays → Fault v a → ⊥)
-  passed-at v = row-passed (fault v) (refusal v) arrays (Fault v) (exact v)
+  passed_at : (v : ℕ) → (row v ≡ Passed) ↔ ((a : ℕ) → a < arrays → Fault v a → ⊥)
+  passed_at v = row_passed (fault v) (refusal v) arrays (Fault v) (exact v)
 
   -- passed: no vertex has a fault with an array
-  pub fault-passed : (first_fault fault refusal vertices arrays ≡ Passed) ↔ ((v a : ℕ) → v < vertices → a < arrays → Fault v a → ⊥)
+  pub fault_passed : (first_fault fault refusal vertices arrays ≡ Passed) ↔ ((v a : ℕ) → v < vertices → a < arrays → Fault v a → ⊥)
   unfolding first_fault
-  fault-passed = (
-    λ e v a h. (passed-at v).0 (each-passed row vertices e v h) a,
-    λ n. all-passed row vertices (λ v h. (passed-at v).1 (λ a. n v a h)),
+  fault_passed = (
+    λ e v a h. (passed_at v).0 (each_passed row vertices e v h) a,
+    λ n. all_passed row vertices (λ v h. (passed_at v).1 (λ a. n v a h)),
   )
 
   -- failed: the first that has, by vertex, then by array
-  pub fault-failed : (r : Refusal) → (first_fault fault refusal vertices arrays ≡ Failed r) ↔ ((v : ℕ) × (a : ℕ) × FirstFault Fault vertices arrays v a × (r ≡ refusal v a))
+  pub fault_failed : (r : Refusal) → (first_fault fault refusal vertices arrays ≡ Failed r) ↔ ((v : ℕ) × (a : ℕ) × FirstFault Fault vertices arrays v a × (r ≡ refusal v a))
   unfolding first_fault
-  fault-failed r = (
-    λ e. let (v, in-v, there, before) = (scan-failed-iff row vertices r).0 e in
-        let (a, f, is) = (row-failed (fault v) (refusal v) arrays (Fault v) (exact v) r).0 there in (
+  fault_failed r = (
+    λ e. let (v, in_v, there, before) = (scan_failed_iff row vertices r).0 e in
+        let (a, f, is) = (row_failed (fault v) (refusal v) arrays (Fault v) (exact v) r).0 there in (
           v,
           a,
-          record { vertex = in-v; array = f.within; fault = f.fault; none-earlier = λ u b h. (passed-at u).0 (before u h) b; none-there = f.none-earlier },
+          record { vertex = in_v; array = f.within; fault = f.fault; none_earlier = λ u b h. (passed_at u).0 (before u h) b; none_there = f.none_earlier },
           is,
         ),
     λ p. let (v, a, f, is) = p in
-        (scan-failed-iff row vertices r).1 (
+        (scan_failed_iff row vertices r).1 (
           v,
           f.vertex,
-          (row-failed (fault v) (refusal v) arrays (Fault v) (exact v) r).1 (a, record { within = f.array; fault = f.fault; none-earlier = f.none-there }, is),
-          λ u h. (passed-at u).1 (λ b. f.none-earlier u b h),
+          (row_failed (fault v) (refusal v) arrays (Fault v) (exact v) r).1 (a, record { within = f.array; fault = f.fault; none_earlier = f.none_there }, is),
+          λ u h. (passed_at u).1 (λ b. f.none_earlier u b h),
         ),
   )

@@ -9,7 +9,7 @@ use Rattle.refusal.specs.Checks.{holds, first_failed}
 pub record FirstOf (Fault : ℕ → Type 0) (n i : ℕ) : Type 0 where
   pub within : i < n
   pub fault : Fault i
-  pub none-earlier : (j : ℕ) → j < i → Fault j → ⊥
+  pub none_earlier : (j : ℕ) → j < i → Fault j → ⊥
 
 -- the first vertex, and there the first array, at which a fault stands
 unfoldable pub first_fault : (ℕ → ℕ → Bool) → (ℕ → ℕ → Refusal) → ℕ → ℕ → Verdict
@@ -22,5 +22,5 @@ pub record FirstFault (Fault : ℕ → ℕ → Type 0) (vertices arrays v a : �
   pub vertex : v < vertices
   pub array : a < arrays
   pub fault : Fault v a
-  pub none-earlier : (u b : ℕ) → u < v → b < arrays → Fault u b → ⊥
-  pub none-there : (b : ℕ) → b < a → Fault v b → ⊥
+  pub none_earlier : (u b : ℕ) → u < v → b < arrays → Fault u b → ⊥
+  pub none_there : (b : ℕ) → b < a → Fault v b → ⊥

@@ -32,13 +32,13 @@ records_bytes-append (r ∷ rs) ss =
     ap (λ (l : List ℕ). record_bytes r ++ l) (records_bytes-append rs ss) ∙ sym (append_assoc (record_bytes r) (records_bytes rs) (records_bytes ss))
 
 -- the bytes of rows of records are the rows of their bytes
-records-rows : (row : ℕ → List Record) (n : ℕ) → records_bytes (rows row n) ≡ rows (λ i. records_bytes (row i)) n
+records_rows : (row : ℕ → List Record) (n : ℕ) → records_bytes (rows row n) ≡ rows (λ i. records_bytes (row i)) n
 unfolding rows
-records-rows row zero = refl
-records-rows row (suc n) = records_bytes-append (rows row n) (row n) ∙ ap (λ (l : List ℕ). l ++ records_bytes (row n)) (records-rows row n)
+records_rows row zero = refl
+records_rows row (suc n) = records_bytes-append (rows row n) (row n) ∙ ap (λ (l : List ℕ). l ++ records_bytes (row n)) (records_rows row n)
 
-pub by_step-bytes : (at : ℕ → ℕ → List Record) (m n : ℕ) → records_bytes (by_step at m n) ≡ rows (λ i. rows (λ a. records_bytes (at i a)) m) n
-by_step-bytes at m n = records-rows (λ i. rows (at i) m) n ∙ rows_same _ _ n (λ i _. records-rows (at i) m)
+pub by_step_bytes : (at : ℕ → ℕ → List Record) (m n : ℕ) → records_bytes (by_step at m n) ≡ rows (λ i. rows (λ a. records_bytes (at i a)) m) n
+by_step_bytes at m n = records_rows (λ i. rows (at i) m) n ∙ rows_same _ _ n (λ i _. records_rows (at i) m)
 
 -- ten bytes for a reference
 pub ten : (x : Action) (step array version stamp : ℕ) → length (records_bytes (records_at x step array version stamp)) ≡ 10 * cond (is_reference x) 1 0

@@ -8,12 +8,12 @@ use Prim.Native.Nat.{ℕ, ◌≤◌, ◌<◌}
 use native.Mathlib.Omega.{arith}
 use borrow.Author.Tests.{le-leb, lt-leb}
 use lib.ListN.{length}
-use Rattle.calls.proofs.Checks.{no-calls-check, calls-routine, calls-expanded}
+use Rattle.calls.proofs.Checks.{no_calls_check, calls_routine, calls_expanded}
 use Rattle.calls.specs.Calls.{has_calls}
 use Rattle.calls.specs.Checks.{calls_check}
 use Rattle.calls.specs.Expanded.{expanded}
 use Rattle.calls.specs.Referring.{referring}
-use Rattle.checks.proofs.Rows.{not-passed}
+use Rattle.checks.proofs.Rows.{not_passed}
 use Rattle.labels.specs.Checks.{programmer_check}
 use Rattle.passes.specs.Counted.{Stops, BroughtStops, ReachedFirst}
 use Rattle.refusal.specs.Replies.{reply_outcome}
@@ -24,7 +24,7 @@ use Rattle.refusal.specs.declared.Reply.TheVariants.{Written, Denied}
 use Rattle.refusal.specs.declared.Verdict.TheVariants.{Passed, Failed}
 use Rattle.rounds.specs.Calls.{four_bytes, FourPasses, SixPasses, PassBytes, rounds_length, rounds_check, rounds_of, Rounded, Counted}
 use Rattle.rounds.specs.declared.Passes.{Passes}
-use Rattle.routine.proofs.Accepted.{passed-read}
+use Rattle.routine.proofs.Accepted.{passed_read}
 use Rattle.routine.specs.Layout.{vertices}
 use Rattle.routine.specs.Reader.{read_check}
 use Rattle.words.specs.Tables.{wrote}
@@ -36,17 +36,17 @@ use Rattle.words.specs.Words.{bytes16}
 pub few : (file : List ℕ) {along : Bool} {gives passes : ℕ → ℕ → ℕ} {r : ℕ} → vertices file ≤ 256 → Stops file along gives passes r → r < 65536
 few file h s = omega (arith, s.most)
 
-pub few-first : (file : List ℕ) {r : ℕ} → vertices file ≤ 256 → ReachedFirst file r → r < 65536
-few-first file {r} h s = ⊎_elim (λ p. few file h p) (λ p. let e : r ≡ 0 = p.0 in omega arith) s
+pub few_first : (file : List ℕ) {r : ℕ} → vertices file ≤ 256 → ReachedFirst file r → r < 65536
+few_first file {r} h s = ⊎_elim (λ p. few file h p) (λ p. let e : r ≡ 0 = p.0 in omega arith) s
 
 -- 20 or 21 refuses: there are none
 pub counted_none : {routine : List ℕ} {p : Passes} {r : Refusal} → p.verdict ≡ programmer_check routine → p.verdict ≡ Failed r → Counted routine p
 counted_none is e = record {
   answers = is;
-  letters-stop = not-passed e;
-  reached-first = not-passed e;
-  reaching-stops = not-passed e;
-  kept-stops = not-passed e;
+  letters_stop = not_passed e;
+  reached_first = not_passed e;
+  reaching_stops = not_passed e;
+  kept_stops = not_passed e;
 }
 
 four : {routine : List ℕ} {p : Passes} → Counted routine p → p.verdict ≡ Passed → FourPasses routine (four_bytes p.letters p.reached p.reaching p.kept)
@@ -55,17 +55,17 @@ four {p} c e = record {
   reached = p.reached;
   reaching = p.reaching;
   kept = p.kept;
-  letters-stop = c.letters-stop e;
-  reached-first = c.reached-first e;
-  reaching-stops = c.reaching-stops e;
-  kept-stops = c.kept-stops e;
+  letters_stop = c.letters_stop e;
+  reached_first = c.reached_first e;
+  reaching_stops = c.reaching_stops e;
+  kept_stops = c.kept_stops e;
   are = refl;
 }
 
 -- ---- the call, for every list of bytes
 
-not-denied : {A : Type 0} {r : Refusal} {n : ℕ} → Written n ≡ Denied r → A
-not-denied e = absurd (let z : ◌≡◌ {A = ℕ} 0 1 = cc in omega arith)
+not_denied : {A : Type 0} {r : Refusal} {n : ℕ} → Written n ≡ Denied r → A
+not_denied e = absurd (let z : ◌≡◌ {A = ℕ} 0 1 = cc in omega arith)
 
 not_written : {A : Type 0} {r : Refusal} {n : ℕ} → Denied r ≡ Written n → A
 not_written e = absurd (let z : ◌≡◌ {A = ℕ} 0 1 = cc in omega arith)
@@ -84,15 +84,15 @@ module _ (file before : List ℕ) where
       }
 
   -- 10 to 19
-  pub read-denied : {reply : Reply} {r : Refusal} → read_check file ≡ Failed r → reply ≡ Denied r → Rounded file before reply before
+  pub read_denied : {reply : Reply} {r : Refusal} → read_check file ≡ Failed r → reply ≡ Denied r → Rounded file before reply before
   unfolding rounds_check
-  read-denied failed = denied (rw failed)
+  read_denied failed = denied (rw failed)
 
   module _ (read : read_check file ≡ Passed) where
     -- 22, 20 or 21
-    pub calls-denied : {reply : Reply} {r : Refusal} → calls_check file ≡ Failed r → reply ≡ Denied r → Rounded file before reply before
+    pub calls_denied : {reply : Reply} {r : Refusal} → calls_check file ≡ Failed r → reply ≡ Denied r → Rounded file before reply before
     unfolding rounds_check
-    calls-denied failed = denied (rw (read, failed))
+    calls_denied failed = denied (rw (read, failed))
 
     module _ (passed : calls_check file ≡ Passed) {needed : ℕ} (is : rounds_length file ≡ needed) where
       -- 1
@@ -100,36 +100,36 @@ module _ (file before : List ℕ) where
       unfolding rounds_check
       short h = denied (rw (read, passed, is, lt-leb needed (length before) h)) refl
 
-      all-passed : needed ≤ length before → Written needed ≡ rounds_of file (length before)
+      all_passed : needed ≤ length before → Written needed ≡ rounds_of file (length before)
       unfolding rounds_of rounds_check
-      all-passed h = rw (read, passed, is, le-leb needed (length before) h)
+      all_passed h = rw (read, passed, is, le-leb needed (length before) h)
 
       numbers : {bytes after : List ℕ} → needed ≤ length before → PassBytes file bytes → after ≡ wrote before bytes → Rounded file before (Written needed) after
       numbers {bytes} h p w = record {
-        answer = all-passed h;
-        outcome = ap reply_outcome (all-passed h);
+        answer = all_passed h;
+        outcome = ap reply_outcome (all_passed h);
         numbers = λ n e. (bytes, p, w);
-        unwritten = λ r e. not-denied e;
+        unwritten = λ r e. not_denied e;
       }
 
     -- ---- no calls
 
     module _ (none : has_calls file ≡ false) {p : Passes} (c : Counted file p) where
       same : calls_check file ≡ p.verdict
-      same = no-calls-check file none (passed-read file read) ∙ sym c.answers
+      same = no_calls_check file none (passed_read file read) ∙ sym c.answers
 
       eight : rounds_length file ≡ 8
       eight = rw none
 
-      pub plain-denied : {r : Refusal} → p.verdict ≡ Failed r → Rounded file before (Denied r) before
-      plain-denied e = calls-denied (same ∙ e) refl
+      pub plain_denied : {r : Refusal} → p.verdict ≡ Failed r → Rounded file before (Denied r) before
+      plain_denied e = calls_denied (same ∙ e) refl
 
       module _ (e : p.verdict ≡ Passed) where
-        pub plain-short : length before < 8 → Rounded file before (Denied (ShortPlanBuffer 8)) before
-        plain-short = short (same ∙ e) eight
+        pub plain_short : length before < 8 → Rounded file before (Denied (ShortPlanBuffer 8)) before
+        plain_short = short (same ∙ e) eight
 
-        pub plain-rounded : {after : List ℕ} → 8 ≤ length before → after ≡ wrote before (four_bytes p.letters p.reached p.reaching p.kept) → Rounded file before (Written 8) after
-        plain-rounded h w =
+        pub plain_rounded : {after : List ℕ} → 8 ≤ length before → after ≡ wrote before (four_bytes p.letters p.reached p.reaching p.kept) → Rounded file before (Written 8) after
+        plain_rounded h w =
             numbers (same ∙ e) eight h record { plain = λ _. four c e; calls = λ some. absurd (true≢false (sym some ∙ none)) } w
 
     -- ---- calls
@@ -138,16 +138,16 @@ module _ (file before : List ℕ) where
       twelve : rounds_length file ≡ 12
       twelve = rw some
 
-      pub calls-short : length before < 12 → Rounded file before (Denied (ShortPlanBuffer 12)) before
-      calls-short = short passed twelve
+      pub calls_short : length before < 12 → Rounded file before (Denied (ShortPlanBuffer 12)) before
+      calls_short = short passed twelve
 
       module _ {p : Passes} (c : Counted (expanded file) p) where
-        pub counted-passed : p.verdict ≡ Passed
-        counted-passed = c.answers ∙ ap programmer_check (sym (calls-expanded file some)) ∙ calls-routine file read passed
+        pub counted_passed : p.verdict ≡ Passed
+        counted_passed = c.answers ∙ ap programmer_check (sym (calls_expanded file some)) ∙ calls_routine file read passed
 
-        pub calls-rounded : {reached arriving : ℕ} {after : List ℕ} → 12 ≤ length before → ReachedFirst (referring file) reached → BroughtStops (referring file) arriving
+        pub calls_rounded : {reached arriving : ℕ} {after : List ℕ} → 12 ≤ length before → ReachedFirst (referring file) reached → BroughtStops (referring file) arriving
             → after ≡ wrote before (bytes16 reached ++ (bytes16 arriving ++ four_bytes p.letters p.reached p.reaching p.kept)) → Rounded file before (Written 12) after
-        calls-rounded {reached} {arriving} h first stops w =
+        calls_rounded {reached} {arriving} h first stops w =
             numbers passed twelve h record { plain = λ none. absurd (true≢false (sym some ∙ none)); calls = λ _. six } w
           where
             six : SixPasses file (bytes16 reached ++ (bytes16 arriving ++ four_bytes p.letters p.reached p.reaching p.kept))
@@ -155,8 +155,8 @@ module _ (file before : List ℕ) where
               reached = reached;
               arriving = arriving;
               rest = four_bytes p.letters p.reached p.reaching p.kept;
-              reached-first = first;
-              arriving-stops = stops;
-              four = four c counted-passed;
+              reached_first = first;
+              arriving_stops = stops;
+              four = four c counted_passed;
               are = refl;
             }

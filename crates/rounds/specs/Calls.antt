@@ -33,10 +33,10 @@ pub record FourPasses (routine bytes : List ℕ) : Type 0 where
   pub reached : ℕ
   pub reaching : ℕ
   pub kept : ℕ
-  pub letters-stop : LettersStop routine letters
-  pub reached-first : ReachedFirst routine reached
-  pub reaching-stops : ReachingStops routine reaching
-  pub kept-stops : KeptStops routine kept
+  pub letters_stop : LettersStop routine letters
+  pub reached_first : ReachedFirst routine reached
+  pub reaching_stops : ReachingStops routine reaching
+  pub kept_stops : KeptStops routine kept
   pub are : bytes ≡ four_bytes letters reached reaching kept
 
 -- of a file with calls: first those of the file with calls as references, reached vertices and versions that arrive; then the four of the
@@ -45,8 +45,8 @@ pub record SixPasses (file bytes : List ℕ) : Type 0 where
   pub reached : ℕ
   pub arriving : ℕ
   pub rest : List ℕ
-  pub reached-first : ReachedFirst (referring file) reached
-  pub arriving-stops : BroughtStops (referring file) arriving
+  pub reached_first : ReachedFirst (referring file) reached
+  pub arriving_stops : BroughtStops (referring file) arriving
   pub four : FourPasses (expanded file) rest
   pub are : bytes ≡ bytes16 reached ++ (bytes16 arriving ++ rest)
 
@@ -86,7 +86,7 @@ pub record Rounded (file before : List ℕ) (reply : Reply) (after : List ℕ) :
 
 pub record Counted (routine : List ℕ) (p : Passes) : Type 0 where
   pub answers : p.verdict ≡ programmer_check routine
-  pub letters-stop : p.verdict ≡ Passed → LettersStop routine p.letters
-  pub reached-first : p.verdict ≡ Passed → ReachedFirst routine p.reached
-  pub reaching-stops : p.verdict ≡ Passed → ReachingStops routine p.reaching
-  pub kept-stops : p.verdict ≡ Passed → KeptStops routine p.kept
+  pub letters_stop : p.verdict ≡ Passed → LettersStop routine p.letters
+  pub reached_first : p.verdict ≡ Passed → ReachedFirst routine p.reached
+  pub reaching_stops : p.verdict ≡ Passed → ReachingStops routine p.reaching
+  pub kept_stops : p.verdict ≡ Passed → KeptStops routine p.kept

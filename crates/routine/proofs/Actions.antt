@@ -12,14 +12,14 @@ use Rattle.routine.specs.declared.action.Action.TheVariants.{Nothing, Reference,
 use Rattle.routine.specs.Actions.{action_of, is_call, is_known, family_of}
 use Rattle.routine.specs.Layout.{within}
 use Rattle.sets.specs.Sets.{width}
-use Rattle.words.proofs.Tests.{and_left, and_right, or_cases, by-test}
+use Rattle.words.proofs.Tests.{and_left, and_right, or_cases, by_test}
 
 -- ---- remappings
 
 -- 40+k remaps to version k
-pub remap-action : (k : ℕ) → k < width → action_of (0x40 + k) ≡ Remap k
+pub remap_action : (k : ℕ) → k < width → action_of (0x40 + k) ≡ Remap k
 unfolding action_of
-remap-action k h =
+remap_action k h =
     let e : 0x40 + k - 0x40 ≡ k = omega arith in
     rw (
       ne_eqb (0x40 + k) 0x00 (λ f. omega arith),
@@ -34,9 +34,9 @@ remap-action k h =
 -- ---- calls
 
 -- to `action_of` a call is unknown
-pub call-unknown : (b : ℕ) → is_call b ≡ true → action_of b ≡ Unknown
+pub call_unknown : (b : ℕ) → is_call b ≡ true → action_of b ≡ Unknown
 unfolding action_of
-call-unknown b h = or_cases (within 0x60 0x7f b) (within 0xa0 0xdf b)
+call_unknown b h = or_cases (within 0x60 0x7f b) (within 0xa0 0xdf b)
     (λ e. high (omega (arith, leb-true 0x60 b (and_left (leb 0x60 b) (leb b 0x7f) e))) (λ f. omega (arith, leb-true b 0x7f (and_right (leb 0x60 b) (leb b 0x7f) e))))
     (λ e. high (omega (arith, leb-true 0xa0 b (and_left (leb 0xa0 b) (leb b 0xdf) e))) (λ f. omega (arith, leb-true 0xa0 b (and_left (leb 0xa0 b) (leb b 0xdf) e)))) h
   where
@@ -52,8 +52,8 @@ call-unknown b h = or_cases (within 0x60 0x7f b) (within 0xa0 0xdf b)
     )
 
 -- what it knows is no call
-pub known-no-call : (b : ℕ) → is_known (action_of b) ≡ true → is_call b ≡ false
-known-no-call b k = by-test (is_call b) (λ c. absurd (true≢false (sym k ∙ ap is_known (call-unknown b c)))) (λ e. e)
+pub known_no_call : (b : ℕ) → is_known (action_of b) ≡ true → is_call b ≡ false
+known_no_call b k = by_test (is_call b) (λ c. absurd (true≢false (sym k ∙ ap is_known (call_unknown b c)))) (λ e. e)
 
 -- ---- only the byte 0 is nothing
 
@@ -64,36 +64,36 @@ is_nothing (Remap k) = false
 is_nothing Unknown = false
 
 -- neither branch is
-neither-branch : (t : Bool) (x y : Action) → is_nothing x ≡ false → is_nothing y ≡ false → is_nothing (cond t x y) ≡ false
-neither-branch true x y e f = e
-neither-branch false x y e f = f
+neither_branch : (t : Bool) (x y : Action) → is_nothing x ≡ false → is_nothing y ≡ false → is_nothing (cond t x y) ≡ false
+neither_branch true x y e f = e
+neither_branch false x y e f = f
 
 -- the first branch only is
-first-branch : (t : Bool) (x : Action) → is_nothing x ≡ false → is_nothing (cond t Nothing x) ≡ t
-first-branch true x e = refl
-first-branch false x e = e
+first_branch : (t : Bool) (x : Action) → is_nothing x ≡ false → is_nothing (cond t Nothing x) ≡ t
+first_branch true x e = refl
+first_branch false x e = e
 
-nothing-zero : (b : ℕ) → is_nothing (action_of b) ≡ eqb b 0
+nothing_zero : (b : ℕ) → is_nothing (action_of b) ≡ eqb b 0
 unfolding action_of
-nothing-zero b = search (first-branch, neither-branch) depth 9
+nothing_zero b = search (first_branch, neither_branch) depth 9
 
 module _ (b : ℕ) where
-  pub zero-if-nothing : action_of b ≡ Nothing → eqb b 0 ≡ true
-  zero-if-nothing e = sym (nothing-zero b) ∙ ap is_nothing e
+  pub zero_if_nothing : action_of b ≡ Nothing → eqb b 0 ≡ true
+  zero_if_nothing e = sym (nothing_zero b) ∙ ap is_nothing e
 
-  pub other-than-zero : {x : Action} → action_of b ≡ x → is_nothing x ≡ false → eqb b 0 ≡ false
-  other-than-zero e n = sym (nothing-zero b) ∙ ap is_nothing e ∙ n
+  pub other_than_zero : {x : Action} → action_of b ≡ x → is_nothing x ≡ false → eqb b 0 ≡ false
+  other_than_zero e n = sym (nothing_zero b) ∙ ap is_nothing e ∙ n
 
   -- ---- families
 
-  pub nothing-family : action_of b ≡ Nothing → family_of b ≡ 0
-  nothing-family e = rw (e, known-no-call b (ap is_known e))
+  pub nothing_family : action_of b ≡ Nothing → family_of b ≡ 0
+  nothing_family e = rw (e, known_no_call b (ap is_known e))
 
-  pub reference-family : {r : Access} → action_of b ≡ Reference r → family_of b ≡ 1
-  reference-family e = rw e
+  pub reference_family : {r : Access} → action_of b ≡ Reference r → family_of b ≡ 1
+  reference_family e = rw e
 
-  pub remap-family : {k : ℕ} → action_of b ≡ Remap k → family_of b ≡ 2
-  remap-family e = rw e
+  pub remap_family : {k : ℕ} → action_of b ≡ Remap k → family_of b ≡ 2
+  remap_family e = rw e
 
-  pub call-family : is_call b ≡ true → family_of b ≡ 3
-  call-family c = rw (call-unknown b c, c)
+  pub call_family : is_call b ≡ true → family_of b ≡ 3
+  call_family c = rw (call_unknown b c, c)

@@ -16,18 +16,18 @@ use Rattle.routine.specs.Reader.{form_check, Limits, Laid, Heads}
 use Rattle.refusal.proofs.Checks.{parts}
 
 module _ (file : List ℕ) where
-  pub long-enough : check10 file ≡ Passed → 18 ≤ length file
+  pub long_enough : check10 file ≡ Passed → 18 ≤ length file
   unfolding check10
-  long-enough e = search parts
+  long_enough e = search parts
 
-  pub few-edges : check12 file ≡ Passed → edges file ≤ 1024
+  pub few_edges : check12 file ≡ Passed → edges file ≤ 1024
   unfolding check12
-  few-edges e = search parts
+  few_edges e = search parts
 
-  pub in-limits : check12 file ≡ Passed → Limits (header_of file)
+  pub in_limits : check12 file ≡ Passed → Limits (header_of file)
   unfolding check12
-  in-limits e =
-      record { some-array = search parts; few-arrays = search parts; two-vertices = search parts; few-vertices = search parts; few-edges = omega (arith, few-edges e) }
+  in_limits e =
+      record { some_array = search parts; few_arrays = search parts; two_vertices = search parts; few_vertices = search parts; few_edges = omega (arith, few_edges e) }
 
   ends_there : check13 file ≡ Passed → length file ≡ end_at file
   unfolding check13
@@ -35,16 +35,16 @@ module _ (file : List ℕ) where
 
   pub laid : form_check file ≡ Passed → Laid file
   unfolding form_check
-  laid e = record { limits = in-limits (search parts); ends = ends_there (search parts) }
+  laid e = record { limits = in_limits (search parts); ends = ends_there (search parts) }
 
   pub heads : Laid file → Heads (header_of file) file
   heads l = search
 
 -- ---- files that are alike in the bytes of an array record
 
-pub array-alike : (s t : List ℕ) (a : ℕ) → ((j : ℕ) → j < 4 → get_or s (record_at a + j) 0 ≡ get_or t (record_at a + j) 0) → array_of s a ≡ array_of t a
+pub array_alike : (s t : List ℕ) (a : ℕ) → ((j : ℕ) → j < 4 → get_or s (record_at a + j) 0 ≡ get_or t (record_at a + j) 0) → array_of s a ≡ array_of t a
 unfolding array_of
-array-alike s t a same = cc (field 0 (lit< tt), field 1 (lit< tt), field 2 (lit< tt), field 3 (lit< tt))
+array_alike s t a same = cc (field 0 (lit< tt), field 1 (lit< tt), field 2 (lit< tt), field 3 (lit< tt))
   where
     field : (j : ℕ) → j < 4 → get_or (take 4 (drop (record_at a) s)) j 0 ≡ get_or (take 4 (drop (record_at a) t)) j 0
     field j h =
@@ -54,29 +54,29 @@ array-alike s t a same = cc (field 0 (lit< tt), field 1 (lit< tt), field 2 (lit<
 -- ---- by the header
 
 -- a file's own header is within the limits
-pub header-limits : {h : Header} {file : List ℕ} → Heads h file → Limits h
-header-limits is = record {
-  some-array = omega (arith, is.arrays-are, is.laid.limits.some-array);
-  few-arrays = omega (arith, is.arrays-are, is.laid.limits.few-arrays);
-  two-vertices = omega (arith, is.vertices-are, is.laid.limits.two-vertices);
-  few-vertices = omega (arith, is.vertices-are, is.laid.limits.few-vertices);
-  few-edges = omega (arith, is.edges_are, is.laid.limits.few-edges);
+pub header_limits : {h : Header} {file : List ℕ} → Heads h file → Limits h
+header_limits is = record {
+  some_array = omega (arith, is.arrays_are, is.laid.limits.some_array);
+  few_arrays = omega (arith, is.arrays_are, is.laid.limits.few_arrays);
+  two_vertices = omega (arith, is.vertices_are, is.laid.limits.two_vertices);
+  few_vertices = omega (arith, is.vertices_are, is.laid.limits.few_vertices);
+  few_edges = omega (arith, is.edges_are, is.laid.limits.few_edges);
 }
 
 -- at most 256 vertices of 8 arrays
-pub few-actions : {h : Header} → Limits h → h.vertices * h.arrays ≤ 2048
-few-actions l = mul-le-mul l.few-vertices l.few-arrays
+pub few_actions : {h : Header} → Limits h → h.vertices * h.arrays ≤ 2048
+few_actions l = mul-le-mul l.few_vertices l.few_arrays
 
 module _ {h : Header} {file : List ℕ} (is : Heads h file) where
-  pub action-place : {v a : ℕ} → v < vertices file → a < arrays file →
+  pub action_place : {v a : ℕ} → v < vertices file → a < arrays file →
       (18 + 4 * h.arrays + v * h.arrays + a ≡ action_at file a v) × (action_at file a v < length file)
-  action-place {v} {a} in-v in-a =
+  action_place {v} {a} in_v in_a =
       omega (
         arith,
-        ap (λ (n : ℕ). v * n) is.arrays-are,
-        mul-le-mul_right (arrays file) in-v,
+        ap (λ (n : ℕ). v * n) is.arrays_are,
+        mul-le-mul_right (arrays file) in_v,
       )
 
-  pub edge-place : {i : ℕ} → i < edges file →
+  pub edge_place : {i : ℕ} → i < edges file →
       (18 + 4 * h.arrays + h.vertices * h.arrays + 4 * i ≡ edge_at file i) × (edge_at file i + 3 < length file)
-  edge-place in-i = omega (arith, ap₂ ◌*◌ is.vertices-are is.arrays-are)
+  edge_place in_i = omega (arith, ap₂ ◌*◌ is.vertices_are is.arrays_are)

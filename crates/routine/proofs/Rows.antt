@@ -8,7 +8,7 @@ use borrow.Author.Tests.{eqb-true, not-false}
 use lib.Dec.{eqb, ltb}
 use Rattle.words.specs.Sums.{any_below}
 use Rattle.words.proofs.Sums.{any_none, any_next}
-use Rattle.words.proofs.Tests.{by-test, neither}
+use Rattle.words.proofs.Tests.{by_test, neither}
 use Rattle.routine.specs.declared.action.Access.{Access}
 use Rattle.routine.specs.declared.action.Action.{Action}
 use Rattle.routine.specs.declared.action.Action.TheVariants.{Nothing, Reference, Remap, Unknown}
@@ -19,8 +19,8 @@ use Rattle.refusal.specs.Checks.{holds}
 use Rattle.refusal.specs.declared.Refusal.TheVariants.{UnknownAction}
 use Rattle.routine.specs.Layout.{action_at}
 use Rattle.routine.specs.Rows.{is_wrong, known_reason, reason_of, family_after}
-use Rattle.refusal.proofs.Checks.{holds-or}
-use Rattle.routine.proofs.Actions.{known-no-call, zero-if-nothing, other-than-zero, nothing-family, reference-family, remap-family, call-family}
+use Rattle.refusal.proofs.Checks.{holds_or}
+use Rattle.routine.proofs.Actions.{known_no_call, zero_if_nothing, other_than_zero, nothing_family, reference_family, remap_family, call_family}
 
 -- ---- the test and the reason, by the byte's action
 
@@ -30,47 +30,47 @@ other family own = not (eqb family 0) && not (eqb family own)
 
 module _ (b versions : ℕ) (terminal : Bool) where
   module _ (family : ℕ) where
-    pub nothing-wrong : action_of b ≡ Nothing → is_wrong b versions terminal family ≡ false
+    pub nothing_wrong : action_of b ≡ Nothing → is_wrong b versions terminal family ≡ false
     unfolding is_wrong
-    nothing-wrong e = rw (e, known-no-call b (ap is_known e), zero-if-nothing b e)
+    nothing_wrong e = rw (e, known_no_call b (ap is_known e), zero_if_nothing b e)
 
-    pub reference-wrong : {r : Access} → action_of b ≡ Reference r → is_wrong b versions terminal family ≡ (terminal || other family 1)
+    pub reference_wrong : {r : Access} → action_of b ≡ Reference r → is_wrong b versions terminal family ≡ (terminal || other family 1)
     unfolding is_wrong
-    reference-wrong e = rw (e, known-no-call b (ap is_known e), other-than-zero b e refl)
+    reference_wrong e = rw (e, known_no_call b (ap is_known e), other_than_zero b e refl)
 
-    pub remap-wrong : {k : ℕ} → action_of b ≡ Remap k → is_wrong b versions terminal family ≡ (not (ltb k versions) || (terminal || other family 2))
+    pub remap_wrong : {k : ℕ} → action_of b ≡ Remap k → is_wrong b versions terminal family ≡ (not (ltb k versions) || (terminal || other family 2))
     unfolding is_wrong
-    remap-wrong e = rw (e, known-no-call b (ap is_known e), other-than-zero b e refl)
+    remap_wrong e = rw (e, known_no_call b (ap is_known e), other_than_zero b e refl)
 
-    pub unknown-wrong : action_of b ≡ Unknown →
+    pub unknown_wrong : action_of b ≡ Unknown →
         is_wrong b versions terminal family ≡ (not (is_call b) || (not (ltb (called_version b) versions) || (terminal || other family 3)))
     unfolding is_wrong
-    unknown-wrong e =
-        by-test (is_call b)
-        (λ c. rw (e, c, other-than-zero b e refl))
+    unknown_wrong e =
+        by_test (is_call b)
+        (λ c. rw (e, c, other_than_zero b e refl))
         (λ c. rw (e, c))
 
   module _ (byte : ℕ) where
-    pub nothing-reason : action_of b ≡ Nothing → reason_of b versions terminal byte ≡ known_reason false false byte
+    pub nothing_reason : action_of b ≡ Nothing → reason_of b versions terminal byte ≡ known_reason false false byte
     unfolding reason_of
-    nothing-reason e = rw (e, known-no-call b (ap is_known e), zero-if-nothing b e)
+    nothing_reason e = rw (e, known_no_call b (ap is_known e), zero_if_nothing b e)
 
-    pub reference-reason : {r : Access} → action_of b ≡ Reference r → reason_of b versions terminal byte ≡ known_reason false terminal byte
+    pub reference_reason : {r : Access} → action_of b ≡ Reference r → reason_of b versions terminal byte ≡ known_reason false terminal byte
     unfolding reason_of
-    reference-reason e = rw (e, known-no-call b (ap is_known e), other-than-zero b e refl)
+    reference_reason e = rw (e, known_no_call b (ap is_known e), other_than_zero b e refl)
 
-    pub remap-reason : {k : ℕ} → action_of b ≡ Remap k → reason_of b versions terminal byte ≡ known_reason (not (ltb k versions)) terminal byte
+    pub remap_reason : {k : ℕ} → action_of b ≡ Remap k → reason_of b versions terminal byte ≡ known_reason (not (ltb k versions)) terminal byte
     unfolding reason_of
-    remap-reason e = rw (e, known-no-call b (ap is_known e), other-than-zero b e refl)
+    remap_reason e = rw (e, known_no_call b (ap is_known e), other_than_zero b e refl)
 
     module _ (e : action_of b ≡ Unknown) where
-      pub call-reason : is_call b ≡ true → reason_of b versions terminal byte ≡ known_reason (not (ltb (called_version b) versions)) terminal byte
+      pub call_reason : is_call b ≡ true → reason_of b versions terminal byte ≡ known_reason (not (ltb (called_version b) versions)) terminal byte
       unfolding reason_of
-      call-reason c = rw (e, c, other-than-zero b e refl)
+      call_reason c = rw (e, c, other_than_zero b e refl)
 
-      pub unknown-reason : is_call b ≡ false → reason_of b versions terminal byte ≡ UnknownAction byte
+      pub unknown_reason : is_call b ≡ false → reason_of b versions terminal byte ≡ UnknownAction byte
       unfolding reason_of
-      unknown-reason c = rw (e, c)
+      unknown_reason c = rw (e, c)
 
 -- ---- the family of a row so far
 
@@ -79,14 +79,14 @@ abbrev pub RowFamily : List ℕ → ℕ → ℕ → ℕ → Type 0
 RowFamily file v n family = (f : ℕ) → any_below (λ a. differ f (family_of (action_byte file a v))) n ≡ differ f family
 
 -- nothing differs from none
-none-differs : (f : ℕ) → differ f 0 ≡ false
-none-differs f = and-false (not (eqb f 0))
+none_differs : (f : ℕ) → differ f 0 ≡ false
+none_differs f = and-false (not (eqb f 0))
 
 -- one more of the same family, or the first of it
-same-family : (f family own : ℕ) → other family own ≡ false → (differ f family || differ f own) ≡ differ f own
-same-family f family own same =
-    by-test (eqb family 0)
-    (λ z. rw (eqb-true family 0 z, none-differs f))
+same_family : (f family own : ℕ) → other family own ≡ false → (differ f family || differ f own) ≡ differ f own
+same_family f family own same =
+    by_test (eqb family 0)
+    (λ z. rw (eqb-true family 0 z, none_differs f))
     (λ z. rw (eqb-true family own (not-false (eqb family own) (rw z at same))) (or_self (differ f own)))
 
 module _ (b versions : ℕ) (terminal : Bool) (family : ℕ) (right : is_wrong b versions terminal family ≡ false) where
@@ -94,24 +94,24 @@ module _ (b versions : ℕ) (terminal : Bool) (family : ℕ) (right : is_wrong b
   joined f = go (action_of b) refl
     where
       go : (x : Action) → action_of b ≡ x → (differ f family || differ f (family_of b)) ≡ differ f (family_after x family)
-      go Nothing e = rw (nothing-family b e, none-differs f) (or-false (differ f family))
+      go Nothing e = rw (nothing_family b e, none_differs f) (or-false (differ f family))
       go (Reference r) e =
-          let p = neither terminal (other family 1) (sym (reference-wrong b versions terminal family e) ∙ right) in
-          rw (reference-family b e) (same-family f family 1 p.1)
+          let p = neither terminal (other family 1) (sym (reference_wrong b versions terminal family e) ∙ right) in
+          rw (reference_family b e) (same_family f family 1 p.1)
       go (Remap k) e =
-          let p = neither (not (ltb k versions)) (terminal || other family 2) (sym (remap-wrong b versions terminal family e) ∙ right) in
-          rw (remap-family b e) (same-family f family 2 (neither terminal (other family 2) p.1).1)
+          let p = neither (not (ltb k versions)) (terminal || other family 2) (sym (remap_wrong b versions terminal family e) ∙ right) in
+          rw (remap_family b e) (same_family f family 2 (neither terminal (other family 2) p.1).1)
       go Unknown e =
-          let p = neither (not (is_call b)) (not (ltb (called_version b) versions) || (terminal || other family 3)) (sym (unknown-wrong b versions terminal family e) ∙ right) in
+          let p = neither (not (is_call b)) (not (ltb (called_version b) versions) || (terminal || other family 3)) (sym (unknown_wrong b versions terminal family e) ∙ right) in
           let q = neither (not (ltb (called_version b) versions)) (terminal || other family 3) p.1 in
-          rw (call-family b (not-false (is_call b) p.0)) (same-family f family 3 (neither terminal (other family 3) q.1).1)
+          rw (call_family b (not-false (is_call b) p.0)) (same_family f family 3 (neither terminal (other family 3) q.1).1)
 
-  pub next-family : (file : List ℕ) (v n : ℕ) → b ≡ action_byte file n v → RowFamily file v n family → RowFamily file v (n + 1) (family_after (action_of b) family)
-  next-family file v n is row f =
+  pub next_family : (file : List ℕ) (v n : ℕ) → b ≡ action_byte file n v → RowFamily file v n family → RowFamily file v (n + 1) (family_after (action_of b) family)
+  next_family file v n is row f =
       sym (any_next (λ a. differ f (family_of (action_byte file a v))) n (sym (row f)) (ap (λ (c : ℕ). differ f (family_of c)) is)) ∙ joined f
 
-pub first-family : (file : List ℕ) (v : ℕ) → RowFamily file v 0 0
-first-family file v f = any_none (λ a. differ f (family_of (action_byte file a v))) ∙ sym (none-differs f)
+pub first_family : (file : List ℕ) (v : ℕ) → RowFamily file v 0 0
+first_family file v f = any_none (λ a. differ f (family_of (action_byte file a v))) ∙ sym (none_differs f)
 
 -- ---- four tests in the order of their numbers
 
@@ -119,13 +119,13 @@ module _ (file : List ℕ) (a v : ℕ) where
   -- are one test, and the reason is that of the lowest number
   pub in_order : action_check file a v ≡ holds (not (is_faulty file a v)) (reason_at file a v)
   unfolding action_check
-  in_order = simp holds-or
+  in_order = simp holds_or
 
-  at-ends : is_at_entry_or_exit file a v ≡ (not (eqb (action_byte file a v) 0) && is_entry_or_exit file v)
-  at-ends = and_comm (is_entry_or_exit file v) (not (eqb (action_byte file a v) 0))
+  at_ends : is_at_entry_or_exit file a v ≡ (not (eqb (action_byte file a v) 0) && is_entry_or_exit file v)
+  at_ends = and_comm (is_entry_or_exit file v) (not (eqb (action_byte file a v) 0))
 
   -- are one test of the byte
-  pub one-test : (b versions : ℕ) (terminal : Bool) (family : ℕ) {bad : Bool} →
+  pub one_test : (b versions : ℕ) (terminal : Bool) (family : ℕ) {bad : Bool} →
       bad ≡ is_wrong b versions terminal family →
       b ≡ action_byte file a v →
       versions ≡ (array_of file a).versions →
@@ -133,4 +133,4 @@ module _ (file : List ℕ) (a v : ℕ) where
       RowFamily file v a family →
       action_check file a v ≡ holds (not bad) (reason_of b versions terminal (action_at file a v))
   unfolding is_wrong reason_of
-  one-test b versions terminal family is e f g row = rw (is, e, f, g) (in_order ∙ simp (at-ends, row (family_of (action_byte file a v))))
+  one_test b versions terminal family is e f g row = rw (is, e, f, g) (in_order ∙ simp (at_ends, row (family_of (action_byte file a v))))

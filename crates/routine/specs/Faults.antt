@@ -27,7 +27,7 @@ reason_at file a v =
 pub data Fault (file : List ℕ) (a v : ℕ) : ℕ → Type 0 where
   unknown : T (is_unknown file a v) → Fault file a v 15
   too_large : T (is_too_large file a v) → Fault file a v 17
-  at-entry-or-exit : T (is_at_entry_or_exit file a v) → Fault file a v 18
+  at_entry_or_exit : T (is_at_entry_or_exit file a v) → Fault file a v 18
   mixed : T (is_mixed_in_row file a v) → Fault file a v 19
 
 -- a refusal that names this byte, with the lowest number of its faults

@@ -55,11 +55,11 @@ denied_of (Refused r) = Denied r
 
 -- counts within their limits; the edges within those of a routine whose calls are expanded
 pub record Limits (h : Header) : Type 0 where
-  pub some-array : 1 ≤ h.arrays
-  pub few-arrays : h.arrays ≤ 8
-  pub two-vertices : 2 ≤ h.vertices
-  pub few-vertices : h.vertices ≤ 256
-  pub few-edges : h.edges ≤ max_edges
+  pub some_array : 1 ≤ h.arrays
+  pub few_arrays : h.arrays ≤ 8
+  pub two_vertices : 2 ≤ h.vertices
+  pub few_vertices : h.vertices ≤ 256
+  pub few_edges : h.edges ≤ max_edges
 
 -- what checks 10 to 13 leave: counts within their limits, bodies that fill the file
 pub record Laid (file : List ℕ) : Type 0 where
@@ -68,44 +68,44 @@ pub record Laid (file : List ℕ) : Type 0 where
 
 -- what 14 leaves of an array record
 pub record ArrayLimits (r : ArrayRecord) : Type 0 where
-  pub kind-known : r.kind ≤ 3
-  pub some-version : 1 ≤ r.versions
-  pub few-versions : r.versions ≤ width
-  pub initial-below : r.initial < r.versions
-  pub last-zero : r.zero ≡ 0
+  pub kind_known : r.kind ≤ 3
+  pub some_version : 1 ≤ r.versions
+  pub few_versions : r.versions ≤ width
+  pub initial_below : r.initial < r.versions
+  pub last_zero : r.zero ≡ 0
 
 -- what 16 leaves of an edge among n vertices, but for its order
 pub record EdgeLimits (e : Edge) (n : ℕ) : Type 0 where
-  pub from-below : e.from < n
+  pub from_below : e.from < n
   pub to_below : e.to < n
-  pub to-other : e.to ≡ 0 → ⊥
-  pub from-other : e.from ≡ n - 1 → ⊥
+  pub to_other : e.to ≡ 0 → ⊥
+  pub from_other : e.from ≡ n - 1 → ⊥
 
 -- what the label rules, the plan and the run ask of a routine
 pub record WellFormed (file : List ℕ) : Type 0 where
   pub laid : Laid file
-  pub array-limits : {a : ℕ} → a < arrays file → ArrayLimits (array_of file a)
+  pub array_limits : {a : ℕ} → a < arrays file → ArrayLimits (array_of file a)
   -- the rows of entry and exit are all 00
-  pub entry-nothing : {a : ℕ} → a < arrays file → action file a entry ≡ Nothing
-  pub exit-nothing : {a : ℕ} → a < arrays file → action file a (exit file) ≡ Nothing
+  pub entry_nothing : {a : ℕ} → a < arrays file → action file a entry ≡ Nothing
+  pub exit_nothing : {a : ℕ} → a < arrays file → action file a (exit file) ≡ Nothing
   -- a vertex has references or remappings, never both
   pub never_both :
       {v a b : ℕ} {r : Access} {k : ℕ} → v < vertices file → a < arrays file → b < arrays file
       → action file a v ≡ Reference r → action file b v ≡ Remap k → ⊥
-  pub edge-limits : {i : ℕ} → i < edges file → EdgeLimits (edge_of file i) (vertices file)
+  pub edge_limits : {i : ℕ} → i < edges file → EdgeLimits (edge_of file i) (vertices file)
   -- strictly rising by from, then to
-  pub edges-rise : (i : ℕ) → i + 1 < edges file → before (edge_of file i) (edge_of file (i + 1)) ≡ true
+  pub edges_rise : (i : ℕ) → i + 1 < edges file → before (edge_of file i) (edge_of file (i + 1)) ≡ true
 
--- what checks 10 to 19 leave of a file; it is well formed (`well-formed`)
+-- what checks 10 to 19 leave of a file; it is well formed (`well_formed`)
 pub record ChecksPassed (file : List ℕ) : Type 0 where
   pub laid : Laid file
-  pub arrays-pass : (a : ℕ) → a < arrays file → array_check file a ≡ Passed
-  pub actions-pass : (a v : ℕ) → a < arrays file → v < vertices file → action_check file a v ≡ Passed
-  pub edges-pass : (i : ℕ) → i < edges file → edge_check file i ≡ Passed
+  pub arrays_pass : (a : ℕ) → a < arrays file → array_check file a ≡ Passed
+  pub actions_pass : (a v : ℕ) → a < arrays file → v < vertices file → action_check file a v ≡ Passed
+  pub edges_pass : (i : ℕ) → i < edges file → edge_check file i ≡ Passed
 
 -- a laid file with its own header
 pub record Heads (h : Header) (file : List ℕ) : Type 0 where
   pub laid : Laid file
-  pub arrays-are : h.arrays ≡ arrays file
-  pub vertices-are : h.vertices ≡ vertices file
+  pub arrays_are : h.arrays ≡ arrays file
+  pub vertices_are : h.vertices ≡ vertices file
   pub edges_are : h.edges ≡ edges file

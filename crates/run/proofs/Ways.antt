@@ -8,8 +8,8 @@ use native.Mathlib.Omega.{arith}
 use borrow.Author.Tests.{le-leb, lt-leb, leb-true}
 use lib.Dec.{leb}
 use lib.ListN.{length, replicate, take}
-use Rattle.calls.proofs.Checks.{no-calls-routine, no-calls-check, calls-expanded, expandable-calls, calls-referring, calls-routine}
-use Rattle.calls.proofs.Calls.{routine-formed}
+use Rattle.calls.proofs.Checks.{no_calls_routine, no_calls_check, calls_expanded, expandable_calls, calls_referring, calls_routine}
+use Rattle.calls.proofs.Calls.{routine_formed}
 use Rattle.calls.specs.Calls.{has_calls}
 use Rattle.calls.specs.Checks.{calls_check}
 use Rattle.calls.specs.Expanded.{expanded, routine_of}
@@ -17,7 +17,7 @@ use Rattle.calls.specs.Referring.{referring}
 use Rattle.demand.specs.Demand.{Demand3}
 use Rattle.labels.specs.Checks.{check20, check21, programmer_check}
 use Rattle.refusal.specs.Checks.{◌and_then◌, holds}
-use Rattle.routine.proofs.Accepted.{passed-read}
+use Rattle.routine.proofs.Accepted.{passed_read}
 use Rattle.routine.specs.Reader.{read_check}
 use Rattle.refusal.specs.Replies.{written, reply_outcome}
 use Rattle.refusal.specs.declared.Refusal.{Refusal}
@@ -26,11 +26,11 @@ use Rattle.refusal.specs.declared.Reply.{Reply}
 use Rattle.refusal.specs.declared.Reply.TheVariants.{Written, Denied}
 use Rattle.refusal.specs.declared.Verdict.{Verdict}
 use Rattle.refusal.specs.declared.Verdict.TheVariants.{Passed, Failed}
-use Rattle.refusal.proofs.Checks.{written-passed, passed-left, passed-right, holds-true}
-use Rattle.returns.proofs.Returns.{demand3-calls, return_named}
+use Rattle.refusal.proofs.Checks.{written_passed, passed_left, passed_right, holds_true}
+use Rattle.returns.proofs.Returns.{demand3_calls, return_named}
 use Rattle.returns.specs.Returns.{ReturnsNamed}
 use Rattle.run.specs.Calls.{run_check, run_of, DemandMet, CountsMet, run_into, Ran, runner_check, RanRead}
-use Rattle.path.proofs.Passes.{path-counts}
+use Rattle.path.proofs.Passes.{path_counts}
 use Rattle.path.specs.Passes.{Counts}
 use Rattle.path.specs.Paths.{path_check}
 use Rattle.walk.specs.Report.{report_bytes, report_length}
@@ -38,70 +38,70 @@ use Rattle.words.specs.Tables.{wrote}
 
 module _ (file path : List ℕ) (size : ℕ) {v : Verdict} (is : v ≡ programmer_check file) where
   -- 20 or 21
-  pub run-denied : {r : Refusal} → v ≡ Failed r → Denied r ≡ written (runner_check file path size) (report_length file path)
+  pub run_denied : {r : Refusal} → v ≡ Failed r → Denied r ≡ written (runner_check file path size) (report_length file path)
   unfolding runner_check
-  run-denied e = rw (← is, e)
+  run_denied e = rw (← is, e)
 
   module _ (p : v ≡ Passed) {w : Verdict} (follows : w ≡ path_check file path) where
     -- 30 to 32
-    pub run-path-denied : {r : Refusal} → w ≡ Failed r → Denied r ≡ written (runner_check file path size) (report_length file path)
+    pub run_path_denied : {r : Refusal} → w ≡ Failed r → Denied r ≡ written (runner_check file path size) (report_length file path)
     unfolding runner_check
-    run-path-denied e = rw (← is, p, ← follows, e)
+    run_path_denied e = rw (← is, p, ← follows, e)
 
     -- 2
     pub run_short : w ≡ Passed → size < report_length file path → Denied (ShortReportBuffer (report_length file path)) ≡ written (runner_check file path size) (report_length file path)
     unfolding runner_check
     run_short e h = rw (← is, p, ← follows, e, lt-leb (report_length file path) size h)
 
-    pub run-written : w ≡ Passed → report_length file path ≤ size → Written (report_length file path) ≡ written (runner_check file path size) (report_length file path)
+    pub run_written : w ≡ Passed → report_length file path ≤ size → Written (report_length file path) ≡ written (runner_check file path size) (report_length file path)
     unfolding runner_check
-    run-written e h = rw (← is, p, ← follows, e, le-leb (report_length file path) size h)
+    run_written e h = rw (← is, p, ← follows, e, le-leb (report_length file path) size h)
 
 -- what is written is as long as is said
-written-size : (v : Verdict) (m : ℕ) {n : ℕ} → written v m ≡ Written n → n ≡ m
-written-size Passed m e = cc
-written-size (Failed r) m e = absurd (let z : ◌≡◌ {A = ℕ} 0 1 = cc in omega arith)
+written_size : (v : Verdict) (m : ℕ) {n : ℕ} → written v m ≡ Written n → n ≡ m
+written_size Passed m e = cc
+written_size (Failed r) m e = absurd (let z : ◌≡◌ {A = ℕ} 0 1 = cc in omega arith)
 
 -- the first of many zeros
-pub few-zeros : (n m : ℕ) → n ≤ m → take n (replicate m 0) ≡ replicate {A = ℕ} n 0
-few-zeros zero m h = refl
-few-zeros (suc n) zero h = absurd (omega arith)
-few-zeros (suc n) (suc m) h = ap (λ (l : List ℕ). 0 ∷ l) (few-zeros n m (omega arith))
+pub few_zeros : (n m : ℕ) → n ≤ m → take n (replicate m 0) ≡ replicate {A = ℕ} n 0
+few_zeros zero m h = refl
+few_zeros (suc n) zero h = absurd (omega arith)
+few_zeros (suc n) (suc m) h = ap (λ (l : List ℕ). 0 ∷ l) (few_zeros n m (omega arith))
 
 -- ---- a run of a routine that was read, from its reply
 
 module _ (file path before : List ℕ) {reply : Reply} (is : reply ≡ written (runner_check file path (length before)) (report_length file path)) where
-  pub denied-ran : {r : Refusal} → reply ≡ Denied r → RanRead file path before reply before
-  denied-ran e = record { answer = is; buffer = rw e }
+  pub denied_ran : {r : Refusal} → reply ≡ Denied r → RanRead file path before reply before
+  denied_ran e = record { answer = is; buffer = rw e }
 
   -- all checks have passed
   module _ {n : ℕ} (e : reply ≡ Written n) where
-    all-passed : runner_check file path (length before) ≡ Passed
-    all-passed = written-passed (runner_check file path (length before)) (report_length file path) (sym is ∙ e)
+    all_passed : runner_check file path (length before) ≡ Passed
+    all_passed = written_passed (runner_check file path (length before)) (report_length file path) (sym is ∙ e)
 
     -- 20 and 21
-    pub run-passed : programmer_check file ≡ Passed
+    pub run_passed : programmer_check file ≡ Passed
     unfolding runner_check
-    run-passed = passed-left (programmer_check file) _ all-passed
+    run_passed = passed_left (programmer_check file) _ all_passed
 
-    after-21 : (path_check file path and_then holds (leb (report_length file path) (length before)) (ShortReportBuffer (report_length file path))) ≡ Passed
+    after_21 : (path_check file path and_then holds (leb (report_length file path) (length before)) (ShortReportBuffer (report_length file path))) ≡ Passed
     unfolding runner_check
-    after-21 = passed-right (programmer_check file) _ all-passed
+    after_21 = passed_right (programmer_check file) _ all_passed
 
     -- 30 to 32
-    pub run-follows : path_check file path ≡ Passed
-    run-follows = passed-left (path_check file path) _ after-21
+    pub run_follows : path_check file path ≡ Passed
+    run_follows = passed_left (path_check file path) _ after_21
 
     -- the report's length, and it fits
-    pub run-size : n ≡ report_length file path
-    run-size = written-size (runner_check file path (length before)) (report_length file path) (sym is ∙ e)
+    pub run_size : n ≡ report_length file path
+    run_size = written_size (runner_check file path (length before)) (report_length file path) (sym is ∙ e)
 
     pub run_fits : n ≤ length before
     run_fits =
-        omega (arith, run-size, leb-true (report_length file path) (length before) (holds-true _ _ (passed-right (path_check file path) _ after-21)))
+        omega (arith, run_size, leb-true (report_length file path) (length before) (holds_true _ _ (passed_right (path_check file path) _ after_21)))
 
-    pub written-ran : {after : List ℕ} → after ≡ wrote before (report_bytes file path) → RanRead file path before reply after
-    written-ran w = record { answer = is; buffer = rw e w }
+    pub written_ran : {after : List ℕ} → after ≡ wrote before (report_bytes file path) → RanRead file path before reply after
+    written_ran w = record { answer = is; buffer = rw e w }
 
 -- ---- the call, for all lists of bytes
 
@@ -110,25 +110,25 @@ module _ (file path before : List ℕ) where
   made : run_check file path (length before) ≡ Passed → Demand3 (routine_of file) path × ReturnsNamed file path × Counts (routine_of file) path
   unfolding run_check programmer_check
   made all =
-      let read = passed-left (read_check file) _ all in
-      let rest = passed-right (read_check file) _ all in
-      let calls = passed-left (calls_check file) _ rest in
-      let follows = passed-left (path_check (routine_of file) path) _ (passed-right (calls_check file) _ rest) in
-      let can = expandable-calls file read calls in
-      let both = calls-referring file read calls in (
-        demand3-calls file can follows (passed-left (check20 (referring file)) (check21 (referring file)) both),
-        return_named file can follows (passed-right (check20 (referring file)) (check21 (referring file)) both),
-        path-counts path (routine-formed file can) follows,
+      let read = passed_left (read_check file) _ all in
+      let rest = passed_right (read_check file) _ all in
+      let calls = passed_left (calls_check file) _ rest in
+      let follows = passed_left (path_check (routine_of file) path) _ (passed_right (calls_check file) _ rest) in
+      let can = expandable_calls file read calls in
+      let both = calls_referring file read calls in (
+        demand3_calls file can follows (passed_left (check20 (referring file)) (check21 (referring file)) both),
+        return_named file can follows (passed_right (check20 (referring file)) (check21 (referring file)) both),
+        path_counts path (routine_formed file can) follows,
       )
 
   demand : (reply : Reply) → reply ≡ run_of file path (length before) → DemandMet reply file path
   unfolding run_of
-  demand (Written n) e = let m = made (written-passed (run_check file path (length before)) (report_length (routine_of file) path) (sym e)) in (m.0, m.1)
+  demand (Written n) e = let m = made (written_passed (run_check file path (length before)) (report_length (routine_of file) path) (sym e)) in (m.0, m.1)
   demand (Denied r) e = tt
 
   counts : (reply : Reply) → reply ≡ run_of file path (length before) → CountsMet reply file path
   unfolding run_of
-  counts (Written n) e = (made (written-passed (run_check file path (length before)) (report_length (routine_of file) path) (sym e))).2
+  counts (Written n) e = (made (written_passed (run_check file path (length before)) (report_length (routine_of file) path) (sym e))).2
   counts (Denied r) e = tt
 
   ran : {reply : Reply} {after : List ℕ} → reply ≡ run_of file path (length before) → after ≡ run_into reply file path before → Ran file path before reply after
@@ -140,28 +140,28 @@ module _ (file path before : List ℕ) where
   denied failed e = ran (e ∙ sym (rw failed)) (rw e)
 
   -- 10 to 19
-  pub read-denied : {reply : Reply} {r : Refusal} → read_check file ≡ Failed r → reply ≡ Denied r → Ran file path before reply before
+  pub read_denied : {reply : Reply} {r : Refusal} → read_check file ≡ Failed r → reply ≡ Denied r → Ran file path before reply before
   unfolding run_check
-  read-denied failed = denied (rw failed)
+  read_denied failed = denied (rw failed)
 
   module _ (read : read_check file ≡ Passed) where
     -- 22, 20 or 21
-    pub calls-denied : {reply : Reply} {r : Refusal} → calls_check file ≡ Failed r → reply ≡ Denied r → Ran file path before reply before
+    pub calls_denied : {reply : Reply} {r : Refusal} → calls_check file ≡ Failed r → reply ≡ Denied r → Ran file path before reply before
     unfolding run_check
-    calls-denied failed = denied (rw (read, failed))
+    calls_denied failed = denied (rw (read, failed))
 
     -- what is said of the routine is said of the file, where 22, 20 and 21 are what 20 and 21 are of the routine
-    as-routine : {reply : Reply} {after : List ℕ} → calls_check file ≡ programmer_check (routine_of file) → RanRead (routine_of file) path before reply after → Ran file path before reply after
+    as_routine : {reply : Reply} {after : List ℕ} → calls_check file ≡ programmer_check (routine_of file) → RanRead (routine_of file) path before reply after → Ran file path before reply after
     unfolding run_of run_check runner_check
-    as-routine same r = ran (r.answer ∙ sym (rw (read, same))) r.buffer
+    as_routine same r = ran (r.answer ∙ sym (rw (read, same))) r.buffer
 
     -- no calls: the file is the routine
-    pub plain-ran : {reply : Reply} {after : List ℕ} → has_calls file ≡ false → RanRead file path before reply after → Ran file path before reply after
-    plain-ran {reply} {after} none r =
-        let itself = sym (no-calls-routine file none) in
-        as-routine (no-calls-check file none (passed-read file read) ∙ ap programmer_check itself) (subst (λ (s : List ℕ). RanRead s path before reply after) itself r)
+    pub plain_ran : {reply : Reply} {after : List ℕ} → has_calls file ≡ false → RanRead file path before reply after → Ran file path before reply after
+    plain_ran {reply} {after} none r =
+        let itself = sym (no_calls_routine file none) in
+        as_routine (no_calls_check file none (passed_read file read) ∙ ap programmer_check itself) (subst (λ (s : List ℕ). RanRead s path before reply after) itself r)
 
     -- calls: the routine is the expanded one
-    pub calls-ran : {reply : Reply} {after : List ℕ} → has_calls file ≡ true → calls_check file ≡ Passed → RanRead (expanded file) path before reply after → Ran file path before reply after
-    calls-ran {reply} {after} some passed r =
-        as-routine (passed ∙ sym (calls-routine file read passed)) (subst (λ (s : List ℕ). RanRead s path before reply after) (sym (calls-expanded file some)) r)
+    pub calls_ran : {reply : Reply} {after : List ℕ} → has_calls file ≡ true → calls_check file ≡ Passed → RanRead (expanded file) path before reply after → Ran file path before reply after
+    calls_ran {reply} {after} some passed r =
+        as_routine (passed ∙ sym (calls_routine file read passed)) (subst (λ (s : List ℕ). RanRead s path before reply after) (sym (calls_expanded file some)) r)

@@ -15,18 +15,18 @@ use Rattle.sets.specs.Sets.{bit, has, minus, Two, several}
 
 -- ---- one bit
 
-pub bit-lt : (m k : ℕ) → bit m k < 2
+pub bit_lt : (m k : ℕ) → bit m k < 2
 unfolding bit
-bit-lt m k = mod-lt (m / 2 ^ k) (lit< tt)
+bit_lt m k = mod-lt (m / 2 ^ k) (lit< tt)
 
 -- bit 0 is the lowest digit, and bit k + 1 is bit k of the half
-pub bit-zero : (m : ℕ) → bit m 0 ≡ m % 2
+pub bit_zero : (m : ℕ) → bit m 0 ≡ m % 2
 unfolding bit
-bit-zero m = ap (λ (n : ℕ). n % 2) (div-one m)
+bit_zero m = ap (λ (n : ℕ). n % 2) (div-one m)
 
-bit-suc : (m k : ℕ) → bit m (suc k) ≡ bit (m / 2) k
+bit_suc : (m k : ℕ) → bit m (suc k) ≡ bit (m / 2) k
 unfolding bit
-bit-suc m k =
+bit_suc m k =
     let e : m / 2 ^ suc k ≡ m / 2 / 2 ^ k = ap (λ (p : ℕ). m / 2 ^ p) (omega arith) ∙ sym (shr-shr m 1 k) in
     ap (λ (n : ℕ). n % 2) e
 
@@ -39,52 +39,52 @@ unfolding has
 bit-has m k h = eq-eqb (bit m k) 1 h
 
 -- a bit that is 0
-no-bit : (m k : ℕ) → bit m k ≡ 0 → has m k ≡ false
+no_bit : (m k : ℕ) → bit m k ≡ 0 → has m k ≡ false
 unfolding has
-no-bit m k e = ap (λ (x : ℕ). eqb x 1) e
+no_bit m k e = ap (λ (x : ℕ). eqb x 1) e
 
 -- a mask shifted down
-pub has-shr : (m j k : ℕ) → has (m / 2 ^ j) k ≡ has m (j + k)
+pub has_shr : (m j k : ℕ) → has (m / 2 ^ j) k ≡ has m (j + k)
 unfolding has bit
-has-shr m j k = ap (λ (x : ℕ). eqb (x % 2) 1) (shr-shr m j k)
+has_shr m j k = ap (λ (x : ℕ). eqb (x % 2) 1) (shr-shr m j k)
 
-has-suc : (m k : ℕ) → has m (suc k) ≡ has (m / 2) k
+has_suc : (m k : ℕ) → has m (suc k) ≡ has (m / 2) k
 unfolding has
-has-suc m k = ap (λ (n : ℕ). eqb n 1) (bit-suc m k)
+has_suc m k = ap (λ (n : ℕ). eqb n 1) (bit_suc m k)
 
 -- ---- members of union, intersection, difference
 
 -- a union is empty where both are
-pub or-none : (a b : ℕ) → bit_or a b ≡ 0 → (a ≡ 0) × (b ≡ 0)
-or-none a b e = (omega (arith, or_add_and a b, and_comm a b, and_le_l b a), omega (arith, or_add_and a b, and_le_l a b))
+pub or_none : (a b : ℕ) → bit_or a b ≡ 0 → (a ≡ 0) × (b ≡ 0)
+or_none a b e = (omega (arith, or_add_and a b, and_comm a b, and_le_l b a), omega (arith, or_add_and a b, and_le_l a b))
 
-or-odd : (x y : ℕ) → bit_or x y % 2 ≡ max (x % 2) (y % 2)
-or-odd x y = omega (arith, or_step x y)
+or_odd : (x y : ℕ) → bit_or x y % 2 ≡ max (x % 2) (y % 2)
+or_odd x y = omega (arith, or_step x y)
 
-and-odd : (x y : ℕ) → bit_and x y % 2 ≡ min (x % 2) (y % 2)
-and-odd x y = omega (arith, and_step x y)
+and_odd : (x y : ℕ) → bit_and x y % 2 ≡ min (x % 2) (y % 2)
+and_odd x y = omega (arith, and_step x y)
 
-pub bit-or : (a b k : ℕ) → bit (bit_or a b) k ≡ max (bit a k) (bit b k)
+pub bit_or_lem : (a b k : ℕ) → bit (bit_or a b) k ≡ max (bit a k) (bit b k)
 unfolding bit
-bit-or a b k = ap (λ (n : ℕ). n % 2) (or_shr a b k) ∙ or-odd (a / 2 ^ k) (b / 2 ^ k)
+bit_or_lem a b k = ap (λ (n : ℕ). n % 2) (or_shr a b k) ∙ or_odd (a / 2 ^ k) (b / 2 ^ k)
 
-pub bit-and : (a b k : ℕ) → bit (bit_and a b) k ≡ min (bit a k) (bit b k)
+pub bit_and_lem : (a b k : ℕ) → bit (bit_and a b) k ≡ min (bit a k) (bit b k)
 unfolding bit
-bit-and a b k = ap (λ (n : ℕ). n % 2) (and_shr a b k) ∙ and-odd (a / 2 ^ k) (b / 2 ^ k)
+bit_and_lem a b k = ap (λ (n : ℕ). n % 2) (and_shr a b k) ∙ and_odd (a / 2 ^ k) (b / 2 ^ k)
 
 -- the parts of a difference, digit by digit
-minus-step : (a b : ℕ) → minus a b ≡ minus (a / 2) (b / 2) * 2 + (a % 2 - min (a % 2) (b % 2))
+minus_step : (a b : ℕ) → minus a b ≡ minus (a / 2) (b / 2) * 2 + (a % 2 - min (a % 2) (b % 2))
 unfolding minus
-minus-step a b = omega (arith, and_step a b, and_le_l (a / 2) (b / 2))
+minus_step a b = omega (arith, and_step a b, and_le_l (a / 2) (b / 2))
 
-minus-half : (a b : ℕ) → minus a b / 2 ≡ minus (a / 2) (b / 2)
-minus-half a b = omega (arith, minus-step a b)
+minus_half : (a b : ℕ) → minus a b / 2 ≡ minus (a / 2) (b / 2)
+minus_half a b = omega (arith, minus_step a b)
 
 pub bit-minus : (a b k : ℕ) → bit (minus a b) k ≡ bit a k - min (bit a k) (bit b k)
-bit-minus a b zero = simp bit-zero (omega (arith, minus-step a b))
+bit-minus a b zero = simp bit_zero (omega (arith, minus_step a b))
 bit-minus a b (suc k) =
-    bit-suc (minus a b) k ∙ ap (λ (n : ℕ). bit n k) (minus-half a b) ∙ bit-minus (a / 2) (b / 2) k
-    ∙ ap₂ (λ (x y : ℕ). x - min x y) (sym (bit-suc a k)) (sym (bit-suc b k))
+    bit_suc (minus a b) k ∙ ap (λ (n : ℕ). bit n k) (minus_half a b) ∙ bit-minus (a / 2) (b / 2) k
+    ∙ ap₂ (λ (x y : ℕ). x - min x y) (sym (bit_suc a k)) (sym (bit_suc b k))
 
 -- what holds of the digits 0 and 1 holds of two digits
 by_digits : (P : ℕ → ℕ → Type 0) → P 0 0 → P 0 1 → P 1 0 → P 1 1 → (x y : ℕ) → x < 2 → y < 2 → P x y
@@ -97,97 +97,97 @@ by_digits P a b c d (suc zero) (suc (suc y)) hx hy = absurd (omega arith)
 by_digits P a b c d (suc (suc x)) y hx hy = absurd (omega arith)
 
 -- tests of digits
-max-or : (x y : ℕ) → x < 2 → y < 2 → eqb (max x y) 1 ≡ (eqb x 1 || eqb y 1)
-max-or = by_digits (λ x y. eqb (max x y) 1 ≡ (eqb x 1 || eqb y 1)) refl refl refl refl
+max_or : (x y : ℕ) → x < 2 → y < 2 → eqb (max x y) 1 ≡ (eqb x 1 || eqb y 1)
+max_or = by_digits (λ x y. eqb (max x y) 1 ≡ (eqb x 1 || eqb y 1)) refl refl refl refl
 
-min-and : (x y : ℕ) → x < 2 → y < 2 → eqb (min x y) 1 ≡ (eqb x 1 && eqb y 1)
-min-and = by_digits (λ x y. eqb (min x y) 1 ≡ (eqb x 1 && eqb y 1)) refl refl refl refl
+min_and : (x y : ℕ) → x < 2 → y < 2 → eqb (min x y) 1 ≡ (eqb x 1 && eqb y 1)
+min_and = by_digits (λ x y. eqb (min x y) 1 ≡ (eqb x 1 && eqb y 1)) refl refl refl refl
 
-sub-not : (x y : ℕ) → x < 2 → y < 2 → eqb (x - min x y) 1 ≡ (eqb x 1 && not (eqb y 1))
-sub-not = by_digits (λ x y. eqb (x - min x y) 1 ≡ (eqb x 1 && not (eqb y 1))) refl refl refl refl
+sub_not : (x y : ℕ) → x < 2 → y < 2 → eqb (x - min x y) 1 ≡ (eqb x 1 && not (eqb y 1))
+sub_not = by_digits (λ x y. eqb (x - min x y) 1 ≡ (eqb x 1 && not (eqb y 1))) refl refl refl refl
 
-pub has-or : (a b k : ℕ) → has (bit_or a b) k ≡ (has a k || has b k)
+pub has_or : (a b k : ℕ) → has (bit_or a b) k ≡ (has a k || has b k)
 unfolding has
-has-or a b k = ap (λ (n : ℕ). eqb n 1) (bit-or a b k) ∙ max-or (bit a k) (bit b k) (bit-lt a k) (bit-lt b k)
+has_or a b k = ap (λ (n : ℕ). eqb n 1) (bit_or_lem a b k) ∙ max_or (bit a k) (bit b k) (bit_lt a k) (bit_lt b k)
 
-pub has-and : (a b k : ℕ) → has (bit_and a b) k ≡ (has a k && has b k)
+pub has_and : (a b k : ℕ) → has (bit_and a b) k ≡ (has a k && has b k)
 unfolding has
-has-and a b k = ap (λ (n : ℕ). eqb n 1) (bit-and a b k) ∙ min-and (bit a k) (bit b k) (bit-lt a k) (bit-lt b k)
+has_and a b k = ap (λ (n : ℕ). eqb n 1) (bit_and_lem a b k) ∙ min_and (bit a k) (bit b k) (bit_lt a k) (bit_lt b k)
 
 pub has-minus : (a b k : ℕ) → has (minus a b) k ≡ (has a k && not (has b k))
 unfolding has
-has-minus a b k = ap (λ (n : ℕ). eqb n 1) (bit-minus a b k) ∙ sub-not (bit a k) (bit b k) (bit-lt a k) (bit-lt b k)
+has-minus a b k = ap (λ (n : ℕ). eqb n 1) (bit-minus a b k) ∙ sub_not (bit a k) (bit b k) (bit_lt a k) (bit_lt b k)
 
 -- ---- members of the empty set, of sets made of one member or by a test, of a full set; what lies outside a width
 
-pub bit-none : (k : ℕ) → bit 0 k ≡ 0
+pub bit_none : (k : ℕ) → bit 0 k ≡ 0
 unfolding bit
-bit-none zero = refl
-bit-none (suc k) = bit-suc 0 k ∙ bit-none k
+bit_none zero = refl
+bit_none (suc k) = bit_suc 0 k ∙ bit_none k
 
-pub has-zero : (k : ℕ) → has 0 k ≡ false
+pub has_zero : (k : ℕ) → has 0 k ≡ false
 unfolding has
-has-zero k = ap (λ (n : ℕ). eqb n 1) (bit-none k)
+has_zero k = ap (λ (n : ℕ). eqb n 1) (bit_none k)
 
 half_pow : (j : ℕ) → 2 ^ suc j / 2 ≡ 2 ^ j
 half_pow j = omega (arith, pow-suc 2 j)
 
-pub has-single : (j k : ℕ) → has (2 ^ j) k ≡ eqb j k
+pub has_single : (j k : ℕ) → has (2 ^ j) k ≡ eqb j k
 unfolding has bit
-has-single zero zero = refl
-has-single zero (suc k) = has-suc 1 k ∙ has-zero k ∙ sym (eqb-zero-suc k)
-has-single (suc j) zero =
-    ap (λ (n : ℕ). eqb n 1) (bit-zero (2 ^ suc j) ∙ (let e : 2 ^ suc j % 2 ≡ 0 = omega (arith, pow-suc 2 j) in e))
+has_single zero zero = refl
+has_single zero (suc k) = has_suc 1 k ∙ has_zero k ∙ sym (eqb-zero-suc k)
+has_single (suc j) zero =
+    ap (λ (n : ℕ). eqb n 1) (bit_zero (2 ^ suc j) ∙ (let e : 2 ^ suc j % 2 ≡ 0 = omega (arith, pow-suc 2 j) in e))
     ∙ sym (eqb-suc-zero j)
-has-single (suc j) (suc k) =
-    has-suc (2 ^ suc j) k ∙ ap (λ (n : ℕ). has n k) (half_pow j) ∙ has-single j k ∙ sym (eqb-suc-suc j k)
+has_single (suc j) (suc k) =
+    has_suc (2 ^ suc j) k ∙ ap (λ (n : ℕ). has n k) (half_pow j) ∙ has_single j k ∙ sym (eqb-suc-suc j k)
 
 -- of a set of one member
-pub single-is : (j k : ℕ) → has (2 ^ j) k ≡ true → j ≡ k
-single-is j k h = eqb-true j k (sym (has-single j k) ∙ h)
+pub single_is : (j k : ℕ) → has (2 ^ j) k ≡ true → j ≡ k
+single_is j k h = eqb-true j k (sym (has_single j k) ∙ h)
 
 -- of a set with one more member
-pub has-with : (m t k : ℕ) → has (bit_or m (2 ^ t)) k ≡ (has m k || eqb t k)
-has-with m t k = simp (has-or, has-single)
+pub has_with : (m t k : ℕ) → has (bit_or m (2 ^ t)) k ≡ (has m k || eqb t k)
+has_with m t k = simp (has_or, has_single)
 
 -- of a set that is there where a test passes, and empty elsewhere
 pub has-cond : (b : Bool) (m k : ℕ) → has (cond b m 0) k ≡ (b && has m k)
 has-cond true m k = refl
-has-cond false m k = has-zero k
+has-cond false m k = has_zero k
 
 -- of a full set
-pub has-full : (w k : ℕ) → k < w → has (2 ^ w - 1) k ≡ true
-has-full zero k h = absurd (omega arith)
-has-full (suc w) zero h = bit-has _ 0 (omega (arith, bit-zero (2 ^ suc w - 1), pow-suc 2 w, pow_pos w))
-has-full (suc w) (suc k) h =
+pub has_full : (w k : ℕ) → k < w → has (2 ^ w - 1) k ≡ true
+has_full zero k h = absurd (omega arith)
+has_full (suc w) zero h = bit-has _ 0 (omega (arith, bit_zero (2 ^ suc w - 1), pow-suc 2 w, pow_pos w))
+has_full (suc w) (suc k) h =
     let e : (2 ^ suc w - 1) / 2 ≡ 2 ^ w - 1 = omega (arith, pow-suc 2 w) in
-    has-suc _ k ∙ ap (λ (m : ℕ). has m k) e ∙ has-full w k (le_of_suc-le-suc h)
+    has_suc _ k ∙ ap (λ (m : ℕ). has m k) e ∙ has_full w k (le_of_suc-le-suc h)
 
 -- of a set that is full where a test passes, and empty elsewhere
-pub has-full-if : (w k : ℕ) → k < w → (b : Bool) → has (cond b (2 ^ w - 1) 0) k ≡ b
-has-full-if w k h true = has-full w k h
-has-full-if w k h false = has-zero k
+pub has_full_if : (w k : ℕ) → k < w → (b : Bool) → has (cond b (2 ^ w - 1) 0) k ≡ b
+has_full_if w k h true = has_full w k h
+has_full_if w k h false = has_zero k
 
-pub has-out : (w m k : ℕ) → m < 2 ^ w → w ≤ k → has m k ≡ false
+pub has_out : (w m k : ℕ) → m < 2 ^ w → w ≤ k → has m k ≡ false
 unfolding has bit
-has-out w m k h le =
+has_out w m k h le =
     ap (λ (n : ℕ). eqb (n % 2) 1) (div-eq_of_lt (lt_of_lt_of_le h (pow_mono le)))
 
 -- ---- two masks with the same members are equal
 
-half-fits : (w m : ℕ) → m < 2 ^ suc w → m / 2 < 2 ^ w
-half-fits w m h = omega (arith, pow-suc 2 w)
+half_fits : (w m : ℕ) → m < 2 ^ suc w → m / 2 < 2 ^ w
+half_fits w m h = omega (arith, pow-suc 2 w)
 
-pub same-members : (w a b : ℕ) → a < 2 ^ w → b < 2 ^ w → ((k : ℕ) → k < w → has a k ≡ has b k) → a ≡ b
+pub same_members : (w a b : ℕ) → a < 2 ^ w → b < 2 ^ w → ((k : ℕ) → k < w → has a k ≡ has b k) → a ≡ b
 unfolding has
-same-members zero a b ha hb e = omega arith
-same-members (suc w) a b ha hb e =
-    let low : a % 2 ≡ b % 2 = digit (a % 2) (b % 2) (mod-lt a (lit< tt)) (mod-lt b (lit< tt)) (has-low (e 0 (zero-lt-suc w))) in
-    let high : a / 2 ≡ b / 2 = same-members w (a / 2) (b / 2) (half-fits w a ha) (half-fits w b hb) (λ k h. sym (has-suc a k) ∙ e (suc k) (suc-le-suc h) ∙ has-suc b k) in
+same_members zero a b ha hb e = omega arith
+same_members (suc w) a b ha hb e =
+    let low : a % 2 ≡ b % 2 = digit (a % 2) (b % 2) (mod-lt a (lit< tt)) (mod-lt b (lit< tt)) (has_low (e 0 (zero-lt-suc w))) in
+    let high : a / 2 ≡ b / 2 = same_members w (a / 2) (b / 2) (half_fits w a ha) (half_fits w b hb) (λ k h. sym (has_suc a k) ∙ e (suc k) (suc-le-suc h) ∙ has_suc b k) in
     omega arith
   where
-    has-low : has a 0 ≡ has b 0 → eqb (a % 2) 1 ≡ eqb (b % 2) 1
-    has-low h = ap (λ (n : ℕ). eqb n 1) (sym (bit-zero a)) ∙ h ∙ ap (λ (n : ℕ). eqb n 1) (bit-zero b)
+    has_low : has a 0 ≡ has b 0 → eqb (a % 2) 1 ≡ eqb (b % 2) 1
+    has_low h = ap (λ (n : ℕ). eqb n 1) (sym (bit_zero a)) ∙ h ∙ ap (λ (n : ℕ). eqb n 1) (bit_zero b)
 
     digit : (x y : ℕ) → x < 2 → y < 2 → eqb x 1 ≡ eqb y 1 → x ≡ y
     digit = by_digits (λ x y. eqb x 1 ≡ eqb y 1 → x ≡ y) (λ h. refl) (λ h. absurd (true≢false (sym h))) (λ h. absurd (true≢false h)) (λ h. refl)
@@ -205,19 +205,19 @@ minus-mask (suc w) a b ha hb =
     let low : (2 ^ suc w - 1 - b) % 2 ≡ 1 - b % 2 = omega (arith, pow-suc 2 w) in
     let high : (2 ^ suc w - 1 - b) / 2 ≡ 2 ^ w - 1 - b / 2 = omega (arith, pow-suc 2 w) in
     let rest : bit_and (a / 2) ((2 ^ suc w - 1 - b) / 2) ≡ minus (a / 2) (b / 2) =
-    ap (λ (n : ℕ). bit_and (a / 2) n) high ∙ minus-mask w (a / 2) (b / 2) (half-fits w a ha) (half-fits w b hb) in
+    ap (λ (n : ℕ). bit_and (a / 2) n) high ∙ minus-mask w (a / 2) (b / 2) (half_fits w a ha) (half_fits w b hb) in
     and_step a (2 ^ suc w - 1 - b)
     ∙ ap₂ (λ (x y : ℕ). x * 2 + min (a % 2) y) rest low
-    ∙ ap (λ (n : ℕ). minus (a / 2) (b / 2) * 2 + n) (kept-digit (a % 2) (b % 2) (mod-lt a (lit< tt)) (mod-lt b (lit< tt)))
-    ∙ sym (minus-step a b)
+    ∙ ap (λ (n : ℕ). minus (a / 2) (b / 2) * 2 + n) (kept_digit (a % 2) (b % 2) (mod-lt a (lit< tt)) (mod-lt b (lit< tt)))
+    ∙ sym (minus_step a b)
   where
-    kept-digit : (x y : ℕ) → x < 2 → y < 2 → min x (1 - y) ≡ x - min x y
-    kept-digit x y hx hy = omega arith
+    kept_digit : (x y : ℕ) → x < 2 → y < 2 → min x (1 - y) ≡ x - min x y
+    kept_digit x y hx hy = omega arith
 
 -- `(m >> k) & 1`
-pub test-shift : (m k : ℕ) → bit_and (m / 2 ^ k) 1 ≡ bit m k
+pub test_shift : (m k : ℕ) → bit_and (m / 2 ^ k) 1 ≡ bit m k
 unfolding bit
-test-shift m k = and_mask (m / 2 ^ k) 1
+test_shift m k = and_mask (m / 2 ^ k) 1
 
 -- `1 << k` at width w
 pub one_shl : (w k : ℕ) → k < w → (1 * 2 ^ k) % 2 ^ w ≡ 2 ^ k
@@ -226,52 +226,52 @@ one_shl w k h = shl_exact 1 k w (lit< tt) (omega arith) ∙ one-mul (2 ^ k)
 -- ---- the lowest member
 
 -- of a set that is not empty
-pub lowest-has : (w m : ℕ) → 0 < m → m < 2 ^ w → has m (count_trailing_zeros w m) ≡ true
+pub lowest_has : (w m : ℕ) → 0 < m → m < 2 ^ w → has m (count_trailing_zeros w m) ≡ true
 unfolding count_trailing_zeros
-lowest-has zero m some fits = absurd (omega arith)
-lowest-has (suc w) m some fits = go (m % 2) refl (λ half. lowest-has w (m / 2) half (omega (arith, pow-suc 2 w)))
+lowest_has zero m some fits = absurd (omega arith)
+lowest_has (suc w) m some fits = go (m % 2) refl (λ half. lowest_has w (m / 2) half (omega (arith, pow-suc 2 w)))
   where
     go : (d : ℕ) → m % 2 ≡ d → (0 < m / 2 → has (m / 2) (count_trailing_zeros w (m / 2)) ≡ true) → has m (under d (count_trailing_zeros w (m / 2))) ≡ true
-    go zero e half = has-suc m (count_trailing_zeros w (m / 2)) ∙ half (omega arith)
-    go (suc d) e half = bit-has m 0 (omega (arith, bit-zero m))
+    go zero e half = has_suc m (count_trailing_zeros w (m / 2)) ∙ half (omega arith)
+    go (suc d) e half = bit-has m 0 (omega (arith, bit_zero m))
 
 -- and nothing below them is
-pub lowest-none : (w m k : ℕ) → k < count_trailing_zeros w m → has m k ≡ false
+pub lowest_none : (w m k : ℕ) → k < count_trailing_zeros w m → has m k ≡ false
 unfolding count_trailing_zeros
-lowest-none zero m k h = absurd (omega arith)
-lowest-none (suc w) m k h = go (m % 2) refl (lowest-none w (m / 2)) k h
+lowest_none zero m k h = absurd (omega arith)
+lowest_none (suc w) m k h = go (m % 2) refl (lowest_none w (m / 2)) k h
   where
     go : (d : ℕ) → m % 2 ≡ d → ((j : ℕ) → j < count_trailing_zeros w (m / 2) → has (m / 2) j ≡ false) → (j : ℕ) → j < under d (count_trailing_zeros w (m / 2)) → has m j ≡ false
-    go zero e half zero l = no-bit m 0 (bit-zero m ∙ e)
-    go zero e half (suc j) l = has-suc m j ∙ half j (le_of_suc-le-suc l)
+    go zero e half zero l = no_bit m 0 (bit_zero m ∙ e)
+    go zero e half (suc j) l = has_suc m j ∙ half j (le_of_suc-le-suc l)
     go (suc d) e half j l = absurd (omega arith)
 
-pub lowest-below : (w m : ℕ) → 0 < m → m < 2 ^ w → count_trailing_zeros w m < w
-lowest-below w m some fits =
-    ⊎_elim (λ (e : count_trailing_zeros w m ≡ w). absurd (true≢false (sym (lowest-has w m some fits) ∙ has-out w m (count_trailing_zeros w m) fits (omega arith)))) (λ h. h)
+pub lowest_below : (w m : ℕ) → 0 < m → m < 2 ^ w → count_trailing_zeros w m < w
+lowest_below w m some fits =
+    ⊎_elim (λ (e : count_trailing_zeros w m ≡ w). absurd (true≢false (sym (lowest_has w m some fits) ∙ has_out w m (count_trailing_zeros w m) fits (omega arith)))) (λ h. h)
     (eq-or-lt_of_le (trailing_le w m))
 
 -- ---- counting members
 
-count-one : (m k : ℕ) → has m k ≡ true → 1 ≤ ones m
-count-one m zero h = omega (arith, ones_step m, bit-zero m, has-bit m 0 h)
-count-one m (suc k) h = omega (arith, ones_step m, count-one (m / 2) k (sym (has-suc m k) ∙ h))
+count_one : (m k : ℕ) → has m k ≡ true → 1 ≤ ones m
+count_one m zero h = omega (arith, ones_step m, bit_zero m, has-bit m 0 h)
+count_one m (suc k) h = omega (arith, ones_step m, count_one (m / 2) k (sym (has_suc m k) ∙ h))
 
-count-two : (m j k : ℕ) → (j ≡ k → ⊥) → has m j ≡ true → has m k ≡ true → 2 ≤ ones m
-count-two m zero zero n hj hk = absurd (n refl)
-count-two m zero (suc k) n hj hk = omega (arith, ones_step m, bit-zero m, has-bit m 0 hj, count-one (m / 2) k (sym (has-suc m k) ∙ hk))
-count-two m (suc j) zero n hj hk = omega (arith, ones_step m, bit-zero m, has-bit m 0 hk, count-one (m / 2) j (sym (has-suc m j) ∙ hj))
-count-two m (suc j) (suc k) n hj hk =
-    omega (arith, ones_step m, count-two (m / 2) j k (λ e. n (ap suc e)) (sym (has-suc m j) ∙ hj) (sym (has-suc m k) ∙ hk))
+count_two : (m j k : ℕ) → (j ≡ k → ⊥) → has m j ≡ true → has m k ≡ true → 2 ≤ ones m
+count_two m zero zero n hj hk = absurd (n refl)
+count_two m zero (suc k) n hj hk = omega (arith, ones_step m, bit_zero m, has-bit m 0 hj, count_one (m / 2) k (sym (has_suc m k) ∙ hk))
+count_two m (suc j) zero n hj hk = omega (arith, ones_step m, bit_zero m, has-bit m 0 hk, count_one (m / 2) j (sym (has_suc m j) ∙ hj))
+count_two m (suc j) (suc k) n hj hk =
+    omega (arith, ones_step m, count_two (m / 2) j k (λ e. n (ap suc e)) (sym (has_suc m j) ∙ hj) (sym (has_suc m k) ∙ hk))
 
-find-one : (w m : ℕ) → m < 2 ^ w → 1 ≤ ones m → (k : ℕ) × (has m k ≡ true)
-find-one w m h c =
+find_one : (w m : ℕ) → m < 2 ^ w → 1 ≤ ones m → (k : ℕ) × (has m k ≡ true)
+find_one w m h c =
     let some : 0 < m = ⊎_elim (λ (e : m ≡ 0). absurd (omega (arith, c, ones-le 0 m (omega arith)))) (λ s. s) (eq-zero-or-pos m) in
-    (count_trailing_zeros w m, lowest-has w m some h)
+    (count_trailing_zeros w m, lowest_has w m some h)
 
-find-two : (w m : ℕ) → m < 2 ^ w → 2 ≤ ones m → Two m
-find-two zero m h c = absurd (omega (arith, ones-le 0 m h))
-find-two (suc w) m h c = go (m % 2) refl (λ few. find-two w (m / 2) (half-fits w m h) few)
+find_two : (w m : ℕ) → m < 2 ^ w → 2 ≤ ones m → Two m
+find_two zero m h c = absurd (omega (arith, ones-le 0 m h))
+find_two (suc w) m h c = go (m % 2) refl (λ few. find_two w (m / 2) (half_fits w m h) few)
   where
     go : (d : ℕ) → m % 2 ≡ d → (2 ≤ ones (m / 2) → Two (m / 2)) → Two m
     go zero e half =
@@ -280,22 +280,22 @@ find-two (suc w) m h c = go (m % 2) refl (λ few. find-two w (m / 2) (half-fits 
           first = suc t.first;
           second = suc t.second;
           differ = λ e. t.differ (suc_inj e);
-          has_first = has-suc m t.first ∙ t.has_first;
-          has-second = has-suc m t.second ∙ t.has-second;
+          has_first = has_suc m t.first ∙ t.has_first;
+          has_second = has_suc m t.second ∙ t.has_second;
         }
     go (suc d) e half =
-        let r = find-one w (m / 2) (half-fits w m h) (omega (arith, ones_step m, mod-lt m {m = 2} (lit< tt))) in
+        let r = find_one w (m / 2) (half_fits w m h) (omega (arith, ones_step m, mod-lt m {m = 2} (lit< tt))) in
         record {
           first = 0;
           second = suc r.0;
           differ = λ e. absurd (omega arith);
-          has_first = bit-has m 0 (omega (arith, bit-zero m, mod-lt m {m = 2} (lit< tt)));
-          has-second = has-suc m r.0 ∙ r.1;
+          has_first = bit-has m 0 (omega (arith, bit_zero m, mod-lt m {m = 2} (lit< tt)));
+          has_second = has_suc m r.0 ∙ r.1;
         }
 
 -- two different members are there exactly if more than one is counted
-pub several-two : (w m : ℕ) → m < 2 ^ w → several m ≡ true → Two m
-several-two w m h c = find-two w m h (ltb-true 1 (ones m) c)
+pub several_two : (w m : ℕ) → m < 2 ^ w → several m ≡ true → Two m
+several_two w m h c = find_two w m h (ltb-true 1 (ones m) c)
 
-pub two-several : (m : ℕ) → Two m → several m ≡ true
-two-several m t = lt-ltb 1 (ones m) (count-two m t.first t.second t.differ t.has_first t.has-second)
+pub two_several : (m : ℕ) → Two m → several m ≡ true
+two_several m t = lt-ltb 1 (ones m) (count_two m t.first t.second t.differ t.has_first t.has_second)

@@ -52,8 +52,8 @@ pub record Two (m : ℕ) : Type 0 where
   pub second : ℕ
   pub differ : first ≡ second → ⊥
   pub has_first : has m first ≡ true
-  pub has-second : has m second ≡ true
+  pub has_second : has m second ≡ true
 
--- more than one member, by counting ones; `several-two` and `two-several` say that this is `Two`
+-- more than one member, by counting ones; `several_two` and `two_several` say that this is `Two`
 abbrev pub several : ℕ → Bool
 several m = ltb 1 (ones m)

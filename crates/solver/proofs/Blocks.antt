@@ -19,51 +19,51 @@ use lib.ListN.{length, get_or, set, replicate}
 use lib.Pow.{shr_le}
 use lib.Seq.{get_or-set_same}
 use Rattle.sets.specs.Sets.{bit, has, minus}
-use Rattle.sets.proofs.Laws.{bit-or, has-shr, has-or, has-minus, has-zero, has-single, has-with, has-full, has-out, lowest-has, lowest-none}
-use Rattle.words.proofs.Replaced.{replaced-other, replaced-still}
+use Rattle.sets.proofs.Laws.{bit_or_lem, has_shr, has_or, has-minus, has_zero, has_single, has_with, has_full, has_out, lowest_has, lowest_none}
+use Rattle.words.proofs.Replaced.{replaced_other, replaced_still}
 use Rattle.words.proofs.Tables.{rows_same, at_set}
 use Rattle.words.proofs.Tests.{neither}
 use Rattle.flow.specs.Order.{Order, max_edges}
 use Rattle.flow.specs.Paths.{edge_count}
 use Rattle.flow.specs.Solver.{near, far, turn, handed, handed_row, grown, swept, noted, in_all, Tables, Altered, Advanced}
-use Rattle.flow.proofs.Exact.{or-subset}
-use Rattle.flow.proofs.Rounds.{turn-lt}
-use Rattle.flow.proofs.Rows.{grows, grown-at, Below, below-grown, squeezed, step, near_fits, swept-below, swept-length, tables, Notes, notes-none, notes-more, tells}
+use Rattle.flow.proofs.Exact.{or_subset}
+use Rattle.flow.proofs.Rounds.{turn_lt}
+use Rattle.flow.proofs.Rows.{grows, grown_at, Below, below_grown, squeezed, step, near_fits, swept_below, swept-length, tables, Notes, notes_none, notes_more, tells}
 use Rattle.solver.specs.Blocks.{block_of, block_start, NextPending, Marked, Closed, Took, Taken, TookBlock}
 use Rattle.solver.specs.declared.Progress.{Progress}
 
 -- a union with a part of it, and with a part of one of the two
-or-again : (x r : ℕ) → bit_or (bit_or x r) r ≡ bit_or x r
-or-again x r = or-subset (bit_or x r) r (λ k. omega (arith, bit-or x r k))
+or_again : (x r : ℕ) → bit_or (bit_or x r) r ≡ bit_or x r
+or_again x r = or_subset (bit_or x r) r (λ k. omega (arith, bit_or_lem x r k))
 
-or-more : (x y r : ℕ) → bit_or x r ≡ x → bit_or (bit_or x y) r ≡ bit_or x y
-or-more x y r e = or-subset (bit_or x y) r (λ k. omega (arith, bit-or x y k, bit-or x r k, ap (λ (m : ℕ). bit m k) e))
+or_more : (x y r : ℕ) → bit_or x r ≡ x → bit_or (bit_or x y) r ≡ bit_or x y
+or_more x y r e = or_subset (bit_or x y) r (λ k. omega (arith, bit_or_lem x y k, bit_or_lem x r k, ap (λ (m : ℕ). bit m k) e))
 
 -- ---- sets of blocks
 
 -- what stands above a shift
 above : (m b k : ℕ) → b ≤ k → has (m / 2 ^ b) (k - b) ≡ has m k
-above m b k h = has-shr m b (k - b) ∙ ap (has m) (let e : b + (k - b) ≡ k = omega arith in e)
+above m b k h = has_shr m b (k - b) ∙ ap (has m) (let e : b + (k - b) ≡ k = omega arith in e)
 
-pub next-end : (m b : ℕ) → b ≤ 64 → 64 ≤ b → NextPending m b 64
-next-end m b h l = record { onward = h; most = le_refl 64; shut = λ k from up. absurd (omega arith); found = λ l. absurd (omega arith) }
+pub next_end : (m b : ℕ) → b ≤ 64 → 64 ≤ b → NextPending m b 64
+next_end m b h l = record { onward = h; most = le_refl 64; shut = λ k from up. absurd (omega arith); found = λ l. absurd (omega arith) }
 
-pub next-none : (m b : ℕ) → b ≤ 64 → m / 2 ^ b ≡ 0 → NextPending m b 64
-next-none m b h none = record {
+pub next_none : (m b : ℕ) → b ≤ 64 → m / 2 ^ b ≡ 0 → NextPending m b 64
+next_none m b h none = record {
   onward = h;
   most = le_refl 64;
-  shut = λ k from up. sym (above m b k from) ∙ ap (λ (x : ℕ). has x (k - b)) none ∙ has-zero (k - b);
+  shut = λ k from up. sym (above m b k from) ∙ ap (λ (x : ℕ). has x (k - b)) none ∙ has_zero (k - b);
   found = λ l. absurd (omega arith);
 }
 
-pub next-some : (m b : ℕ) → m < 2 ^ 64 → b ≤ 64 → (m / 2 ^ b ≡ 0 → ⊥) → NextPending m b (b + count_trailing_zeros 64 (m / 2 ^ b))
-next-some m b fits h some = record {
+pub next_some : (m b : ℕ) → m < 2 ^ 64 → b ≤ 64 → (m / 2 ^ b ≡ 0 → ⊥) → NextPending m b (b + count_trailing_zeros 64 (m / 2 ^ b))
+next_some m b fits h some = record {
   onward = omega arith;
   most = elim (dec_lt 64 (b + z)) [
-    | yes l ↦ absurd (true≢false (sym lowest ∙ has-out 64 m (b + z) fits (omega arith)))
+    | yes l ↦ absurd (true≢false (sym lowest ∙ has_out 64 m (b + z) fits (omega arith)))
     | no l ↦ omega arith
   ];
-  shut = λ k from up. sym (above m b k from) ∙ lowest-none 64 (m / 2 ^ b) (k - b) (omega arith);
+  shut = λ k from up. sym (above m b k from) ∙ lowest_none 64 (m / 2 ^ b) (k - b) (omega arith);
   found = λ _. lowest;
 }
   where
@@ -72,8 +72,8 @@ next-some m b fits h some = record {
 
     lowest : has m (b + z) ≡ true
     lowest =
-        sym (has-shr m b z)
-        ∙ lowest-has 64 (m / 2 ^ b) (⊎_elim (λ e. absurd (some e)) (λ l. l) (eq-zero-or-pos (m / 2 ^ b))) (lt_of_le_of_lt (shr_le m b) fits)
+        sym (has_shr m b z)
+        ∙ lowest_has 64 (m / 2 ^ b) (⊎_elim (λ e. absurd (some e)) (λ l. l) (eq-zero-or-pos (m / 2 ^ b))) (lt_of_le_of_lt (shr_le m b) fits)
 
 -- ---- marks
 
@@ -85,9 +85,9 @@ pub marked_more : (es order : List ℕ) (along : Bool) (marks : List ℕ) (j : �
 marked_more es order along marks j room first =
     below_more (λ k. has (get_or (set marks v m) (far es along (turn order along k)) 0) (block_of k) ≡ true) j
     (λ k l. at_set (λ u x. u ≡ far es along (turn order along k) → has x (block_of k) ≡ true) marks v m (far es along (turn order along k))
-    (λ e. has-or (get_or marks v 0) (2 ^ block_of j) (block_of k) ∙ ap (λ (y : Bool). y || has (2 ^ block_of j) (block_of k)) (ap (λ (u : ℕ). has (get_or marks u 0) (block_of k)) e ∙ first k l))
+    (λ e. has_or (get_or marks v 0) (2 ^ block_of j) (block_of k) ∙ ap (λ (y : Bool). y || has (2 ^ block_of j) (block_of k)) (ap (λ (u : ℕ). has (get_or marks u 0) (block_of k)) e ∙ first k l))
     (λ _. first k l) refl)
-    (ap (λ (x : ℕ). has x (block_of j)) (get_or-set_same marks v m 0 room) ∙ has-with (get_or marks v 0) (block_of j) (block_of j)
+    (ap (λ (x : ℕ). has x (block_of j)) (get_or-set_same marks v m 0 room) ∙ has_with (get_or marks v 0) (block_of j) (block_of j)
     ∙ ap (λ (y : Bool). has (get_or marks v 0) (block_of j) || y) (eq-eqb (block_of j) (block_of j) refl) ∙ or-true (has (get_or marks v 0) (block_of j)))
   where
     v : ℕ
@@ -100,46 +100,46 @@ marked_more es order along marks j room first =
 
 module _ (es : List ℕ) (along : Bool) (gives passes : List ℕ) where
   -- what a vertex hands on, once the row of another has grown
-  handed-other : (s : List ℕ) (v : ℕ) (row : List ℕ) (u : ℕ) → (u ≡ v → ⊥) → handed_row gives passes (grown s v row 8) u ≡ handed_row gives passes s u
-  handed-other s v row u other =
+  handed_other : (s : List ℕ) (v : ℕ) (row : List ℕ) (u : ℕ) → (u ≡ v → ⊥) → handed_row gives passes (grown s v row 8) u ≡ handed_row gives passes s u
+  handed_other s v row u other =
       rows_same (λ a. handed gives passes (grown s v row 8) (8 * u + a) ∷ []) (λ a. handed gives passes s (8 * u + a) ∷ []) 8
       (λ a l. ap (λ (x : ℕ). bit_or (get_or gives (8 * u + a) 0) (bit_and x (get_or passes (8 * u + a) 0)) ∷ [])
-      (replaced-other s (8 * v) (grows s v row) 0 8 (8 * u + a) (λ b lb eq. other (omega arith))))
+      (replaced_other s (8 * v) (grows s v row) 0 8 (8 * u + a) (λ b lb eq. other (omega arith))))
 
   -- an edge whose far end was left as it was, and whose near end holds what it brings, alters nothing
-  holds-still : (s : List ℕ) (v : ℕ) (row : List ℕ) (i : ℕ) → (far es along i ≡ v → ⊥)
+  holds_still : (s : List ℕ) (v : ℕ) (row : List ℕ) (i : ℕ) → (far es along i ≡ v → ⊥)
       → ((a : ℕ) → a < 8 → bit_or (get_or (grown s v row 8) (8 * near es along i + a) 0) (get_or (handed_row gives passes s (far es along i)) a 0) ≡ get_or (grown s v row 8) (8 * near es along i + a) 0)
       → step es along gives passes (grown s v row 8) i ≡ grown s v row 8
-  holds-still s v row i other has-it =
-      ap (λ (r : List ℕ). grown (grown s v row 8) (near es along i) r 8) (handed-other s v row (far es along i) other)
-      ∙ replaced-still (grown s v row 8) (8 * near es along i) (grows (grown s v row 8) (near es along i) (handed_row gives passes s (far es along i))) 0 8 has-it
+  holds_still s v row i other has-it =
+      ap (λ (r : List ℕ). grown (grown s v row 8) (near es along i) r 8) (handed_other s v row (far es along i) other)
+      ∙ replaced_still (grown s v row 8) (8 * near es along i) (grows (grown s v row 8) (near es along i) (handed_row gives passes s (far es along i))) 0 8 has-it
 
   -- an edge alters nothing right after it was taken
-  again-still : (s : List ℕ) (i : ℕ) → 8 * near es along i + 8 ≤ length s → (far es along i ≡ near es along i → ⊥)
+  again_still : (s : List ℕ) (i : ℕ) → 8 * near es along i + 8 ≤ length s → (far es along i ≡ near es along i → ⊥)
       → step es along gives passes (step es along gives passes s i) i ≡ step es along gives passes s i
-  again-still s i fits other =
+  again_still s i fits other =
       let v = near es along i in
       let r = handed_row gives passes s (far es along i) in
-      holds-still s v r i other
-      (λ a l. let e = grown-at s v r 8 a l fits in
-      ap (λ (x : ℕ). bit_or x (get_or r a 0)) e ∙ or-again (get_or s (8 * v + a) 0) (get_or r a 0) ∙ sym e)
+      holds_still s v r i other
+      (λ a l. let e = grown_at s v r 8 a l fits in
+      ap (λ (x : ℕ). bit_or x (get_or r a 0)) e ∙ or_again (get_or s (8 * v + a) 0) (get_or r a 0) ∙ sym e)
 
   -- and goes on altering nothing when another row grows
-  still-still : (s : List ℕ) (v : ℕ) (row : List ℕ) (i : ℕ) → 8 * v + 8 ≤ length s → 8 * near es along i + 8 ≤ length s → (far es along i ≡ v → ⊥)
+  still_still : (s : List ℕ) (v : ℕ) (row : List ℕ) (i : ℕ) → 8 * v + 8 ≤ length s → 8 * near es along i + 8 ≤ length s → (far es along i ≡ v → ⊥)
       → step es along gives passes s i ≡ s → step es along gives passes (grown s v row 8) i ≡ grown s v row 8
-  still-still s v row i fits fits-near other still =
+  still_still s v row i fits fits-near other still =
       let u = near es along i in
       let r = handed_row gives passes s (far es along i) in
       let held : (a : ℕ) → a < 8 → bit_or (get_or s (8 * u + a) 0) (get_or r a 0) ≡ get_or s (8 * u + a) 0 =
-      λ a l. sym (grown-at s u r 8 a l fits-near) ∙ ap (λ (q : List ℕ). get_or q (8 * u + a) 0) still in
-      holds-still s v row i other
+      λ a l. sym (grown_at s u r 8 a l fits-near) ∙ ap (λ (q : List ℕ). get_or q (8 * u + a) 0) still in
+      holds_still s v row i other
       (λ a l. elim (ℕ_discrete u v) [
         | yes e ↦
             let g : get_or (grown s v row 8) (8 * u + a) 0 ≡ bit_or (get_or s (8 * u + a) 0) (get_or row a 0) =
-            subst (λ (x : ℕ). get_or (grown s v row 8) (8 * x + a) 0 ≡ bit_or (get_or s (8 * x + a) 0) (get_or row a 0)) (sym e) (grown-at s v row 8 a l fits) in
-            ap (λ (x : ℕ). bit_or x (get_or r a 0)) g ∙ or-more (get_or s (8 * u + a) 0) (get_or row a 0) (get_or r a 0) (held a l) ∙ sym g
+            subst (λ (x : ℕ). get_or (grown s v row 8) (8 * x + a) 0 ≡ bit_or (get_or s (8 * x + a) 0) (get_or row a 0)) (sym e) (grown_at s v row 8 a l fits) in
+            ap (λ (x : ℕ). bit_or x (get_or r a 0)) g ∙ or_more (get_or s (8 * u + a) 0) (get_or row a 0) (get_or r a 0) (held a l) ∙ sym g
         | no e ↦
-            let g : get_or (grown s v row 8) (8 * u + a) 0 ≡ get_or s (8 * u + a) 0 = replaced-other s (8 * v) (grows s v row) 0 8 (8 * u + a) (λ b lb eq. e (omega arith)) in
+            let g : get_or (grown s v row 8) (8 * u + a) 0 ≡ get_or s (8 * u + a) 0 = replaced_other s (8 * v) (grows s v row) 0 8 (8 * u + a) (λ b lb eq. e (omega arith)) in
             ap (λ (x : ℕ). bit_or x (get_or r a 0)) g ∙ held a l ∙ sym g
       ])
 
@@ -195,7 +195,7 @@ module _ (es : List ℕ) (along : Bool) (gives passes : List ℕ) {order : List 
       other : (k : ℕ) → k < length order → (k < j) ⊎ (to ≤ k) → (x : Bool) → eqb b (block_of k) ≡ x → (has p.pending (block_of k) && not (has (2 ^ b) (block_of k))) ≡ false
           → has p.pending (block_of k) ≡ false
       other k in-k out true e h = let here : b ≡ block_of k = eqb-true b (block_of k) e in ⊎_elim (λ l. absurd (omega (arith, ej))) (λ l. absurd (omega (arith, et))) out
-      other k in-k out false e h = but (has p.pending (block_of k)) (has (2 ^ b) (block_of k)) (has-single b (block_of k) ∙ e) h
+      other k in-k out false e h = but (has p.pending (block_of k)) (has (2 ^ b) (block_of k)) (has_single b (block_of k) ∙ e) h
 
   -- the turn that is taken, those before it, and those that come after the ones up to `to`
   parts : {j to k : ℕ} → (k < j + 1) ⊎ (to ≤ k) → (k ≡ j) ⊎ ((k < j) ⊎ (to ≤ k))
@@ -203,7 +203,7 @@ module _ (es : List ℕ) (along : Bool) (gives passes : List ℕ) {order : List 
 
   module _ {s : List ℕ} {marks : List ℕ} (h : Tables es gives passes s) (marked : Marked es order along marks) where
     row_fits : (k : ℕ) → k < length order → 8 * near es along (turn order along k) + 8 ≤ length s
-    row_fits k l = near_fits es along gives passes s s (turn order along k) h refl (turn-lt ord along k l)
+    row_fits k l = near_fits es along gives passes s s (turn order along k) h refl (turn_lt ord along k l)
 
     -- one turn more
     pub took : {j to : ℕ} {t : List ℕ} {p q : Progress} → At j to s p → j < length order → Took es order along gives passes marks j s p t q → At (j + 1) to t q
@@ -219,8 +219,8 @@ module _ (es : List ℕ) (along : Bool) (gives passes : List ℕ) {order : List 
               (λ e. subst (λ (u : List ℕ). step es along gives passes u (turn order along k) ≡ u) (sym e.0)
               (same k in-k (ap (λ (r : Progress). has r.pending (block_of k)) (sym e.1) ∙ shut) e.0 (parts out)))
               (λ e. subst (λ (u : List ℕ). step es along gives passes u (turn order along k) ≡ u) (sym x.sets)
-              (grown-still k in-k
-              (neither (has p.pending (block_of k)) (has (get_or marks v 0) (block_of k)) (sym (has-or p.pending (get_or marks v 0) (block_of k)) ∙ ap (λ (r : Progress). has r.pending (block_of k)) (sym e.1) ∙ shut))
+              (grown_still k in-k
+              (neither (has p.pending (block_of k)) (has (get_or marks v 0) (block_of k)) (sym (has_or p.pending (get_or marks v 0) (block_of k)) ∙ ap (λ (r : Progress). has r.pending (block_of k)) (sym e.1) ∙ shut))
               (parts out)))
               x.next;
         }
@@ -238,8 +238,8 @@ module _ (es : List ℕ) (along : Bool) (gives passes : List ℕ) {order : List 
         grew : t ≡ old → s ≡ old
         grew back =
             squeezed old s t (taken-length (le_of_lt l) w)
-            (subst (Below old) (sym w.is) (swept-below es along gives passes ord old (tables es gives passes s old h (sym (taken-length (le_of_lt l) w))) j (le_of_lt l)).1)
-            (subst (Below s) (sym x.sets) (below-grown s v row 8 (row_fits j l)))
+            (subst (Below old) (sym w.is) (swept_below es along gives passes ord old (tables es gives passes s old h (sym (taken-length (le_of_lt l) w))) j (le_of_lt l)).1)
+            (subst (Below s) (sym x.sets) (below_grown s v row 8 (row_fits j l)))
             back
 
         -- a turn that altered nothing
@@ -250,73 +250,73 @@ module _ (es : List ℕ) (along : Bool) (gives passes : List ℕ) {order : List 
             place
 
         -- one that altered a row: the edges of blocks that are not pending do not have that row as their far end
-        grown-still : (k : ℕ) → k < length order → (has p.pending (block_of k) ≡ false) × (has (get_or marks v 0) (block_of k) ≡ false) → (k ≡ j) ⊎ ((k < j) ⊎ (to ≤ k))
+        grown_still : (k : ℕ) → k < length order → (has p.pending (block_of k) ≡ false) × (has (get_or marks v 0) (block_of k) ≡ false) → (k ≡ j) ⊎ ((k < j) ⊎ (to ≤ k))
             → step es along gives passes (grown s v row 8) (turn order along k) ≡ grown s v row 8
-        grown-still k in-k shut place =
+        grown_still k in-k shut place =
             let apart : far es along (turn order along k) ≡ v → ⊥ =
             λ e. true≢false (sym (marked.each k in-k) ∙ ap (λ (y : ℕ). has (get_or marks y 0) (block_of k)) e ∙ shut.1) in
             ⊎_elim
             (λ here. let turned = ap (turn order along) here in
             subst (λ (y : ℕ). step es along gives passes (grown s v row 8) y ≡ grown s v row 8) (sym turned)
-            (again-still es along gives passes s i (row_fits j l) (λ e. apart (ap (far es along) turned ∙ e))))
-            (λ out. still-still es along gives passes s v row (turn order along k) (row_fits j l) (row_fits k in-k) apart (w.closed k in-k shut.0 out))
+            (again_still es along gives passes s i (row_fits j l) (λ e. apart (ap (far es along) turned ∙ e))))
+            (λ out. still_still es along gives passes s v row (turn order along k) (row_fits j l) (row_fits k in-k) apart (w.closed k in-k shut.0 out))
             place
 
 module _ (es : List ℕ) (along : Bool) (gives passes order : List ℕ) where
   -- where a round begins
-  pub round-none : (s : List ℕ) (m : ℕ) → Closed es order along gives passes 0 0 s m → Taken es order along gives passes s 0 0 s (record { pending = m; altered = false })
+  pub round_none : (s : List ℕ) (m : ℕ) → Closed es order along gives passes 0 0 s m → Taken es order along gives passes s 0 0 s (record { pending = m; altered = false })
   unfolding swept
-  round-none s m closed = record { is = refl; told = refl; closed = closed }
+  round_none s m closed = record { is = refl; told = refl; closed = closed }
 
   -- the whole round
-  pub round-done : {old s : List ℕ} {p : Progress} → Taken es order along gives passes old (length order) (length order) s p
+  pub round_done : {old s : List ℕ} {p : Progress} → Taken es order along gives passes old (length order) (length order) s p
       → Advanced (swept (step es along gives passes) order along old (length order)) old p.altered s
-  round-done w = record { sets = w.is; told = w.told }
+  round_done w = record { sets = w.is; told = w.told }
 
   -- what one round leaves, the next begins with
-  pub closed-next : {old s : List ℕ} {p : Progress} {j : ℕ} → Taken es order along gives passes old j j s p → Closed es order along gives passes 0 0 s p.pending
-  closed-next {j = j} w k in-k shut _ = w.closed k in-k shut (side j k)
+  pub closed_next : {old s : List ℕ} {p : Progress} {j : ℕ} → Taken es order along gives passes old j j s p → Closed es order along gives passes 0 0 s p.pending
+  closed_next {j = j} w k in-k shut _ = w.closed k in-k shut (side j k)
 
   -- with all blocks pending
   pub closed_all : (s : List ℕ) → length order ≤ max_edges → Closed es order along gives passes 0 0 s (2 ^ 64 - 1)
-  closed_all s few k in-k shut _ = absurd (true≢false (sym (has-full 64 (block_of k) (omega arith)) ∙ shut))
+  closed_all s few k in-k shut _ = absurd (true≢false (sym (has_full 64 (block_of k) (omega arith)) ∙ shut))
 
 -- ---- what the functions state
 
 module _ (es : List ℕ) (along : Bool) (gives passes : List ℕ) where
   -- a note of what an edge added tells whether it altered a set
-  pub told-by : (s : List ℕ) (i : ℕ) {t note : List ℕ} {b : Bool} → 8 * near es along i + 8 ≤ length s
+  pub told_by : (s : List ℕ) (i : ℕ) {t note : List ℕ} {b : Bool} → 8 * near es along i + 8 ≤ length s
       → note ≡ noted (replicate 8 0) s (near es along i) (handed_row gives passes s (far es along i)) → t ≡ step es along gives passes s i
       → b ≡ not (eqb (in_all note 8) 0) → Altered b s t
-  told-by s i {t} {note} {b} fits now made e =
+  told_by s i {t} {note} {b} fits now made e =
       let v = near es along i in
       let row = handed_row gives passes s (far es along i) in
       tells note s t b
       (subst (λ (u : List ℕ). Notes note s u) (sym made)
-      (subst (λ (n : List ℕ). Notes n s (grown s v row 8)) (sym now) (notes-more (replicate 8 0) s s v row fits refl (λ x. le_refl _) (notes-none s))))
+      (subst (λ (n : List ℕ). Notes n s (grown s v row 8)) (sym now) (notes_more (replicate 8 0) s s v row fits refl (λ x. le_refl _) (notes_none s))))
       e
 
   module _ (order s : List ℕ) (j : ℕ) {t : List ℕ} {i : ℕ} (turned : i ≡ turn order along j) (made : t ≡ step es along gives passes s i) where
     right : t ≡ step es along gives passes s (turn order along j)
     right = made ∙ ap (step es along gives passes s) turned
 
-    pub took-none : {marks : List ℕ} (p : Progress) → t ≡ s → Took es order along gives passes marks j s p t p
-    took-none p same = record { sets = right; next = inl (same, refl) }
+    pub took_none : {marks : List ℕ} (p : Progress) → t ≡ s → Took es order along gives passes marks j s p t p
+    took_none p same = record { sets = right; next = inl (same, refl) }
 
-    pub took-some : {marks : List ℕ} (p : Progress) {v : ℕ} → v ≡ near es along i → (t ≡ s → ⊥)
+    pub took_some : {marks : List ℕ} (p : Progress) {v : ℕ} → v ≡ near es along i → (t ≡ s → ⊥)
         → Took es order along gives passes marks j s p t (record { pending = bit_or p.pending (get_or marks v 0); altered = true })
-    took-some {marks} p end new = record {
+    took_some {marks} p end new = record {
       sets = right;
       next = inr (new, ap (λ (u : ℕ). record { pending = bit_or p.pending (get_or marks u 0); altered = true }) (end ∙ ap (near es along) turned));
     }
 
   module _ {order : List ℕ} (ord : Order (edge_count es) order) where
     -- the turns of a block, from its start to the next one's
-    pub block-done : {b from to j : ℕ} {before after : List ℕ} {p q₀ q : Progress} → from ≡ block_start (length order) b → to ≡ block_start (length order) (b + 1)
+    pub block_done : {b from to j : ℕ} {before after : List ℕ} {p q₀ q : Progress} → from ≡ block_start (length order) b → to ≡ block_start (length order) (b + 1)
         → q₀ ≡ record { pending = minus p.pending (2 ^ b); altered = p.altered } → j ≡ to → length after ≡ length before
         → ((old : List ℕ) → Taken es order along gives passes old from to before q₀ → Taken es order along gives passes old j to after q)
         → TookBlock es order along gives passes b before p after q
-    block-done {b} {from} {to} {j} {before} {after} {p} {q₀} {q} ef et eq ej size all = record {
+    block_done {b} {from} {to} {j} {before} {after} {p} {q₀} {q} ef et eq ej size all = record {
       goes = λ old w.
           let taken = all old (opened es along gives passes ord old b ef et eq (subst (λ (x : ℕ). Taken es order along gives passes old x x before p) (sym ef) w)) in
           subst (λ (x : ℕ). Taken es order along gives passes old x x after q) et (subst (λ (x : ℕ). Taken es order along gives passes old x to after q) ej taken);

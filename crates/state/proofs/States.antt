@@ -14,15 +14,15 @@ use Rattle.state.specs.States.{State, Current, nothing, has_current}
 use Rattle.state.specs.Moves.{moves, is_d, copies_stamp}
 
 -- a current copy is a version
-pub current-below : (s : State) → Current s → has_current s ≡ true → s.current < width
-current-below s (inl h) e = h
-current-below s (inr n) e = absurd (true≢false (sym e ∙ ap (λ (k : ℕ). not (eqb k nothing)) n))
+pub current_below : (s : State) → Current s → has_current s ≡ true → s.current < width
+current_below s (inl h) e = h
+current_below s (inr n) e = absurd (true≢false (sym e ∙ ap (λ (k : ℕ). not (eqb k nothing)) n))
 
 -- a version that is current is a current copy
-pub below-current : (s : State) → s.current < width → has_current s ≡ true
-below-current s h = ap not (ne_eqb s.current nothing (λ e. omega arith))
+pub below_current : (s : State) → s.current < width → has_current s ≡ true
+below_current s h = ap not (ne_eqb s.current nothing (λ e. omega arith))
 
 -- a stamp is copied from a current copy
-pub copies-current : (u : Use) (t : ℕ) (s : State) → copies_stamp u t s ≡ true → has_current s ≡ true
+pub copies_current : (u : Use) (t : ℕ) (s : State) → copies_stamp u t s ≡ true → has_current s ≡ true
 unfolding copies_stamp
-copies-current u t s h = and_right (not (is_d u)) _ (and_right (not (has s.live t)) _ (and_right (moves u t s) _ h))
+copies_current u t s h = and_right (not (is_d u)) _ (and_right (not (has s.live t)) _ (and_right (moves u t s) _ h))

@@ -28,18 +28,18 @@ carrying stamp c = record { current = c.current; live = c.live; copies = c.copie
 -- live versions and of the caller's, the set `own`; what it has for any other version is no matter
 pub record Carries (own : ℕ) (s : State) (c : Carried) (row : ℕ → ℕ) : Type 0 where
   pub is : s ≡ whole c s.stamps
-  pub stamp-is : has_current s ≡ true → c.stamp ≡ stamp_of s s.current
+  pub stamp_is : has_current s ≡ true → c.stamp ≡ stamp_of s s.current
   pub row_is : (k : ℕ) → k < width → (has s.live k || has own k) ≡ true → (s.current ≡ k → ⊥) → row k ≡ stamp_of s k
 
 -- before a label: a version or none is current, and a copy more can be counted
 pub record Sound (c : Carried) : Type 0 where
   pub current : Current (bare c)
-  pub few-copies : c.copies < 65535
+  pub few_copies : c.copies < 65535
 
 -- and before an event, whose version is below the width
 pub record Visits (x : Action) (c : Carried) : Type 0 where
   pub sound : Sound c
-  pub at-remap : (t : ℕ) → x ≡ Remap t → t < width
+  pub at_remap : (t : ℕ) → x ≡ Remap t → t < width
 
 -- the row with the current copy's stamp in its place
 abbrev pub stored : Carried → (ℕ → ℕ) → ℕ → ℕ
@@ -61,5 +61,5 @@ OtherRows a old new = (b k : ℕ) → (b ≡ a → ⊥) → k < width → row_of
 -- an event of array a, on what is carried and the table: the other rows stay, and the rule holds
 pub record Relabelled (x : Action) (u : Use) (keep a : ℕ) (c : Carried) (old : List ℕ) (n : Carried) (new : List ℕ) : Type 0 where
   pub sized : length new ≡ length old
-  pub other-rows : OtherRows a old new
+  pub other_rows : OtherRows a old new
   pub rule : (r : ArrayRecord) (s : State) → Ready s → Carries (callers r) s c (row_of old a) → Carries (callers r) (relabelled r x u keep s) n (row_of new a)

@@ -36,4 +36,4 @@ relabelled r Unknown u keep s = s
 pub record Ready (s : State) : Type 0 where
   pub current : Current s
   pub wide : length s.stamps ≡ width
-  pub few-copies : s.copies < 65535
+  pub few_copies : s.copies < 65535

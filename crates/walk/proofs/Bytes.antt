@@ -13,7 +13,7 @@ use Rattle.path.specs.Paths.{steps, vertex_at}
 use Rattle.report.specs.Bytes.{entry_bytes, carried_of, entries_of, records_bytes, counts_of}
 use Rattle.report.specs.Records.{records_at}
 use Rattle.report.specs.References.{references_at}
-use Rattle.report.proofs.Bytes.{entries-length, counts-length, by_step-bytes, ten}
+use Rattle.report.proofs.Bytes.{entries-length, counts-length, by_step_bytes, ten}
 use Rattle.routine.specs.Actions.{is_reference}
 use Rattle.routine.specs.Layout.{arrays, edges}
 use Rattle.state.specs.Carrying.{bare}
@@ -23,7 +23,7 @@ use Rattle.walk.specs.Report.{entries, counts, report_bytes, references_on, repo
 use Rattle.walk.specs.Walks.{Reported}
 use Rattle.words.specs.Tables.{rows, table}
 use Rattle.words.specs.Words.{bytes16}
-use Rattle.words.proofs.Sums.{total-none, total-more, total-few, count-few, rows-total}
+use Rattle.words.proofs.Sums.{total_none, total_more, total_few, count_few, rows-total}
 use Rattle.words.proofs.Tables.{rows_same, table-length, table_at}
 
 -- ---- entries
@@ -49,56 +49,56 @@ record_bytes_at file path i a =
 abbrev pub step_bytes : List ℕ → List ℕ → ℕ → List ℕ
 step_bytes file path i = rows (record_bytes_at file path i) (arrays file)
 
-pub records-bytes : (file path : List ℕ) → records_bytes (run_records file path) ≡ rows (step_bytes file path) (steps path)
+pub records_bytes_lem : (file path : List ℕ) → records_bytes (run_records file path) ≡ rows (step_bytes file path) (steps path)
 unfolding run_records
-records-bytes file path = by_step-bytes _ (arrays file) (steps path)
+records_bytes_lem file path = by_step_bytes _ (arrays file) (steps path)
 
 -- ---- how many bytes
 
 module _ (file path : List ℕ) where
-  at-step : (i : ℕ) → length (step_bytes file path i) ≡ 10 * references_at file (vertex_at path i)
-  at-step i =
+  at_step : (i : ℕ) → length (step_bytes file path i) ≡ 10 * references_at file (vertex_at path i)
+  at_step i =
       rows-total (record_bytes_at file path i) (λ a. cond (is_reference (event file a (vertex_at path i))) 1 0) 10
       (λ a. ten (event file a (vertex_at path i)) (i + 1) a _ _)
       (arrays file)
 
-  on-path : (n : ℕ) → length (rows (step_bytes file path) n) ≡ 10 * references_on file path n
+  on_path : (n : ℕ) → length (rows (step_bytes file path) n) ≡ 10 * references_on file path n
   unfolding references_on
-  on-path = rows-total (step_bytes file path) (λ i. references_at file (vertex_at path i)) 10 at-step
+  on_path = rows-total (step_bytes file path) (λ i. references_at file (vertex_at path i)) 10 at_step
 
   -- references on a path, counted vertex by vertex; they are few
   pub on_none : 0 ≡ references_on file path 0
   unfolding references_on
-  on_none = total-none (λ i. references_at file (vertex_at path i))
+  on_none = total_none (λ i. references_at file (vertex_at path i))
 
-  pub on-more : {count more : ℕ} (i : ℕ) → count ≡ references_on file path i → more ≡ references_at file (vertex_at path i) → count + more ≡ references_on file path (i + 1)
+  pub on_more : {count more : ℕ} (i : ℕ) → count ≡ references_on file path i → more ≡ references_at file (vertex_at path i) → count + more ≡ references_on file path (i + 1)
   unfolding references_on
-  on-more i e f = total-more (λ i. references_at file (vertex_at path i)) i e f
+  on_more i e f = total_more (λ i. references_at file (vertex_at path i)) i e f
 
-  pub on-few : arrays file ≤ 8 → (n : ℕ) → references_on file path n ≤ 8 * n
+  pub on_few : arrays file ≤ 8 → (n : ℕ) → references_on file path n ≤ 8 * n
   unfolding references_on
-  on-few few n =
-      total-few (λ i. references_at file (vertex_at path i)) 8
-      (λ i. omega (arith, few, count-few (λ a. is_reference (event file a (vertex_at path i))) (arrays file)))
+  on_few few n =
+      total_few (λ i. references_at file (vertex_at path i)) 8
+      (λ i. omega (arith, few, count_few (λ a. is_reference (event file a (vertex_at path i))) (arrays file)))
       n
 
-  pub records-length : length (records_bytes (run_records file path)) ≡ 10 * references_on file path (steps path)
-  records-length = omega (arith, ap length (records-bytes file path), on-path (steps path))
+  pub records_length : length (records_bytes (run_records file path)) ≡ 10 * references_on file path (steps path)
+  records_length = omega (arith, ap length (records_bytes_lem file path), on_path (steps path))
 
   pub edge-counts-length : length (counts file path) ≡ 2 * edges file
   unfolding counts
   edge-counts-length = counts-length (passes_of file path) (edges file)
 
-  pub report-length : length (report_bytes file path) ≡ report_length file path
+  pub report_length_lem : length (report_bytes file path) ≡ report_length file path
   unfolding report_bytes entries report_length
-  report-length =
+  report_length_lem =
       simp length-append
-      (omega (arith, entries-length (λ a. state_after file path a (steps path)) (arrays file), records-length, edge-counts-length))
+      (omega (arith, entries-length (λ a. state_after file path a (steps path)) (arrays file), records_length, edge-counts-length))
 
   -- eight bytes an array, and then the records and the counts
-  pub report-parts : report_length file path ≡ 8 * arrays file + (length (records_bytes (run_records file path)) + 2 * edges file)
+  pub report_parts : report_length file path ≡ 8 * arrays file + (length (records_bytes (run_records file path)) + 2 * edges file)
   unfolding report_length
-  report-parts = omega (arith, records-length)
+  report_parts = omega (arith, records_length)
 
 -- ---- counts
 

@@ -22,20 +22,20 @@ use Rattle.words.specs.Tables.{rows, replaced, wrote}
 -- an array's state, held as a carried state, its current version, the stamp of its current copy, and a row of stamps
 pub record Stands (own : ℕ) (want : State) (c : Carried) (version stamp : ℕ) (row : ℕ → ℕ) : Type 0 where
   pub is : Carries own want (carrying stamp c) row
-  pub version-is : version ≡ c.current
+  pub version_is : version ≡ c.current
 
 -- the states of the first m arrays
 pub record Held (file : List ℕ) (want : ℕ → State) (m : ℕ) (states : List Carried) (versions stamps others : List ℕ) : Type 0 where
-  pub states-sized : length states ≡ 8
-  pub versions-sized : length versions ≡ 8
-  pub stamps-sized : length stamps ≡ 8
-  pub others-sized : length others ≡ 8 * width
+  pub states_sized : length states ≡ 8
+  pub versions_sized : length versions ≡ 8
+  pub stamps_sized : length stamps ≡ 8
+  pub others_sized : length others ≡ 8 * width
   pub stand : (b : ℕ) → b < m → Stands (callers (array_of file b)) (want b) (carried_of states b) (get_or versions b 0) (get_or stamps b 0) (row_of others b)
 
 -- state s as the report is written from it, with the stamp of its current copy
 pub record Reported (s : State) (c : Carried) : Type 0 where
   pub is : s ≡ whole c s.stamps
-  pub stamp-is : has_current s ≡ true → c.stamp ≡ stamp_of s s.current
+  pub stamp_is : has_current s ≡ true → c.stamp ≡ stamp_of s s.current
 
 -- the bytes of array a at vertex v: a record, if it is referenced there
 abbrev pub cell_bytes : List ℕ → ℕ → ℕ → List ℕ → List ℕ → ℕ → List ℕ
@@ -52,9 +52,9 @@ stamp_at file v step stamps a = stamp_by (event file a v) step (get_or stamps a 
 
 -- the references of vertex v: the records, and the stamps after them
 pub record Referred (file : List ℕ) (v step : ℕ) (versions before old : List ℕ) (bytes : ℕ) (after new : List ℕ) : Type 0 where
-  pub length-is : bytes ≡ length (row_bytes file v step versions before)
-  pub out-is : new ≡ wrote old (row_bytes file v step versions before)
-  pub stamps-are : after ≡ replaced before 0 (stamp_at file v step before) (arrays file)
+  pub length_is : bytes ≡ length (row_bytes file v step versions before)
+  pub out_is : new ≡ wrote old (row_bytes file v step versions before)
+  pub stamps_are : after ≡ replaced before 0 (stamp_at file v step before) (arrays file)
 
 -- what the answer whether the row of vertex v remaps tells: if yes it has no references, if no it has no remappings
 abbrev pub OneSort : List ℕ → ℕ → Bool → Type 0
@@ -79,5 +79,5 @@ relabelled_at file a v s = left (array_of file a) (eqb v (exit file)) (relabelle
 -- what is carried of array a, and the table, before and after its label at vertex v and the exit: the other rows stay, and the rule holds
 pub record RelabelledAt (file : List ℕ) (a v : ℕ) (c : Carried) (old : List ℕ) (n : Carried) (new : List ℕ) : Type 0 where
   pub sized : length new ≡ length old
-  pub other-rows : OtherRows a old new
+  pub other_rows : OtherRows a old new
   pub rule : (s : State) → Ready s → Carries (callers (array_of file a)) s c (row_of old a) → Carries (callers (array_of file a)) (relabelled_at file a v s) n (row_of new a)

@@ -9,7 +9,7 @@ use native.Mathlib.Omega.{arith}
 use lib.ListN.{length, set, take, drop, length-append, length-take, length-drop}
 use Rattle.words.specs.Tables.{rows, wrote}
 use Rattle.words.proofs.Tables.{rows_fit, rows_more, table-length}
-use Rattle.words.proofs.Written.{wrote-length, part_from, write-more, write-one}
+use Rattle.words.proofs.Written.{wrote-length, part_from, write-more, write_one}
 
 -- `done` stands at the front of `out`, which held `old`
 pub record Front (old done out : List ℕ) : Type 0 where
@@ -39,8 +39,8 @@ unfolding rows
 begin row n old room = record { within = omega arith; room = room; front = record { is = refl } }
 
 module _ {row : ℕ → List ℕ} {n : ℕ} {old : List ℕ} {i : ℕ} {out : List ℕ} (f : Filled row n old i out) where
-  pub buffer-length : length out ≡ length old
-  buffer-length =
+  pub buffer_length : length out ≡ length old
+  buffer_length =
       wrote-length old (rows row i) f.front.is (⊎_elim
       (λ (e : i ≡ n). omega (arith, ap (λ (j : ℕ). length (rows row j)) e, f.room))
       (λ (l : i < n). omega (arith, rows_fit row n i l, f.room))
@@ -76,19 +76,19 @@ module _ {row : ℕ → List ℕ} {n : ℕ} {old : List ℕ} {i : ℕ} {out : Li
     all h = here ∙ ap (λ (j : ℕ). length (rows row j)) (le_antisymm f.within h)
 
   -- all rows stand inside the buffer
-  pub lies-all : {at : ℕ} → at ≡ length (rows row n) → at ≤ length out
-  lies-all e = omega (arith, buffer-length, f.room)
+  pub lies_all : {at : ℕ} → at ≡ length (rows row n) → at ≤ length out
+  lies_all e = omega (arith, buffer_length, f.room)
 
 -- a loop that writes a row: one more byte
-pub next-byte : {f : ℕ → ℕ} {n : ℕ} {old : List ℕ} {i : ℕ} {out : List ℕ} → Filled (λ j. f j ∷ []) n old i out → i < n → {b : ℕ} → b ≡ f i
+pub next_byte : {f : ℕ → ℕ} {n : ℕ} {old : List ℕ} {i : ℕ} {out : List ℕ} → Filled (λ j. f j ∷ []) n old i out → i < n → {b : ℕ} → b ≡ f i
     → Filled (λ j. f j ∷ []) n old (i + 1) (set out i b)
-next-byte {f} {n} {old} {i} {out} t h {b} e = record {
+next_byte {f} {n} {old} {i} {out} t h {b} e = record {
   within = omega arith;
   room = t.room;
   front = record {
     is =
         ap₂ (λ (l : List ℕ) (x : ℕ). set l i x) t.front.is e
-        ∙ write-one old (rows (λ j. f j ∷ []) i) (f i) i (sym (table-length f i)) (omega (arith, t.room, table-length f n))
+        ∙ write_one old (rows (λ j. f j ∷ []) i) (f i) i (sym (table-length f i)) (omega (arith, t.room, table-length f n))
         ∙ ap (wrote old) (rows_more (λ j. f j ∷ []) i);
   };
 }

@@ -10,7 +10,7 @@ use borrow.Author.Count.{below_more}
 use lib.ListN.{length, get_or, set, replicate, length-append, get_or-append}
 use lib.Seq.{get_or_at}
 use Rattle.words.specs.Tables.{table, rows}
-use Rattle.words.proofs.Lists.{get_d-behind}
+use Rattle.words.proofs.Lists.{get_d_behind}
 
 -- ---- stores
 
@@ -23,10 +23,10 @@ at_set Q (x ∷ s) (suc i) m zero new old = old
 at_set Q (x ∷ s) (suc i) m (suc v) new old = at_set (λ u. Q (suc u)) s i m v new old
 
 -- a list of zeros has 0 everywhere
-pub zeros-at : (n v : ℕ) → ◌≡◌ {A = ℕ} (get_or (replicate n 0) v 0) 0
-zeros-at zero v = refl
-zeros-at (suc n) zero = refl
-zeros-at (suc n) (suc v) = zeros-at n v
+pub zeros_at : (n v : ℕ) → ◌≡◌ {A = ℕ} (get_or (replicate n 0) v 0) 0
+zeros_at zero v = refl
+zeros_at (suc n) zero = refl
+zeros_at (suc n) (suc v) = zeros_at n v
 
 -- ---- rows
 
@@ -57,10 +57,10 @@ unfolding rows
 rows_more row i = ap (λ (j : ℕ). rows row j) (sym (add-one i))
 
 -- no row is longer than w
-pub rows-most : (row : ℕ → List ℕ) (w : ℕ) → ((i : ℕ) → length (row i) ≤ w) → (n : ℕ) → length (rows row n) ≤ w * n
+pub rows_most : (row : ℕ → List ℕ) (w : ℕ) → ((i : ℕ) → length (row i) ≤ w) → (n : ℕ) → length (rows row n) ≤ w * n
 unfolding rows
-rows-most row w each zero = zero-le
-rows-most row w each (suc n) = omega (arith, length-append (rows row n) (row n), each n, rows-most row w each n)
+rows_most row w each zero = zero-le
+rows_most row w each (suc n) = omega (arith, length-append (rows row n) (row n), each n, rows_most row w each n)
 
 -- rows of one width
 pub rows-length : (row : ℕ → List ℕ) (w : ℕ) → ((i : ℕ) → length (row i) ≡ w) → (n : ℕ) → length (rows row n) ≡ w * n
@@ -76,7 +76,7 @@ rows_at row w wide (suc n) i a h l =
     let sized : length (rows row n) ≡ n * w = rows-length row w wide n ∙ mul_comm w n in
     below_more (λ j. get_or (rows row n ++ row n) (j * w + a) 0 ≡ get_or (row j) a 0) n
     (λ j g. get_or-append (rows row n) (row n) 0 (j * w + a) (omega (arith, mul-le-mul_right w g)) ∙ rows_at row w wide n j a g l)
-    (get_d-behind (rows row n) (row n) sized a 0)
+    (get_d_behind (rows row n) (row n) sized a 0)
     i (omega arith)
 
 -- ---- tables of numbers: rows of one

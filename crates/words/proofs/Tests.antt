@@ -16,14 +16,14 @@ pub ruleset tests = (lt-ltb, le-ltb, le-leb, lt-leb, eq-eqb, ne_eqb)
 -- ---- choices
 
 -- what holds of both choices, each where its case is given, holds of the choice
-pub at-cond : {A : Type 0} (P : A → Type 0) (b : Bool) {x y : A} → (b ≡ true → P x) → (b ≡ false → P y) → P (cond b x y)
-at-cond P true f g = f refl
-at-cond P false f g = g refl
+pub at_cond : {A : Type 0} (P : A → Type 0) (b : Bool) {x y : A} → (b ≡ true → P x) → (b ≡ false → P y) → P (cond b x y)
+at_cond P true f g = f refl
+at_cond P false f g = g refl
 
 -- what follows from either outcome of a test
-pub by-test : {P : Type 0} (b : Bool) → (b ≡ true → P) → (b ≡ false → P) → P
-by-test true f g = f refl
-by-test false f g = g refl
+pub by_test : {P : Type 0} (b : Bool) → (b ≡ true → P) → (b ≡ false → P) → P
+by_test true f g = f refl
+by_test false f g = g refl
 
 -- the negation chooses the other way round
 pub cond-not : {A : Type 0} (b : Bool) (x y : A) → cond b x y ≡ cond (not b) y x
@@ -58,30 +58,30 @@ either false = inr tt
 
 module _ {A B : Type 0} where
   -- one of two tests passes
-  pub or-iff : (a b : Bool) → T a ↔ A → T b ↔ B → T (a || b) ↔ (A ⊎ B)
-  or-iff true b f g = (λ h. inl (f.0 h), λ x. tt)
-  or-iff false b f g = (λ h. inr (g.0 h), ⊎_elim (λ x. absurd (f.1 x)) g.1)
+  pub or_iff : (a b : Bool) → T a ↔ A → T b ↔ B → T (a || b) ↔ (A ⊎ B)
+  or_iff true b f g = (λ h. inl (f.0 h), λ x. tt)
+  or_iff false b f g = (λ h. inr (g.0 h), ⊎_elim (λ x. absurd (f.1 x)) g.1)
 
   -- both of two tests pass
-  pub and-iff : (a b : Bool) → T a ↔ A → T b ↔ B → T (a && b) ↔ (A × B)
-  and-iff true b f g = (λ h. (f.0 tt, g.0 h), λ x. g.1 x.1)
-  and-iff false b f g = (λ h. absurd h, λ x. f.1 x.0)
+  pub and_iff : (a b : Bool) → T a ↔ A → T b ↔ B → T (a && b) ↔ (A × B)
+  and_iff true b f g = (λ h. (f.0 tt, g.0 h), λ x. g.1 x.1)
+  and_iff false b f g = (λ h. absurd h, λ x. f.1 x.0)
 
 pub or_left : (a b : Bool) → T a → T (a || b)
-or_left a b h = (or-iff a b Iff.rfl Iff.rfl).1 (inl h)
+or_left a b h = (or_iff a b Iff.rfl Iff.rfl).1 (inl h)
 
-pub eqb-iff : (m n : ℕ) → T (eqb m n) ↔ (m ≡ n)
-eqb-iff m n = (eqb→eq m n, eq→eqb)
+pub eqb_iff : (m n : ℕ) → T (eqb m n) ↔ (m ≡ n)
+eqb_iff m n = (eqb→eq m n, eq→eqb)
 
 -- ---- comparisons
 
 -- `>=` is the negation of `<`
-pub not-below : (m n : ℕ) → leb n m ≡ not (ltb m n)
-not-below m n = by-test (ltb m n) (λ e. rw e (lt-leb n m (ltb-true m n e))) (λ e. rw e (le-leb n m (ltb-false m n e)))
+pub not_below : (m n : ℕ) → leb n m ≡ not (ltb m n)
+not_below m n = by_test (ltb m n) (λ e. rw e (lt-leb n m (ltb-true m n e))) (λ e. rw e (le-leb n m (ltb-false m n e)))
 
 -- below a + 1, and not a
 pub one_more : (b a : ℕ) → (b ≡ a → ⊥) → ltb b a ≡ ltb b (a + 1)
 one_more b a ne =
-    by-test (ltb b a)
+    by_test (ltb b a)
     (λ e. e ∙ sym (lt-ltb b (a + 1) (omega (arith, ltb-true b a e))))
     (λ e. e ∙ sym (le-ltb b (a + 1) (omega (arith, ltb-false b a e))))

@@ -15,8 +15,8 @@ wrote-length old done e h =
     ∙ (let e : length done + length (drop (length done) old) ≡ length old = omega (arith, length-drop (length done) old) in e)
 
 -- one more byte behind what has been written
-pub write-one : (old done : List ℕ) (b at : ℕ) → at ≡ length done → at < length old → set (wrote old done) at b ≡ wrote old (done ++ (b ∷ []))
-write-one old done b at here room =
+pub write_one : (old done : List ℕ) (b at : ℕ) → at ≡ length done → at < length old → set (wrote old done) at b ≡ wrote old (done ++ (b ∷ []))
+write_one old done b at here room =
     ap (λ (l : List ℕ). set (done ++ l) at b) (drop-cons old (length done) 0 (omega arith))
     ∙ set_at done (get_or old (length done) 0) (drop (suc (length done)) old) b at (sym here)
     ∙ sym (append_assoc done (b ∷ []) (drop (suc (length done)) old))
@@ -28,11 +28,11 @@ write-one old done b at here room =
 abbrev pub part_from : List ℕ → ℕ → List ℕ
 part_from xs at = take (length xs - at) (drop at xs)
 
-pub part-is : (xs : List ℕ) (at : ℕ) → part_from xs at ≡ drop at xs
-part-is xs at = take_all (length xs - at) (drop at xs) (omega (arith, length-drop at xs))
+pub part_is : (xs : List ℕ) (at : ℕ) → part_from xs at ≡ drop at xs
+part_is xs at = take_all (length xs - at) (drop at xs) (omega (arith, length-drop at xs))
 
 pub part_length : (xs : List ℕ) (at : ℕ) → length (part_from xs at) ≡ length xs - at
-part_length xs at = ap length (part-is xs at) ∙ length-drop at xs
+part_length xs at = ap length (part_is xs at) ∙ length-drop at xs
 
 -- what comes back of it is as long
 pub lent_length : (xs ys : List ℕ) (at : ℕ) → at ≤ length xs → length ys ≡ length (part_from xs at)
@@ -44,7 +44,7 @@ lent_length xs ys at fits e =
 lent_back : (xs r ys : List ℕ) (at : ℕ) → ys ≡ r ++ drop (length r) (part_from xs at) → ys ++ drop (length xs - at) (drop at xs) ≡ r ++ drop (length r) (drop at xs)
 lent_back xs r ys at e =
     ap (λ (l : List ℕ). ys ++ l) (drop_of_length-le (drop at xs) {i = length xs - at} (omega (arith, length-drop at xs))) ∙ append-nil ys ∙ e
-    ∙ ap (λ (l : List ℕ). r ++ drop (length r) l) (part-is xs at)
+    ∙ ap (λ (l : List ℕ). r ++ drop (length r) l) (part_is xs at)
 
 -- a callee that is lent the part behind what has been written, and writes r at its front
 pub write-more :
@@ -66,9 +66,9 @@ write-more old done out r ys at e is wrote-r =
     behind = lent_back out r ys at wrote-r ∙ ap (λ (l : List ℕ). r ++ drop (length r) l) back ∙ ap (λ (l : List ℕ). r ++ l) past
 
 -- the part behind `front` is lent and written first, and then `front` itself
-pub write-front : (old front r ys : List ℕ) (at : ℕ) → at ≡ length front → at ≤ length old → ys ≡ r ++ drop (length r) (part_from old at)
+pub write_front : (old front r ys : List ℕ) (at : ℕ) → at ≡ length front → at ≤ length old → ys ≡ r ++ drop (length r) (part_from old at)
     → wrote (take at old ++ (ys ++ drop (length old - at) (drop at old))) front ≡ wrote old (front ++ r)
-write-front old front r ys at e fits wrote-r =
+write_front old front r ys at e fits wrote-r =
     ap (λ (l : List ℕ). front ++ l) (drop_at (take at old) (ys ++ drop (length old - at) (drop at old)) (length front) (length-take-le at old fits ∙ e) ∙ lent_back old r ys at wrote-r)
     ∙ ap (λ (l : List ℕ). front ++ (r ++ l)) (drop-drop (length r) at old ∙ ap (λ (n : ℕ). drop n old) (ap (λ (n : ℕ). n + length r) e ∙ sym (length-append front r)))
     ∙ sym (append_assoc front r (drop (length (front ++ r)) old))

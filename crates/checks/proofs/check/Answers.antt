@@ -2,7 +2,7 @@
 use mathlib.Core.Path.{◌∙◌}
 use Rattle.labels.specs.Checks.{check21, programmer_check}
 use Rattle.refusal.proofs.Checks.{fails, passes}
-use Rattle.checks.proofs.Rows.{not-passed, reaching-there}
+use Rattle.checks.proofs.Rows.{not_passed, reaching_there}
 use Rattle.checks.proofs.check.Goals as goal
 
 pub returns-in-Failed : goal.returns-in-Failed
@@ -13,11 +13,11 @@ returns-in-Failed c =
       edge_order_2 = c.requires.edge_order;
       checked = record {
         answers = fails (check21 c.args.file.now) c.check_writes-writes.ensures f;
-        letters-are = not-passed f;
-        reaching-are = not-passed f;
-        letters-stop = not-passed f;
-        reached-first = not-passed f;
-        reaching-stops = not-passed f;
+        letters_are = not_passed f;
+        reaching_are = not_passed f;
+        letters_stop = not_passed f;
+        reached_first = not_passed f;
+        reaching_stops = not_passed f;
       };
     }
 
@@ -50,7 +50,7 @@ check_ambiguous-verdict-requires c =
     record {
       read_as = c.requires.read_as;
       use_gives = c.requires.use_gives;
-      at_references = reaching-there c.reaching-next.ensures.cells;
+      at_references = reaching_there c.reaching-next.ensures.cells;
     }
 
 pub returns : goal.returns
@@ -60,10 +60,10 @@ returns c =
       edge_order_2 = c.reorder.ensures;
       checked = record {
         answers = passes c.check_writes-writes.ensures c.in_default.is c.check_ambiguous-verdict.ensures;
-        letters-are = λ _. c.letters-first.ensures.letters;
-        reaching-are = λ _. c.reaching-next.ensures.cells;
-        letters-stop = λ _. c.letters-first.ensures.letters_stop;
-        reached-first = λ _. c.reaching-next.ensures.reached_first;
-        reaching-stops = λ _. c.reaching-next.ensures.reaching_stops;
+        letters_are = λ _. c.letters-first.ensures.letters;
+        reaching_are = λ _. c.reaching-next.ensures.cells;
+        letters_stop = λ _. c.letters-first.ensures.letters_stop;
+        reached_first = λ _. c.reaching-next.ensures.reached_first;
+        reaching_stops = λ _. c.reaching-next.ensures.reaching_stops;
       };
     }

@@ -6,22 +6,22 @@ use native.Mathlib.Omega.{arith}
 use lib.ListN.{get_or}
 use Rattle.labels.specs.Ambiguity.{is_ambiguous}
 use Rattle.sets.specs.Sets.{has, several}
-use Rattle.refusal.proofs.Checks.{scan-start, scan-stop, scan-next, scan-done}
+use Rattle.refusal.proofs.Checks.{scan_start, scan_stop, scan_next, scan_done}
 use Rattle.routine.specs.Layout.{arrays}
-use Rattle.passes.proofs.Cells.{few-cells, in_table}
-use Rattle.checks.proofs.Rows.{ambiguous-cell, faulty, faultless}
+use Rattle.passes.proofs.Cells.{few_cells, in_table}
+use Rattle.checks.proofs.Rows.{ambiguous_cell, faulty, faultless}
 use Rattle.checks.proofs.check_ambiguous_at.Goals as goal
 use Rattle.checks.proofs.check_ambiguous_at.Goals.{In-loop-a}
 
 pub loop-a-init : goal.loop-a-init
-loop-a-init c = scan-start _ _
+loop-a-init c = scan_start _ _
 
 -- in the loop there is such an array, and its cell is in the table
-in-a : (c : In-loop-a) → c.loop-a.a < arrays c.args.file.now
-in-a c = omega (arith, c.requires.read_as.heads.arrays-are)
+in_a : (c : In-loop-a) → c.loop-a.a < arrays c.args.file.now
+in_a c = omega (arith, c.requires.read_as.heads.arrays_are)
 
 few : (c : In-loop-a) → 8 * c.args.v + c.loop-a.a < 2048
-few c = few-cells c.requires.read_as (in-a c) c.requires.v_bound
+few c = few_cells c.requires.read_as (in_a c) c.requires.v_bound
 
 pub overflow_mul-at : goal.overflow_mul-at
 overflow_mul-at c = omega (arith, few c)
@@ -33,27 +33,27 @@ pub offset_bounds-uses-at : goal.offset_bounds-uses-at
 offset_bounds-uses-at c = omega (arith, few c)
 
 pub bounds-uses-at : goal.bounds-uses-at
-bounds-uses-at c = in_table c.requires.read_as (in-a (goal.at.bounds-uses-at c).In-loop-a) c.requires.v_bound c.args.uses.now c.requires.use_gives.size
+bounds-uses-at c = in_table c.requires.read_as (in_a (goal.at.bounds-uses-at c).In-loop-a) c.requires.v_bound c.args.uses.now c.requires.use_gives.size
 
 pub offset_bounds-reaching-at : goal.offset_bounds-reaching-at
 offset_bounds-reaching-at c = omega (arith, few (goal.at.offset_bounds-reaching-at c).In-loop-a)
 
 pub bounds-reaching-at : goal.bounds-reaching-at
-bounds-reaching-at c = in_table c.requires.read_as (in-a (goal.at.bounds-reaching-at c).In-loop-a) c.requires.v_bound c.args.reaching.now c.requires.at_references.size
+bounds-reaching-at c = in_table c.requires.read_as (in_a (goal.at.bounds-reaching-at c).In-loop-a) c.requires.v_bound c.args.reaching.now c.requires.at_references.size
 
 -- what the test of the cell says
-cell-is : (c : In-loop-a) →
+cell_is : (c : In-loop-a) →
     let s = c.args in
     let a = c.loop-a.a in
     (has (get_or s.uses.now (8 * s.v + a) 0) 0 && several (get_or s.reaching.now (8 * s.v + a) 0)) ≡ is_ambiguous s.file.now a s.v
-cell-is c =
-    ambiguous-cell c.requires.use_gives c.args.v c.requires.v_bound c.loop-a.a (in-a c) c.requires.at_references
+cell_is c =
+    ambiguous_cell c.requires.use_gives c.args.v c.requires.v_bound c.loop-a.a (in_a c) c.requires.at_references
 
 pub returns-then-ambiguous : goal.returns-then-ambiguous
-returns-then-ambiguous c = scan-stop c.loop-a.invariant (in-a (goal.at.returns-then-ambiguous c).In-loop-a) (faulty _ (c.is_ambiguous-ambiguous.ensures ∙ cell-is (goal.at.returns-then-ambiguous c).In-loop-a) c.if-ambiguous.true) refl
+returns-then-ambiguous c = scan_stop c.loop-a.invariant (in_a (goal.at.returns-then-ambiguous c).In-loop-a) (faulty _ (c.is_ambiguous-ambiguous.ensures ∙ cell_is (goal.at.returns-then-ambiguous c).In-loop-a) c.if-ambiguous.true) refl
 
 pub loop-a-preserved : goal.loop-a-preserved
-loop-a-preserved c = scan-next c.loop-a.invariant (in-a (goal.at.loop-a-preserved c).In-loop-a) (faultless _ (c.is_ambiguous-ambiguous.ensures ∙ cell-is (goal.at.loop-a-preserved c).In-loop-a) c.if-ambiguous.false) refl
+loop-a-preserved c = scan_next c.loop-a.invariant (in_a (goal.at.loop-a-preserved c).In-loop-a) (faultless _ (c.is_ambiguous-ambiguous.ensures ∙ cell_is (goal.at.loop-a-preserved c).In-loop-a) c.if-ambiguous.false) refl
 
 pub returns : goal.returns
-returns c = scan-done c.loop-a.invariant (omega arith)
+returns c = scan_done c.loop-a.invariant (omega arith)

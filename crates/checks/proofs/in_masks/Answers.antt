@@ -8,7 +8,7 @@ use lib.ListN.{get_or}
 use Rattle.routine.specs.Arrays.{kind, is_in}
 use Rattle.routine.specs.Layout.{arrays}
 use Rattle.routine.specs.declared.array.ArrayRecord.{ArrayRecord}
-use Rattle.words.proofs.Replaced.{replaced-at, replacing-begin, replacing-next, replacing-end}
+use Rattle.words.proofs.Replaced.{replaced_at, replacing_begin, replacing_next, replacing_end}
 use Rattle.checks.proofs.in_masks.Goals as goal
 
 -- the mask of array b
@@ -16,28 +16,28 @@ abbrev mask : List ℕ → ℕ → ℕ
 mask file b = cond (is_in (kind file b)) 0b1000 0
 
 pub loop-a-init : goal.loop-a-init
-loop-a-init c = replacing-begin _ _ _ _
+loop-a-init c = replacing_begin _ _ _ _
 
 pub record_of-requires : goal.record_of-requires
 record_of-requires c =
     record {
       laid = c.requires.well.laid;
-      a_bound = omega (arith, c.requires.heads.arrays-are);
+      a_bound = omega (arith, c.requires.heads.arrays_are);
     }
 
 pub bounds-masks-a : goal.bounds-masks-a
-bounds-masks-a c = omega (arith, c.requires.well.laid.limits.few-arrays, c.requires.heads.arrays-are)
+bounds-masks-a c = omega (arith, c.requires.well.laid.limits.few_arrays, c.requires.heads.arrays_are)
 
 pub loop-a-preserved : goal.loop-a-preserved
 loop-a-preserved c =
-    replacing-next c.loop-a.invariant (omega (arith, c.requires.heads.arrays-are)) (omega arith)
+    replacing_next c.loop-a.invariant (omega (arith, c.requires.heads.arrays_are)) (omega arith)
     (c.half_if.ensures ∙ ap (λ (b : Bool). cond b 0b1000 0) (c.is_in.ensures ∙ ap (λ (r : ArrayRecord). is_in r.kind) c.record_of.ensures))
 
 pub returns : goal.returns
 returns c =
     let file = c.args.file.now in
-    let is = replacing-end c.loop-a.invariant (omega (arith, c.requires.heads.arrays-are)) in
+    let is = replacing_end c.loop-a.invariant (omega (arith, c.requires.heads.arrays_are)) in
     record {
       size = c.loop-a.invariant.sized;
-      are = λ a h. ap (λ (t : List ℕ). get_or t a 0) is ∙ replaced-at _ 0 (mask file) 0 (arrays file) a (omega arith) h (omega (arith, c.requires.well.laid.limits.few-arrays));
+      are = λ a h. ap (λ (t : List ℕ). get_or t a 0) is ∙ replaced_at _ 0 (mask file) 0 (arrays file) a (omega arith) h (omega (arith, c.requires.well.laid.limits.few_arrays));
     }

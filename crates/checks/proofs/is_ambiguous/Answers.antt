@@ -4,9 +4,9 @@ use mathlib.Core.Bool.{◌&&◌}
 use Prim.Native.Nat.{ℕ}
 use lib.Dec.{eqb}
 use Rattle.sets.specs.Sets.{has}
-use Rattle.sets.proofs.Laws.{bit-zero}
+use Rattle.sets.proofs.Laws.{bit_zero}
 use Rattle.checks.proofs.is_ambiguous.Goals as goal
 
 pub returns : goal.returns
 unfolding has
-returns c = ap₂ ◌&&◌ (ap (λ (n : ℕ). eqb n 1) (sym (bit-zero c.args.uses))) c.more_than_one.ensures
+returns c = ap₂ ◌&&◌ (ap (λ (n : ℕ). eqb n 1) (sym (bit_zero c.args.uses))) c.more_than_one.ensures

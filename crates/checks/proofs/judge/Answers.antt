@@ -2,7 +2,7 @@
 use mathlib.Core.Path.{◌∙◌}
 use Rattle.labels.specs.Checks.{check21, programmer_check}
 use Rattle.refusal.proofs.Checks.{fails, passes}
-use Rattle.checks.proofs.Rows.{not-passed, brought-there}
+use Rattle.checks.proofs.Rows.{not_passed, brought_there}
 use Rattle.checks.proofs.judge.Goals as goal
 
 pub returns-in-Failed : goal.returns-in-Failed
@@ -11,9 +11,9 @@ returns-in-Failed c =
     let f = c.in-Failed.is in
     record {
       answers = fails (check21 c.args.file.now) c.check_writes-writes.ensures f;
-      brought-are = not-passed f;
-      reached-first = not-passed f;
-      brought-stops = not-passed f;
+      brought_are = not_passed f;
+      reached_first = not_passed f;
+      brought_stops = not_passed f;
     }
 
 pub brought-rounds-requires : goal.brought-rounds-requires
@@ -34,7 +34,7 @@ check_ambiguous-verdict-requires c =
     record {
       read_as = is;
       use_gives = c.tabulate.ensures.use_gives;
-      at_references = brought-there is.well c.brought-rounds.ensures.cells;
+      at_references = brought_there is.well c.brought-rounds.ensures.cells;
     }
 
 pub shape_of-order : goal.shape_of-order
@@ -45,7 +45,7 @@ unfolding programmer_check
 returns c =
     record {
       answers = passes c.check_writes-writes.ensures c.in_default.is c.check_ambiguous-verdict.ensures;
-      brought-are = λ _. c.brought-rounds.ensures.cells;
-      reached-first = λ _. c.brought-rounds.ensures.reached_first;
-      brought-stops = λ _. c.brought-rounds.ensures.brought_stops;
+      brought_are = λ _. c.brought-rounds.ensures.cells;
+      reached_first = λ _. c.brought-rounds.ensures.reached_first;
+      brought_stops = λ _. c.brought-rounds.ensures.brought_stops;
     }

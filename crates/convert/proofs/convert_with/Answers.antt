@@ -1,6 +1,6 @@
 -- `convert_with` meets its contract: 41, 42, and where both pass what write_checked prepares.
 use mathlib.Core.Path.{sym, ◌∙◌}
-use Rattle.convert.proofs.Ways.{many-refused, two-refused}
+use Rattle.convert.proofs.Ways.{many_refused, two_refused}
 use Rattle.convert.proofs.convert_with.Goals as goal
 
 pub number-few-requires : goal.number-few-requires
@@ -48,14 +48,14 @@ shape_of-halves-in-Failed c = c.number-few.auto.halves
 pub returns-in-Failed : goal.returns-in-Failed
 returns-in-Failed c =
     let a = c.args in
-    many-refused a.file.now a.work.now c.number-few.ensures.value c.in-Failed.is
+    many_refused a.file.now a.work.now c.number-few.ensures.value c.in-Failed.is
 
 pub check-single-requires : goal.check-single-requires
 check-single-requires c =
     record {
       directives_read = c.requires.directives_read;
       edge_order = c.number-few.ensures.edge_order;
-      given = c.number-few.ensures.all_numbered.given-are c.in_default.is;
+      given = c.number-few.ensures.all_numbered.given_are c.in_default.is;
       others_len = c.requires.others_len;
       held_len = c.number-few.auto.spreads ∙ c.requires.spreads_len;
       gives_len = c.number-few.auto.gives ∙ c.requires.gives_len;
@@ -96,7 +96,7 @@ shape_of-halves-in-Failed-single c = c.check-single.auto.halves ∙ c.number-few
 pub returns-in-Failed-single : goal.returns-in-Failed-single
 returns-in-Failed-single c =
     let a = c.args in
-    two-refused a.file.now a.work.now c.number-few.ensures.value c.in_default.is c.check-single.ensures c.in-Failed-single.is
+    two_refused a.file.now a.work.now c.number-few.ensures.value c.in_default.is c.check-single.ensures c.in-Failed-single.is
 
 pub write_checked-requires : goal.write_checked-requires
 write_checked-requires c =
@@ -104,7 +104,7 @@ write_checked-requires c =
       directives_read = c.requires.directives_read;
       file_value = sym c.number-few.ensures.value ∙ c.in_default.is;
       file_value_2 = sym c.check-single.ensures ∙ c.in_default-single.is;
-      all_numbered = record { given-are = λ _. c.number-few.ensures.all_numbered.given-are c.in_default.is; counts-are = λ _. c.number-few.ensures.all_numbered.counts-are c.in_default.is };
+      all_numbered = record { given_are = λ _. c.number-few.ensures.all_numbered.given_are c.in_default.is; counts_are = λ _. c.number-few.ensures.all_numbered.counts_are c.in_default.is };
       work_len = c.requires.work_len;
       order_len = c.number-few.auto.order ∙ c.requires.order_len;
       uses_len = c.number-few.auto.reached ∙ c.requires.reached_len;

@@ -5,39 +5,39 @@ use Prim.Native.Nat.{ℕ, ◌*◌, ◌≤◌}
 use native.Mathlib.Omega.{arith}
 use lib.ListN.{length, take}
 use lib.Seq.{length-take-le, length_front}
-use Rattle.directives.proofs.Limits.{read-heads}
+use Rattle.directives.proofs.Limits.{read_heads}
 use Rattle.directives.specs.Layout.{vertices}
 use Rattle.convert.proofs.convert_within.Goals as goal
 use Rattle.convert.proofs.convert_within.Goals.{Start}
 
 -- a part of a slice that is long enough
 module _ (s : Start) where
-  fits-order : s.args.h.edges ≤ length s.args.order.now
-  fits-order = omega (arith, (read-heads s.requires.directives_read).edges_are, s.requires.file_in_bounds)
+  fits_order : s.args.h.edges ≤ length s.args.order.now
+  fits_order = omega (arith, (read_heads s.requires.directives_read).edges_are, s.requires.file_in_bounds)
 
-  order-part : length (take s.args.h.edges s.args.order.now) ≡ s.args.h.edges
-  order-part = length-take-le _ s.args.order.now fits-order
+  order_part : length (take s.args.h.edges s.args.order.now) ≡ s.args.h.edges
+  order_part = length-take-le _ s.args.order.now fits_order
 
   module _ (l : List ℕ) (e : 8 * vertices s.args.file.now ≤ length l) where
     fits : 8 * s.args.h.vertices ≤ length l
-    fits = omega (arith, (read-heads s.requires.directives_read).vertices-are, e)
+    fits = omega (arith, (read_heads s.requires.directives_read).vertices_are, e)
 
     part : length (take (8 * s.args.h.vertices) l) ≡ 8 * s.args.h.vertices
     part = length-take-le _ l fits
 
-    part-all : length (take (8 * s.args.h.vertices) l) ≡ 8 * vertices s.args.file.now
-    part-all = part ∙ ap (λ (n : ℕ). 8 * n) (read-heads s.requires.directives_read).vertices-are
+    part_all : length (take (8 * s.args.h.vertices) l) ≡ 8 * vertices s.args.file.now
+    part_all = part ∙ ap (λ (n : ℕ). 8 * n) (read_heads s.requires.directives_read).vertices_are
 
 pub overflow_mul-all : goal.overflow_mul-all
 overflow_mul-all c =
-    let m = read-heads c.requires.directives_read in
-    omega (arith, m.limits.few-vertices, m.vertices-are)
+    let m = read_heads c.requires.directives_read in
+    omega (arith, m.limits.few_vertices, m.vertices_are)
 
 pub slice_bounds-convert_with-end : goal.slice_bounds-convert_with-end
-slice_bounds-convert_with-end c = fits-order (goal.at.slice_bounds-convert_with-end c).Start
+slice_bounds-convert_with-end c = fits_order (goal.at.slice_bounds-convert_with-end c).Start
 
 pub slice_bounds-convert_with-end-2 : goal.slice_bounds-convert_with-end-2
-slice_bounds-convert_with-end-2 c = sym (order-part (goal.at.slice_bounds-convert_with-end-2 c).Start)
+slice_bounds-convert_with-end-2 c = sym (order_part (goal.at.slice_bounds-convert_with-end-2 c).Start)
 
 pub slice_bounds-convert_with-end-3 : goal.slice_bounds-convert_with-end-3
 slice_bounds-convert_with-end-3 c = fits (goal.at.slice_bounds-convert_with-end-3 c).Start c.args.given.now c.requires.file_in_bounds_2
@@ -95,16 +95,16 @@ convert_with-requires c =
     record {
       directives_read = c.requires.directives_read;
       work_len = c.requires.work_len;
-      order_len = order-part (goal.at.convert_with-requires c).Start ∙ (read-heads c.requires.directives_read).edges_are;
-      given_len = part-all (goal.at.convert_with-requires c).Start c.args.given.now c.requires.file_in_bounds_2;
+      order_len = order_part (goal.at.convert_with-requires c).Start ∙ (read_heads c.requires.directives_read).edges_are;
+      given_len = part_all (goal.at.convert_with-requires c).Start c.args.given.now c.requires.file_in_bounds_2;
       counts_len = refl {a = 8};
-      reached_len = part-all (goal.at.convert_with-requires c).Start c.args.reached.now c.requires.file_in_bounds_3;
-      aligned_len = part-all (goal.at.convert_with-requires c).Start c.args.aligned.now c.requires.file_in_bounds_4;
-      spreads_len = part-all (goal.at.convert_with-requires c).Start c.args.spreads.now c.requires.file_in_bounds_5;
-      others_len = part-all (goal.at.convert_with-requires c).Start c.args.others.now c.requires.file_in_bounds_6;
-      gives_len = part-all (goal.at.convert_with-requires c).Start c.args.gives.now c.requires.file_in_bounds_7;
-      passes_len = part-all (goal.at.convert_with-requires c).Start c.args.passes.now c.requires.file_in_bounds_8;
-      halves_len = part-all (goal.at.convert_with-requires c).Start c.args.halves.now c.requires.file_in_bounds_9;
+      reached_len = part_all (goal.at.convert_with-requires c).Start c.args.reached.now c.requires.file_in_bounds_3;
+      aligned_len = part_all (goal.at.convert_with-requires c).Start c.args.aligned.now c.requires.file_in_bounds_4;
+      spreads_len = part_all (goal.at.convert_with-requires c).Start c.args.spreads.now c.requires.file_in_bounds_5;
+      others_len = part_all (goal.at.convert_with-requires c).Start c.args.others.now c.requires.file_in_bounds_6;
+      gives_len = part_all (goal.at.convert_with-requires c).Start c.args.gives.now c.requires.file_in_bounds_7;
+      passes_len = part_all (goal.at.convert_with-requires c).Start c.args.passes.now c.requires.file_in_bounds_8;
+      halves_len = part_all (goal.at.convert_with-requires c).Start c.args.halves.now c.requires.file_in_bounds_9;
     }
 
 pub shape_of-work : goal.shape_of-work

@@ -7,7 +7,7 @@ use lib.ListN.{length, take, drop}
 use lib.Seq.{length-take-le, take-append_seam}
 use Rattle.mappings.proofs.Demand.{demand4}
 use Rattle.mappings.specs.Computed.{converted}
-use Rattle.convert.proofs.Ways.{one-given, programmer-refused, prepared}
+use Rattle.convert.proofs.Ways.{one_given, programmer_refused, prepared}
 use Rattle.convert.proofs.write_checked.Goals as goal
 use Rattle.convert.proofs.write_checked.Goals.{After-write-n}
 
@@ -35,8 +35,8 @@ write-n-requires c =
     let n = c.requires.all_numbered in
     record {
       directives_read = c.requires.directives_read;
-      single = record { given-are = n.given-are refl; one = one-given c.args.file.now c.requires.directives_read.passed c.requires.file_value c.requires.file_value_2 };
-      version_counts = n.counts-are refl;
+      single = record { given_are = n.given_are refl; one = one_given c.args.file.now c.requires.directives_read.passed c.requires.file_value c.requires.file_value_2 };
+      version_counts = n.counts_are refl;
       in_bounds = omega (arith, c.requires.work_len);
     }
 
@@ -54,7 +54,7 @@ judge-judged-requires c =
       file_value_2 = c.requires.file_value_2;
       routine_value = front (goal.at.judge-judged-requires c).After-write-n;
       order_len = c.requires.order_len;
-      versions_len = (c.requires.all_numbered.given-are refl).size;
+      versions_len = (c.requires.all_numbered.given_are refl).size;
       uses_len = c.requires.uses_len;
       brought_len = c.requires.brought_len;
       gives_len = c.requires.gives_len;
@@ -63,7 +63,7 @@ judge-judged-requires c =
     }
 
 pub returns-in-Failed : goal.returns-in-Failed
-returns-in-Failed c = programmer-refused c.args.file.now c.requires.directives_read.passed c.requires.file_value c.requires.file_value_2 c.judge-judged.ensures c.in-Failed.is
+returns-in-Failed c = programmer_refused c.args.file.now c.requires.directives_read.passed c.requires.file_value c.requires.file_value_2 c.judge-judged.ensures c.in-Failed.is
 
 pub returns : goal.returns
 returns c = prepared c.args.file.now c.requires.directives_read.passed c.requires.file_value c.requires.file_value_2 c.judge-judged.ensures c.in_default.is c.write-n.ensures.value (within (goal.at.returns c).After-write-n) (front (goal.at.returns c).After-write-n)

@@ -8,6 +8,6 @@ expand_counted-requires c =
       read_as = c.requires.read_as;
       interfaces = c.requires.interfaces;
       file_bound = c.requires.file_bound;
-      file_in_bounds = omega (arith, c.requires.read_as.well.laid.limits.few-vertices);
+      file_in_bounds = omega (arith, c.requires.read_as.well.laid.limits.few_vertices);
       out_len = c.requires.out_len;
     }

@@ -14,7 +14,7 @@ pub expand_few-requires : goal.expand_few-requires
 expand_few-requires c =
     record {
       read_as = c.requires.read_as;
-      expandable = record { well = c.requires.read_as.well; interfaces = c.requires.interfaces; few-edges = c.requires.file_bound; few-vertices = omega (arith, c.fill_firsts-count.ensures.value) };
+      expandable = record { well = c.requires.read_as.well; interfaces = c.requires.interfaces; few_edges = c.requires.file_bound; few_vertices = omega (arith, c.fill_firsts-count.ensures.value) };
       firsts = c.fill_firsts-count.ensures.firsts;
       count_value = c.fill_firsts-count.ensures.value;
       out_len = c.requires.out_len;

@@ -5,10 +5,10 @@ use Rattle.expansion.proofs.expand_large.Goals as goal
 
 pub expand_within-requires : goal.expand_within-requires
 expand_within-requires c =
-    let n = c.requires.read_as.heads.vertices-are in
+    let n = c.requires.read_as.heads.vertices_are in
     let e = c.requires.read_as.heads.edges_are in
-    let v = c.requires.read_as.well.laid.limits.few-vertices in
-    let l = c.requires.expandable.few-edges in
+    let v = c.requires.read_as.well.laid.limits.few_vertices in
+    let l = c.requires.expandable.few_edges in
     record {
       read_as = c.requires.read_as;
       expandable = c.requires.expandable;

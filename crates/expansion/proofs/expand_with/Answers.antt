@@ -4,22 +4,22 @@ use mathlib.Core.List.{◌++◌}
 use native.Mathlib.Omega.{arith}
 use lib.ListN.{length, drop}
 use lib.Seq.{length-take-le, length_front}
-use Rattle.calls.proofs.Written.{no-shorter}
-use Rattle.expansion.proofs.Ways.{calls-refused, calls-expanded}
+use Rattle.calls.proofs.Written.{no_shorter}
+use Rattle.expansion.proofs.Ways.{calls_refused, calls_expanded}
 use Rattle.expansion.proofs.expand_with.Goals as goal
 
 pub slice_bounds-judge-end : goal.slice_bounds-judge-end
-slice_bounds-judge-end c = omega (arith, no-shorter c.requires.expandable, c.requires.file_in_bounds)
+slice_bounds-judge-end c = omega (arith, no_shorter c.requires.expandable, c.requires.file_in_bounds)
 
 pub slice_bounds-judge-end-2 : goal.slice_bounds-judge-end-2
-slice_bounds-judge-end-2 c = sym (length-take-le (length c.args.file.now) c.args.out.now (omega (arith, no-shorter c.requires.expandable, c.requires.file_in_bounds)))
+slice_bounds-judge-end-2 c = sym (length-take-le (length c.args.file.now) c.args.out.now (omega (arith, no_shorter c.requires.expandable, c.requires.file_in_bounds)))
 
 pub judge-judged-requires : goal.judge-judged-requires
 judge-judged-requires c =
     record {
       read_as = c.requires.read_as;
       interfaces = c.requires.expandable.interfaces;
-      judged_len = length-take-le (length c.args.file.now) c.args.out.now (omega (arith, no-shorter c.requires.expandable, c.requires.file_in_bounds));
+      judged_len = length-take-le (length c.args.file.now) c.args.out.now (omega (arith, no_shorter c.requires.expandable, c.requires.file_in_bounds));
       order_len = c.requires.order_len;
       versions_len = c.requires.versions_len;
       uses_len = c.requires.uses_len;
@@ -30,7 +30,7 @@ judge-judged-requires c =
     }
 
 pub returns-in-Failed : goal.returns-in-Failed
-returns-in-Failed c = calls-refused c.args.file.now c.requires.expandable.few-vertices c.judge-judged.ensures c.in-Failed.is refl
+returns-in-Failed c = calls_refused c.args.file.now c.requires.expandable.few_vertices c.judge-judged.ensures c.in-Failed.is refl
 
 pub write-e-requires : goal.write-e-requires
 write-e-requires c =
@@ -39,15 +39,15 @@ write-e-requires c =
     record {
       read_as = c.requires.read_as;
       interfaces = can.interfaces;
-      file_bound = can.few-edges;
-      file_bound_2 = can.few-vertices;
+      file_bound = can.few_edges;
+      file_bound_2 = can.few_vertices;
       vertices_value = c.requires.count_value;
       firsts = c.requires.firsts;
-      arrivals = c.judge-judged.ensures.arrivals-are c.in_default.is;
+      arrivals = c.judge-judged.ensures.arrivals_are c.in_default.is;
       file_in_bounds = omega (arith, c.requires.file_in_bounds, front);
     }
 
 pub returns : goal.returns
 returns c =
-    calls-expanded c.args.file.now c.requires.expandable.few-vertices c.judge-judged.ensures
+    calls_expanded c.args.file.now c.requires.expandable.few_vertices c.judge-judged.ensures
     (c.judge-judged.new.judged ++ drop (length c.args.file.now) c.args.out.now) c.in_default.is c.write-e.ensures.value c.write-e.ensures.out_after

@@ -11,16 +11,16 @@ use Rattle.expansion.proofs.expand_within.Goals.{Start}
 
 -- a part of a slice that is long enough
 fits : (s : Start) (l : List ℕ) → 8 * vertices s.args.file.now ≤ length l → 8 * s.args.h.vertices ≤ length l
-fits s l e = omega (arith, s.requires.read_as.heads.vertices-are, e)
+fits s l e = omega (arith, s.requires.read_as.heads.vertices_are, e)
 
-fits-order : (s : Start) → s.args.h.edges ≤ length s.args.order.now
-fits-order s = omega (arith, s.requires.read_as.heads.edges_are, s.requires.file_in_bounds_2)
+fits_order : (s : Start) → s.args.h.edges ≤ length s.args.order.now
+fits_order s = omega (arith, s.requires.read_as.heads.edges_are, s.requires.file_in_bounds_2)
 
 part : (s : Start) (l : List ℕ) → 8 * vertices s.args.file.now ≤ length l → length (take (8 * s.args.h.vertices) l) ≡ 8 * vertices s.args.file.now
-part s l e = length-take-le (8 * s.args.h.vertices) l (fits s l e) ∙ ap (λ (n : ℕ). 8 * n) s.requires.read_as.heads.vertices-are
+part s l e = length-take-le (8 * s.args.h.vertices) l (fits s l e) ∙ ap (λ (n : ℕ). 8 * n) s.requires.read_as.heads.vertices_are
 
 pub slice_bounds-expand_with-end-2 : goal.slice_bounds-expand_with-end-2
-slice_bounds-expand_with-end-2 c = sym (length-take-le c.args.h.edges c.args.order.now (fits-order (goal.at.slice_bounds-expand_with-end-2 c).Start))
+slice_bounds-expand_with-end-2 c = sym (length-take-le c.args.h.edges c.args.order.now (fits_order (goal.at.slice_bounds-expand_with-end-2 c).Start))
 
 pub slice_bounds-expand_with-end-4 : goal.slice_bounds-expand_with-end-4
 slice_bounds-expand_with-end-4 c = sym (length-take-le (8 * c.args.h.vertices) c.args.versions.now (fits (goal.at.slice_bounds-expand_with-end-4 c).Start c.args.versions.now c.requires.file_in_bounds_3))
@@ -54,7 +54,7 @@ expand_with-requires c =
       firsts = c.requires.firsts;
       count_value = c.requires.count_value;
       file_in_bounds = c.requires.file_in_bounds;
-      order_len = length-take-le c.args.h.edges c.args.order.now (fits-order (goal.at.expand_with-requires c).Start) ∙ c.requires.read_as.heads.edges_are;
+      order_len = length-take-le c.args.h.edges c.args.order.now (fits_order (goal.at.expand_with-requires c).Start) ∙ c.requires.read_as.heads.edges_are;
       versions_len = part (goal.at.expand_with-requires c).Start c.args.versions.now c.requires.file_in_bounds_3;
       uses_len = part (goal.at.expand_with-requires c).Start c.args.uses.now c.requires.file_in_bounds_4;
       brought_len = part (goal.at.expand_with-requires c).Start c.args.brought.now c.requires.file_in_bounds_5;

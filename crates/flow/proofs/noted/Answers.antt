@@ -2,14 +2,14 @@
 use mathlib.Core.Path.{refl, ap}
 use lib.Bits.{bit_or}
 use lib.ListN.{get_or}
-use Rattle.words.proofs.Filling.{fill-begin, fill-next, fill_end}
+use Rattle.words.proofs.Filling.{fill_begin, fill_next, fill_end}
 use Rattle.flow.proofs.noted.Goals as goal
 
 pub loop-a-init : goal.loop-a-init
-loop-a-init c = fill-begin _ refl
+loop-a-init c = fill_begin _ refl
 
 pub loop-a-preserved : goal.loop-a-preserved
-loop-a-preserved c = fill-next c.loop-a.invariant c.loop-a-test.true (ap (bit_or (get_or c.args.note c.loop-a.a 0)) c.half_difference.ensures)
+loop-a-preserved c = fill_next c.loop-a.invariant c.loop-a-test.true (ap (bit_or (get_or c.args.note c.loop-a.a 0)) c.half_difference.ensures)
 
 pub returns : goal.returns
 returns c = fill_end c.loop-a.invariant c.loop-a-test.false

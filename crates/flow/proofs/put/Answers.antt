@@ -1,16 +1,16 @@
 -- `flow::put` meets its contract: a row is replaced.
 use mathlib.Core.Path.{refl}
-use Rattle.words.proofs.Replaced.{replacing-begin, replacing-next, replacing-end}
+use Rattle.words.proofs.Replaced.{replacing_begin, replacing_next, replacing_end}
 use Rattle.flow.proofs.put.Goals as goal
 
 pub loop-a-init : goal.loop-a-init
-loop-a-init c = replacing-begin _ _ _ _
+loop-a-init c = replacing_begin _ _ _ _
 
 pub loop-a-preserved : goal.loop-a-preserved
-loop-a-preserved c = replacing-next c.loop-a.invariant c.loop-a-test.true refl refl
+loop-a-preserved c = replacing_next c.loop-a.invariant c.loop-a-test.true refl refl
 
 pub shape_of-sets : goal.shape_of-sets
 shape_of-sets c = c.loop-a.invariant.sized
 
 pub returns : goal.returns
-returns c = replacing-end c.loop-a.invariant c.loop-a-test.false
+returns c = replacing_end c.loop-a.invariant c.loop-a-test.false

@@ -2,7 +2,7 @@
 use mathlib.Core.Path.{ap, ◌∙◌}
 use lib.ListN.{length}
 use Rattle.words.proofs.Tables.{table-length}
-use Rattle.halves.proofs.Tables.{tables-given, solved-by}
+use Rattle.halves.proofs.Tables.{tables_given, solved_by}
 use Rattle.halves.proofs.solve_high.Goals as goal
 
 pub solve-rounds-requires : goal.solve-rounds-requires
@@ -11,7 +11,7 @@ solve-rounds-requires c =
     record {
       order = c.requires.order;
       edges_bound = c.requires.edges_bound;
-      tables = tables-given c.requires.tables size;
+      tables = tables_given c.requires.tables size;
       sets_bound = c.requires.halves_bound;
     }
 
@@ -19,5 +19,5 @@ pub returns : goal.returns
 returns c =
     record {
       sets_after = c.put_high.ensures;
-      solved = solved-by c.take_high.ensures c.solve-rounds.ensures;
+      solved = solved_by c.take_high.ensures c.solve-rounds.ensures;
     }

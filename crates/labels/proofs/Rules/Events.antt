@@ -7,7 +7,7 @@ use Prim.Native.Nat.{ℕ, ◌+◌, ◌<◌}
 use native.Mathlib.Omega.{arith}
 use borrow.Author.Tests.{ltb-true}
 use lib.Dec.{eqb, ltb, lit<}
-use Rattle.words.proofs.Tests.{at-cond}
+use Rattle.words.proofs.Tests.{at_cond}
 use Rattle.routine.specs.declared.action.Access.TheVariants.{Read, Define, Modify, Kill}
 use Rattle.routine.specs.declared.action.Action.{Action}
 use Rattle.routine.specs.declared.action.Action.TheVariants.{Nothing, Reference, Remap, Unknown}
@@ -25,42 +25,42 @@ InWidth x = version_of x < width
 byte_fits : (b : ℕ) → InWidth (action_of b)
 unfolding action_of
 byte_fits b =
-    at-cond InWidth (eqb b 0x00) (λ _. lit< tt) (λ _.
-    at-cond InWidth (eqb b 0x10) (λ _. lit< tt) (λ _.
-    at-cond InWidth (eqb b 0x20) (λ _. lit< tt) (λ _.
-    at-cond InWidth (eqb b 0x30) (λ _. lit< tt) (λ _.
-    at-cond InWidth (eqb b 0x80) (λ _. lit< tt) (λ _.
-    at-cond InWidth (ltb b 0x40) (λ _. lit< tt) (λ _.
-    at-cond InWidth (ltb b (0x40 + width)) (λ h. omega (arith, ltb-true b (0x40 + width) h)) (λ _. lit< tt)))))))
+    at_cond InWidth (eqb b 0x00) (λ _. lit< tt) (λ _.
+    at_cond InWidth (eqb b 0x10) (λ _. lit< tt) (λ _.
+    at_cond InWidth (eqb b 0x20) (λ _. lit< tt) (λ _.
+    at_cond InWidth (eqb b 0x30) (λ _. lit< tt) (λ _.
+    at_cond InWidth (eqb b 0x80) (λ _. lit< tt) (λ _.
+    at_cond InWidth (ltb b 0x40) (λ _. lit< tt) (λ _.
+    at_cond InWidth (ltb b (0x40 + width)) (λ h. omega (arith, ltb-true b (0x40 + width) h)) (λ _. lit< tt)))))))
 
-pub action-fits : (file : List ℕ) (a v : ℕ) → version_of (action file a v) < width
+pub action_fits : (file : List ℕ) (a v : ℕ) → version_of (action file a v) < width
 unfolding action
-action-fits file a v = byte_fits (action_byte file a v)
+action_fits file a v = byte_fits (action_byte file a v)
 
 -- every version is below the width
-pub version-fits : (file : List ℕ) (a : ℕ) → Proper file a → (v : ℕ) → version file a v < width
+pub version_fits : (file : List ℕ) (a : ℕ) → Proper file a → (v : ℕ) → version file a v < width
 unfolding version event action
-version-fits file a proper v =
-    at-cond InWidth (eqb v entry || (eqb v (exit file) && is_out_or_inout (kind file a))) (λ _. proper.initial-fits) (λ _. action-fits file a v)
+version_fits file a proper v =
+    at_cond InWidth (eqb v entry || (eqb v (exit file) && is_out_or_inout (kind file a))) (λ _. proper.initial_fits) (λ _. action_fits file a v)
 
 -- entry labels every array as a remapping to its initial version
-pub entry-remaps : (file : List ℕ) (a : ℕ) → event file a entry ≡ Remap (initial file a)
+pub entry_remaps : (file : List ℕ) (a : ℕ) → event file a entry ≡ Remap (initial file a)
 unfolding event
-entry-remaps file a = refl
+entry_remaps file a = refl
 
 -- at any other vertex but the exit the action is the event
-pub inner-event : (file : List ℕ) (a v : ℕ) → eqb v entry ≡ false → eqb v (exit file) ≡ false → event file a v ≡ action file a v
+pub inner_event : (file : List ℕ) (a v : ℕ) → eqb v entry ≡ false → eqb v (exit file) ≡ false → event file a v ≡ action file a v
 unfolding event
-inner-event file a v first last =
+inner_event file a v first last =
     ap₂ (λ (p q : Bool). cond (p || (q && is_out_or_inout (kind file a))) (Remap (initial file a)) (action file a v)) first last
 
 -- what holds of each kind of event holds of every event
-pub by-event : (P : Action → Type 0) → P Nothing → P (Reference Read) → P (Reference Define) → P (Reference Modify) → P (Reference Kill)
+pub by_event : (P : Action → Type 0) → P Nothing → P (Reference Read) → P (Reference Define) → P (Reference Modify) → P (Reference Kill)
     → ((k : ℕ) → P (Remap k)) → P Unknown → (x : Action) → P x
-by-event P n r d m l k u Nothing = n
-by-event P n r d m l k u (Reference Read) = r
-by-event P n r d m l k u (Reference Define) = d
-by-event P n r d m l k u (Reference Modify) = m
-by-event P n r d m l k u (Reference Kill) = l
-by-event P n r d m l k u (Remap j) = k j
-by-event P n r d m l k u Unknown = u
+by_event P n r d m l k u Nothing = n
+by_event P n r d m l k u (Reference Read) = r
+by_event P n r d m l k u (Reference Define) = d
+by_event P n r d m l k u (Reference Modify) = m
+by_event P n r d m l k u (Reference Kill) = l
+by_event P n r d m l k u (Remap j) = k j
+by_event P n r d m l k u Unknown = u

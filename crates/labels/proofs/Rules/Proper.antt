@@ -20,9 +20,9 @@ use Rattle.sets.specs.Sets.{width}
 -- edges end below the vertex count, none enters the entry, none leaves the exit; the initial version is below the width of a set
 pub record Proper (file : List ℕ) (a : ℕ) : Type 0 where
   pub ends : Ends (edge_bytes file) (vertices file)
-  pub none-enters : (v : ℕ) → Edge (edge_bytes file) v entry → ⊥
-  pub none-leaves : (v : ℕ) → Edge (edge_bytes file) (exit file) v → ⊥
-  pub initial-fits : initial file a < width
+  pub none_enters : (v : ℕ) → Edge (edge_bytes file) v entry → ⊥
+  pub none_leaves : (v : ℕ) → Edge (edge_bytes file) (exit file) v → ⊥
+  pub initial_fits : initial file a < width
 
 -- a number behind a part
 pub word-drop : (n : ℕ) (s : List ℕ) (at : ℕ) → word (drop n s) at ≡ word s (n + at)
@@ -31,11 +31,11 @@ word-drop n s at = simp (get_or-drop, add_assoc)
 
 -- ---- the edges of the file
 
-pub edge-count : (file : List ℕ) → Laid file → edge_count (edge_bytes file) ≡ edges file
-edge-count file l = rw length-drop (omega (arith, l.ends))
+pub edge_count_lem : (file : List ℕ) → Laid file → edge_count (edge_bytes file) ≡ edges file
+edge_count_lem file l = rw length-drop (omega (arith, l.ends))
 
-pub edge-from : (file : List ℕ) (i : ℕ) → edge_from (edge_bytes file) i ≡ (edge_of file i).from
-edge-from file i = word-drop (edges_at file) file (4 * i)
+pub edge_from_lem : (file : List ℕ) (i : ℕ) → edge_from (edge_bytes file) i ≡ (edge_of file i).from
+edge_from_lem file i = word-drop (edges_at file) file (4 * i)
 
 pub edge_to_is : (file : List ℕ) (i : ℕ) → edge_to (edge_bytes file) i ≡ (edge_of file i).to
 edge_to_is file i = word-drop (edges_at file) file (4 * i + 2) ∙ ap (word file) (omega arith)
@@ -44,20 +44,20 @@ edge_to_is file i = word-drop (edges_at file) file (4 * i + 2) ∙ ap (word file
 
 module _ (file : List ℕ) (w : WellFormed file) where
   limits : (i : ℕ) → i < edge_count (edge_bytes file) → EdgeLimits (edge_of file i) (vertices file)
-  limits i h = w.edge-limits (omega (arith, edge-count file w.laid))
+  limits i h = w.edge_limits (omega (arith, edge_count_lem file w.laid))
 
   -- its edges are among its vertices
-  pub ends-within : Ends (edge_bytes file) (vertices file)
-  ends-within = record {
-    froms = λ i h. omega (arith, edge-from file i, limits i h);
+  pub ends_within_lem : Ends (edge_bytes file) (vertices file)
+  ends_within_lem = record {
+    froms = λ i h. omega (arith, edge_from_lem file i, limits i h);
     tos = λ i h. omega (arith, edge_to_is file i, limits i h);
   }
 
   -- each of its arrays has what the rules need
   pub proper : (a : ℕ) → a < arrays file → Proper file a
-  proper a in-a = record {
-    ends = ends-within;
-    none-enters = λ v e. (limits e.place e.listed).to-other (sym (edge_to_is file e.place) ∙ e.enters);
-    none-leaves = λ v e. (limits e.place e.listed).from-other (sym (edge-from file e.place) ∙ e.leaves);
-    initial-fits = omega (arith, w.array-limits in-a);
+  proper a in_a = record {
+    ends = ends_within_lem;
+    none_enters = λ v e. (limits e.place e.listed).to_other (sym (edge_to_is file e.place) ∙ e.enters);
+    none_leaves = λ v e. (limits e.place e.listed).from_other (sym (edge_from_lem file e.place) ∙ e.leaves);
+    initial_fits = omega (arith, w.array_limits in_a);
   }

@@ -3,7 +3,7 @@ use mathlib.Core.Path.{sym, ap₂}
 use Prim.Native.Nat.{ℕ, ◌+◌, ◌*◌}
 use native.Mathlib.Omega.{arith}
 use Rattle.words.specs.Words.{word}
-use Rattle.listing.proofs.Words.{word-beyond}
+use Rattle.listing.proofs.Words.{word_beyond}
 use Rattle.listing.proofs.word.Goals as goal
 
 pub overflow_mul-result : goal.overflow_mul-result
@@ -23,6 +23,6 @@ returns-then-at-s c =
 pub returns : goal.returns
 returns c =
     record {
-      value = sym (word-beyond c.args.s.now c.args.at (omega arith));
+      value = sym (word_beyond c.args.s.now c.args.at (omega arith));
       upper_bound = omega arith;
     }

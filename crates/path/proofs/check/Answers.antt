@@ -16,18 +16,18 @@ returns-in-Failed c =
       taken_after = λ f. absurd (never e f);
     }
 
-some-vertex : (c : In_default) → 0 < steps c.args.path.now
-some-vertex c =
+some_vertex : (c : In_default) → 0 < steps c.args.path.now
+some_vertex c =
     let e = sym c.check_length-length.ensures ∙ c.in_default.is in
     search parts
 
-few-vertices : (c : In_default) → steps c.args.path.now ≤ 4096
-few-vertices c =
+few_vertices : (c : In_default) → steps c.args.path.now ≤ 4096
+few_vertices c =
     let e = sym c.check_length-length.ensures ∙ c.in_default.is in
     search parts
 
 pub check_start-start-requires : goal.check_start-start-requires
-check_start-start-requires c = some-vertex c
+check_start-start-requires c = some_vertex c
 
 pub returns-in-Failed-start : goal.returns-in-Failed-start
 unfolding path_check
@@ -42,7 +42,7 @@ pub check_arrivals-requires : goal.check_arrivals-requires
 check_arrivals-requires c =
     record {
       read_as = c.requires.read_as;
-      path_nonzero = (some-vertex (goal.at.check_arrivals-requires c).In_default, few-vertices (goal.at.check_arrivals-requires c).In_default);
+      path_nonzero = (some_vertex (goal.at.check_arrivals-requires c).In_default, few_vertices (goal.at.check_arrivals-requires c).In_default);
       taken_value = c.requires.taken_value;
     }
 

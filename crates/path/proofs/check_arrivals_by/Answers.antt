@@ -3,13 +3,13 @@ use mathlib.Core.Path.{◌≡◌, sym, ap, ◌∙◌}
 use Prim.Native.Nat.{ℕ, ◌-◌}
 use native.Mathlib.Omega.{arith}
 use lib.ListN.{length, length-replicate}
-use Rattle.refusal.proofs.Checks.{scan-start, scan-stop, scan-next, scan-done}
+use Rattle.refusal.proofs.Checks.{scan_start, scan_stop, scan_next, scan_done}
 use Rattle.routine.specs.Layout.{edges}
 use Rattle.words.specs.Tables.{table}
 use Rattle.words.proofs.Tables.{table-length}
 use Rattle.path.specs.Passes.{passes_up_to}
 use Rattle.path.specs.Paths.{steps}
-use Rattle.path.proofs.Counted.{never, counts-begin}
+use Rattle.path.proofs.Counted.{never, counts_begin}
 use Rattle.path.proofs.Paths.{arrivals}
 use Rattle.path.proofs.check_arrivals_by.Goals as goal
 use Rattle.path.proofs.check_arrivals_by.Goals.{At-loop-i}
@@ -19,7 +19,7 @@ long : (c : At-loop-i) → length c.loop-i.taken ≡ length c.args.taken.now
 long c = let n = edges c.args.file.now in ap length c.loop-i.invariant.1 ∙ table-length _ n ∙ sym (ap length c.requires.taken_value ∙ length-replicate n 0)
 
 pub loop-i-init : goal.loop-i-init
-loop-i-init c = (scan-start _ _, counts-begin c.args.file.now c.args.path.now c.requires.taken_value)
+loop-i-init c = (scan_start _ _, counts_begin c.args.file.now c.args.path.now c.requires.taken_value)
 
 pub pass-verdict-requires : goal.pass-verdict-requires
 pass-verdict-requires c =
@@ -34,14 +34,14 @@ pub returns-in-Failed : goal.returns-in-Failed
 returns-in-Failed c =
     let e = c.in-Failed.is in
     record {
-      value = scan-stop c.loop-i.invariant.0 (omega arith) c.pass-verdict.ensures.value e ∙ arrivals _ _;
+      value = scan_stop c.loop-i.invariant.0 (omega arith) c.pass-verdict.ensures.value e ∙ arrivals _ _;
       taken_after = λ f. absurd (never e f);
     }
 
 pub loop-i-preserved : goal.loop-i-preserved
 loop-i-preserved c =
     let e = c.in_default.is in
-    (scan-next c.loop-i.invariant.0 (omega arith) c.pass-verdict.ensures.value e, c.pass-verdict.ensures.taken_after e)
+    (scan_next c.loop-i.invariant.0 (omega arith) c.pass-verdict.ensures.value e, c.pass-verdict.ensures.taken_after e)
 
 pub shape_of-taken : goal.shape_of-taken
 shape_of-taken c = long (goal.at.shape_of-taken c).At-loop-i
@@ -50,6 +50,6 @@ pub returns : goal.returns
 returns c =
     let done : c.loop-i.i ≡ steps c.args.path.now - 1 = omega (arith, c.loop-i.invariant.0.within, c.loop-i-test.false) in
     record {
-      value = scan-done c.loop-i.invariant.0 (omega arith) ∙ arrivals _ _;
+      value = scan_done c.loop-i.invariant.0 (omega arith) ∙ arrivals _ _;
       taken_after = λ _. c.loop-i.invariant.1 ∙ ap (λ (i : ℕ). table (passes_up_to c.args.file.now c.args.path.now i) (edges c.args.file.now)) done;
     }

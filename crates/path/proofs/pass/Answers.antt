@@ -6,7 +6,7 @@ use native.Mathlib.Omega.{arith}
 use lib.ListN.{length, get_or}
 use Rattle.path.specs.Paths.{vertex_at, joins}
 use Rattle.path.specs.Places.{Finds}
-use Rattle.path.proofs.Counted.{no-arrival, arrival, never, passes-few, counts-length, count_at, counts-next}
+use Rattle.path.proofs.Counted.{no_arrival, arrival, never, passes_few, counts-length, count_at, counts_next}
 use Rattle.routine.specs.Layout.{edges}
 use Rattle.path.proofs.pass.Goals as goal
 use Rattle.path.proofs.pass.Goals.{After-find-found, In-At}
@@ -25,7 +25,7 @@ returns-in_default c =
     let a = c.args in
     let none = subst (Finds a.file.now (vertex_at a.path.now a.i) (vertex_at a.path.now (a.i + 1))) c.in_default.is (seen (goal.at.returns-in_default c).After-find-found) in
     record {
-      value = no-arrival a.file.now a.path.now a.i none;
+      value = no_arrival a.file.now a.path.now a.i none;
       taken_after = λ e. absurd (never refl e);
     }
 
@@ -45,10 +45,10 @@ room c =
 
 few : (c : In-At) → get_or c.args.taken.now c.in-At.place 0 < 4096
 few c =
-    omega (arith, count_at c.args.file.now c.args.path.now c.args.i c.requires.read_as.well c.requires.taken_value (passed c).0, passes-few c.args.file.now c.args.path.now c.args.i c.in-At.place, c.requires.i_bound.1)
+    omega (arith, count_at c.args.file.now c.args.path.now c.args.i c.requires.read_as.well c.requires.taken_value (passed c).0, passes_few c.args.file.now c.args.path.now c.args.i c.in-At.place, c.requires.i_bound.1)
 
 pub offset_bounds-taken-place : goal.offset_bounds-taken-place
-offset_bounds-taken-place c = omega (arith, (passed c).0, c.requires.read_as.well.laid.limits.few-edges)
+offset_bounds-taken-place c = omega (arith, (passed c).0, c.requires.read_as.well.laid.limits.few_edges)
 
 pub bounds-taken-place : goal.bounds-taken-place
 bounds-taken-place c = room (goal.at.bounds-taken-place c).In-At
@@ -64,5 +64,5 @@ returns c =
     let p = passed (goal.at.returns c).In-At in
     record {
       value = arrival c.args.file.now c.args.path.now c.args.i p.0 p.1;
-      taken_after = λ _. counts-next c.args.file.now c.args.path.now c.args.i c.requires.read_as.well c.requires.taken_value p.0 p.1;
+      taken_after = λ _. counts_next c.args.file.now c.args.path.now c.args.i c.requires.read_as.well c.requires.taken_value p.0 p.1;
     }

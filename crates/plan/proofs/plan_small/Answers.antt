@@ -4,7 +4,7 @@ use Rattle.plan.proofs.plan_small.Goals as goal
 
 pub plan_within-requires : goal.plan_within-requires
 plan_within-requires c =
-    let n = c.requires.read_as.heads.vertices-are in
+    let n = c.requires.read_as.heads.vertices_are in
     let e = c.requires.read_as.heads.edges_are in
     let v = c.requires.vertices_bound.0 in
     let l = c.requires.vertices_bound.1 in

@@ -1,7 +1,7 @@
 -- `plan_with` meets its contract: 20 and 21, the reply, and where it is no refusal the kept sets and the plan.
 use mathlib.Core.Path.{◌≡◌, ◌∙◌}
 use Rattle.refusal.specs.declared.Verdict.TheVariants.{Passed}
-use Rattle.planned.proofs.Ways.{denied-planned, plan-passed, plan-fits, written-planned}
+use Rattle.planned.proofs.Ways.{denied_planned, plan_passed, plan_fits, written_planned}
 use Rattle.plan.proofs.plan_with.Goals as goal
 use Rattle.plan.proofs.plan_with.Goals.{In_default}
 
@@ -31,13 +31,13 @@ reply-reply-requires c =
 pub returns-in-Denied : goal.returns-in-Denied
 returns-in-Denied c =
     let a = c.args in
-    denied-planned a.file.now a.out.now c.reply-reply.ensures.answer c.in-Denied.is
+    denied_planned a.file.now a.out.now c.reply-reply.ensures.answer c.in-Denied.is
 
 -- 20 and 21 are passed
 passed : (c : In_default) → c.prepare-checked.result.verdict ≡ Passed
 passed c =
     let a = c.args in
-    c.prepare-checked.ensures.checked.answers ∙ plan-passed a.file.now a.out.now c.reply-reply.ensures.answer c.in_default.is
+    c.prepare-checked.ensures.checked.answers ∙ plan_passed a.file.now a.out.now c.reply-reply.ensures.answer c.in_default.is
 
 pub kept-requires : goal.kept-requires
 kept-requires c =
@@ -45,7 +45,7 @@ kept-requires c =
       read_as = c.requires.read_as;
       edge_order = c.prepare-checked.ensures.edge_order;
       versions = c.prepare-checked.ensures.versions;
-      letters = c.prepare-checked.ensures.checked.letters-are (passed (goal.at.kept-requires c).In_default);
+      letters = c.prepare-checked.ensures.checked.letters_are (passed (goal.at.kept-requires c).In_default);
       sets_len = c.requires.kept_len;
       gives_len = c.prepare-checked.auto.gives ∙ c.requires.gives_len;
       passes_len = c.prepare-checked.auto.passes ∙ c.requires.passes_len;
@@ -58,11 +58,11 @@ write-requires c =
       read_as = c.requires.read_as;
       firsts = c.reply-reply.ensures.counts _ c.in_default.is;
       tabled = record {
-        versions-are = c.prepare-checked.ensures.versions;
-        reaching-are = c.prepare-checked.ensures.checked.reaching-are (passed (goal.at.write-requires c).In_default);
-        letters-and-kept = record { letters-are = c.prepare-checked.ensures.checked.letters-are (passed (goal.at.write-requires c).In_default); kept-are = c.kept.ensures.cells };
+        versions_are = c.prepare-checked.ensures.versions;
+        reaching_are = c.prepare-checked.ensures.checked.reaching_are (passed (goal.at.write-requires c).In_default);
+        letters_and_kept = record { letters_are = c.prepare-checked.ensures.checked.letters_are (passed (goal.at.write-requires c).In_default); kept_are = c.kept.ensures.cells };
       };
-      file_in_bounds = plan-fits c.args.file.now c.args.out.now c.reply-reply.ensures.answer c.in_default.is;
+      file_in_bounds = plan_fits c.args.file.now c.args.out.now c.reply-reply.ensures.answer c.in_default.is;
     }
 
 pub shape_of-order : goal.shape_of-order
@@ -90,4 +90,4 @@ pub shape_of-halves : goal.shape_of-halves
 shape_of-halves c = c.kept.auto.halves ∙ c.prepare-checked.auto.halves
 
 pub returns : goal.returns
-returns c = written-planned c.args.file.now c.args.out.now c.reply-reply.ensures.answer c.in_default.is c.write.ensures
+returns c = written_planned c.args.file.now c.args.out.now c.reply-reply.ensures.answer c.in_default.is c.write.ensures

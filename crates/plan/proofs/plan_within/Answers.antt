@@ -11,16 +11,16 @@ use Rattle.plan.proofs.plan_within.Goals.{Start}
 
 -- a part of a slice that is long enough
 fits : (s : Start) (l : List ℕ) → 8 * vertices s.args.file.now ≤ length l → 8 * s.args.h.vertices ≤ length l
-fits s l e = omega (arith, s.requires.read_as.heads.vertices-are, e)
+fits s l e = omega (arith, s.requires.read_as.heads.vertices_are, e)
 
-fits-order : (s : Start) → s.args.h.edges ≤ length s.args.order.now
-fits-order s = omega (arith, s.requires.read_as.heads.edges_are, s.requires.file_in_bounds)
+fits_order : (s : Start) → s.args.h.edges ≤ length s.args.order.now
+fits_order s = omega (arith, s.requires.read_as.heads.edges_are, s.requires.file_in_bounds)
 
 part : (s : Start) (l : List ℕ) → 8 * vertices s.args.file.now ≤ length l → length (take (8 * s.args.h.vertices) l) ≡ 8 * vertices s.args.file.now
-part s l e = length-take-le (8 * s.args.h.vertices) l (fits s l e) ∙ ap (λ (n : ℕ). 8 * n) s.requires.read_as.heads.vertices-are
+part s l e = length-take-le (8 * s.args.h.vertices) l (fits s l e) ∙ ap (λ (n : ℕ). 8 * n) s.requires.read_as.heads.vertices_are
 
 pub slice_bounds-plan_with-end-2 : goal.slice_bounds-plan_with-end-2
-slice_bounds-plan_with-end-2 c = sym (length-take-le c.args.h.edges c.args.order.now (fits-order (goal.at.slice_bounds-plan_with-end-2 c).Start))
+slice_bounds-plan_with-end-2 c = sym (length-take-le c.args.h.edges c.args.order.now (fits_order (goal.at.slice_bounds-plan_with-end-2 c).Start))
 
 pub slice_bounds-plan_with-end-4 : goal.slice_bounds-plan_with-end-4
 slice_bounds-plan_with-end-4 c = sym (length-take-le (8 * c.args.h.vertices) c.args.versions.now (fits (goal.at.slice_bounds-plan_with-end-4 c).Start c.args.versions.now c.requires.file_in_bounds_2))
@@ -56,7 +56,7 @@ pub plan_with-requires : goal.plan_with-requires
 plan_with-requires c =
     record {
       read_as = c.requires.read_as;
-      order_len = length-take-le c.args.h.edges c.args.order.now (fits-order (goal.at.plan_with-requires c).Start) ∙ c.requires.read_as.heads.edges_are;
+      order_len = length-take-le c.args.h.edges c.args.order.now (fits_order (goal.at.plan_with-requires c).Start) ∙ c.requires.read_as.heads.edges_are;
       versions_len = part (goal.at.plan_with-requires c).Start c.args.versions.now c.requires.file_in_bounds_2;
       uses_len = part (goal.at.plan_with-requires c).Start c.args.uses.now c.requires.file_in_bounds_3;
       letters_len = part (goal.at.plan_with-requires c).Start c.args.letters.now c.requires.file_in_bounds_4;

@@ -21,20 +21,20 @@ module _ {x : Action} {y : Access} (step a version stamp : ℕ) (e : x ≡ Refer
   one : record_bytes (record_of y step a version stamp) ≡ records_bytes (records_at x step a version stamp)
   one = rw (e, append-nil)
 
-  one-length : length (records_bytes (records_at x step a version stamp)) ≡ 10
-  one-length = ten x step a version stamp ∙ ap (λ (z : Action). 10 * cond (is_reference z) 1 0) e
+  one_length : length (records_bytes (records_at x step a version stamp)) ≡ 10
+  one_length = ten x step a version stamp ∙ ap (λ (z : Action). 10 * cond (is_reference z) 1 0) e
 
 pub write_record-requires : goal.write_record-requires
 write_record-requires c =
     let g = c.args in
-    omega (arith, one-length g.step g.a g.version g.stamp c.in-Reference.is, c.requires.stamp_in_bounds)
+    omega (arith, one_length g.step g.a g.version g.stamp c.in-Reference.is, c.requires.stamp_in_bounds)
 
 pub returns-in-Reference : goal.returns-in-Reference
 returns-in-Reference c =
     let g = c.args in
     let e = c.in-Reference.is in
     record {
-      value = sym (one-length g.step g.a g.version g.stamp e);
+      value = sym (one_length g.step g.a g.version g.stamp e);
       out_after = c.write_record.ensures ∙ ap (λ (r : Record). wrote g.out.now (record_bytes r)) c.made.ensures
           ∙ ap (λ (r : List ℕ). wrote g.out.now r) (one g.step g.a g.version g.stamp e);
     }

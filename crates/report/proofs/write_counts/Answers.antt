@@ -5,7 +5,7 @@ use native.Mathlib.Omega.{arith}
 use lib.ListN.{length, get_or}
 use Rattle.words.specs.Words.{bytes16}
 use Rattle.words.specs.Tables.{rows}
-use Rattle.words.proofs.Buffers.{begin, lies, lent, next_row, buffer-length, end}
+use Rattle.words.proofs.Buffers.{begin, lies, lent, next_row, buffer_length, end}
 use Rattle.report.proofs.Bytes.{counts-length}
 use Rattle.report.proofs.write_counts.Goals as goal
 use Rattle.report.proofs.write_counts.Goals.{At-loop-i}
@@ -38,7 +38,7 @@ pub loop-i-preserved : goal.loop-i-preserved
 loop-i-preserved c = next_row c.loop-i.invariant (here (goal.at.loop-i-preserved c).At-loop-i) (omega arith) {ys = c.write_count.new.out} c.write_count.ensures
 
 pub shape_of-out : goal.shape_of-out
-shape_of-out c = buffer-length c.loop-i.invariant
+shape_of-out c = buffer_length c.loop-i.invariant
 
 pub returns : goal.returns
 returns c = end c.loop-i.invariant (omega arith)

@@ -3,7 +3,7 @@ use mathlib.Core.Path.{◌≡◌, sym}
 use Prim.Native.Nat.{◌*◌}
 use native.Mathlib.Omega.{arith}
 use lib.ListN.{length}
-use Rattle.words.proofs.Buffers.{begin, lies, lent, next_row, buffer-length, end}
+use Rattle.words.proofs.Buffers.{begin, lies, lent, next_row, buffer_length, end}
 use Rattle.report.specs.Bytes.{carried_of, entries_of}
 use Rattle.state.specs.Carrying.{bare}
 use Rattle.report.proofs.Bytes.{entries-length}
@@ -30,7 +30,7 @@ pub loop-a-preserved : goal.loop-a-preserved
 loop-a-preserved c = next_row c.loop-a.invariant (here (goal.at.loop-a-preserved c).At-loop-a) (omega arith) {ys = c.write_entry.new.out} c.write_entry.ensures
 
 pub shape_of-out : goal.shape_of-out
-shape_of-out c = buffer-length c.loop-a.invariant
+shape_of-out c = buffer_length c.loop-a.invariant
 
 pub returns : goal.returns
 returns c = end c.loop-a.invariant (omega arith)

@@ -1,20 +1,20 @@
 -- `rounds` meets its contract: the reader's refusal is handed on, and the passes of a file that was read are counted.
 use mathlib.Core.Path.{◌≡◌, sym, ap, ◌∙◌}
-use Rattle.rounds.proofs.Ways.{read-denied}
+use Rattle.rounds.proofs.Ways.{read_denied}
 use Rattle.refusal.specs.declared.Verdict.TheVariants.{Passed}
-use Rattle.routine.proofs.Accepted.{accepted, read-passed, read-failed}
+use Rattle.routine.proofs.Accepted.{accepted, read_passed, read_failed}
 use Rattle.routine.specs.Reader.{read_check, denied_of}
 use Rattle.rounds.proofs.rounds.Goals as goal
 use Rattle.rounds.proofs.rounds.Goals.{After-any-calls}
 
 -- the routine was read
 passed : (c : After-any-calls) → read_check c.args.file.now ≡ Passed
-passed c = read-passed c.args.file.now (sym c.read-answer.ensures ∙ c.in-Routine.is)
+passed c = read_passed c.args.file.now (sym c.read-answer.ensures ∙ c.in-Routine.is)
 
 pub returns-in_default : goal.returns-in_default
 returns-in_default c =
     let e = c.in_default.is in
-    read-denied c.args.file.now c.args.out.now (read-failed c.args.file.now (sym c.read-answer.ensures ∙ e)) (c.denied.ensures ∙ ap denied_of e)
+    read_denied c.args.file.now c.args.out.now (read_failed c.args.file.now (sym c.read-answer.ensures ∙ e)) (c.denied.ensures ∙ ap denied_of e)
 
 pub any-calls-requires : goal.any-calls-requires
 any-calls-requires c = (accepted c.args.file.now (sym c.read-answer.ensures ∙ c.in-Routine.is)).1

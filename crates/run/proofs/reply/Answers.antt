@@ -4,20 +4,20 @@ use Prim.Native.Nat.{ℕ}
 use native.Mathlib.Omega.{arith}
 use Rattle.refusal.specs.declared.Refusal.TheVariants.{ShortReportBuffer}
 use Rattle.refusal.specs.declared.Reply.TheVariants.{Written, Denied}
-use Rattle.run.proofs.Ways.{run-denied, run-path-denied, run_short, run-written}
+use Rattle.run.proofs.Ways.{run_denied, run_path_denied, run_short, run_written}
 use Rattle.run.proofs.reply.Goals as goal
 
 pub returns-in-Failed : goal.returns-in-Failed
 returns-in-Failed c =
     record {
-      value = run-denied c.args.file.now c.args.path.now c.args.size c.requires.checked_value c.in-Failed.is;
+      value = run_denied c.args.file.now c.args.path.now c.args.size c.requires.checked_value c.in-Failed.is;
       taken = tt;
     }
 
 pub returns-in-Failed-followed : goal.returns-in-Failed-followed
 returns-in-Failed-followed c =
     record {
-      value = run-path-denied c.args.file.now c.args.path.now c.args.size c.requires.checked_value c.in_default.is c.check-followed.ensures.value c.in-Failed-followed.is;
+      value = run_path_denied c.args.file.now c.args.path.now c.args.size c.requires.checked_value c.in_default.is c.check-followed.ensures.value c.in-Failed-followed.is;
       taken = tt;
     }
 
@@ -42,6 +42,6 @@ returns c =
     let w = c.in_default-followed.is in
     record {
       value = ap Written c.length-needed.ensures
-          ∙ run-written c.args.file.now c.args.path.now c.args.size c.requires.checked_value c.in_default.is c.check-followed.ensures.value w (omega (arith, c.length-needed.ensures));
+          ∙ run_written c.args.file.now c.args.path.now c.args.size c.requires.checked_value c.in_default.is c.check-followed.ensures.value w (omega (arith, c.length-needed.ensures));
       taken = c.check-followed.ensures.taken_after w;
     }

@@ -4,19 +4,19 @@ use mathlib.Core.List.{List}
 use Prim.Native.Nat.{ℕ, ◌≤◌}
 use native.Mathlib.Omega.{arith}
 use lib.ListN.{length}
-use Rattle.calls.proofs.Bytes.{vertices-are, edges_are}
-use Rattle.calls.proofs.Interfaces.{interfaces-read}
+use Rattle.calls.proofs.Bytes.{vertices_are, edges_are}
+use Rattle.calls.proofs.Interfaces.{interfaces_read}
 use Rattle.calls.proofs.Parts.{size_is, size-count}
 use Rattle.calls.proofs.Written.{more_edges}
 use Rattle.calls.specs.Expanded.{expanded}
 use Rattle.calls.specs.Interfaces.{Expandable}
 use Rattle.calls.specs.Parts.{expanded_vertices}
-use Rattle.expansion.proofs.Expansion.{calls-failed, calls-passed, read-expanded, end_is, front-is}
+use Rattle.expansion.proofs.Expansion.{calls_failed, calls_passed, read_expanded, end_is, front_is}
 use Rattle.labels.specs.Routines.{ReadAs}
-use Rattle.run.proofs.Ways.{calls-denied, calls-ran}
+use Rattle.run.proofs.Ways.{calls_denied, calls_ran}
 use Rattle.run.specs.Calls.{RanRead}
-use Rattle.routine.proofs.Accepted.{passed-edges}
-use Rattle.routine.proofs.Form.{header-limits}
+use Rattle.routine.proofs.Accepted.{passed_edges}
+use Rattle.routine.proofs.Form.{header_limits}
 use Rattle.routine.specs.Layout.{vertices, edges}
 use Rattle.routine.specs.Reader.{denied_of}
 use Rattle.run.proofs.run_calls_within.Goals as goal
@@ -25,9 +25,9 @@ use Rattle.run.proofs.run_calls_within.Goals.{After-end_at-n, Start}
 can : (s : Start) → Expandable s.args.file.now
 can s = record {
   well = s.requires.calls_read.read.well;
-  interfaces = interfaces-read s.args.file.now s.requires.calls_read.passed;
-  few-edges = passed-edges s.args.file.now s.requires.calls_read.passed;
-  few-vertices = s.requires.file_bound;
+  interfaces = interfaces_read s.args.file.now s.requires.calls_read.passed;
+  few_edges = passed_edges s.args.file.now s.requires.calls_read.passed;
+  few_vertices = s.requires.file_bound;
 }
 
 -- the tables are large enough for the file too
@@ -54,10 +54,10 @@ expand_within-expanded-requires c =
 pub returns-in_default : goal.returns-in_default
 returns-in_default c =
     let e = c.in_default.is in
-    calls-denied c.args.file.now c.args.path.now c.args.out.now c.requires.calls_read.passed (calls-failed c.expand_within-expanded.ensures e) (c.denied.ensures ∙ ap denied_of e)
+    calls_denied c.args.file.now c.args.path.now c.args.out.now c.requires.calls_read.passed (calls_failed c.expand_within-expanded.ensures e) (c.denied.ensures ∙ ap denied_of e)
 
 pub end_at-n-requires : goal.end_at-n-requires
-end_at-n-requires c = header-limits (read-expanded c.expand_within-expanded.ensures c.in-Routine.is c.requires.calls_read.passed).heads
+end_at-n-requires c = header_limits (read_expanded c.expand_within-expanded.ensures c.in-Routine.is c.requires.calls_read.passed).heads
 
 -- the end of the expanded routine, within the bytes
 end : (c : After-end_at-n) → c.end_at-n.result ≡ length (expanded c.args.file.now)
@@ -67,17 +67,17 @@ pub slice_bounds-run_within-end : goal.slice_bounds-run_within-end
 slice_bounds-run_within-end c = omega (arith, end c, c.expand_within-expanded.auto.out, c.requires.file_in_bounds)
 
 pub slice_bounds-run_within-end-2 : goal.slice_bounds-run_within-end-2
-slice_bounds-run_within-end-2 c = end c ∙ sym (ap length (front-is c.expand_within-expanded.ensures c.in-Routine.is c.requires.calls_read.passed (end c)))
+slice_bounds-run_within-end-2 c = end c ∙ sym (ap length (front_is c.expand_within-expanded.ensures c.in-Routine.is c.requires.calls_read.passed (end c)))
 
 pub run_within-requires : goal.run_within-requires
 run_within-requires c =
     let e = c.in-Routine.is in
-    let is = front-is c.expand_within-expanded.ensures e c.requires.calls_read.passed (end (goal.at.run_within-requires c).After-end_at-n) in
+    let is = front_is c.expand_within-expanded.ensures e c.requires.calls_read.passed (end (goal.at.run_within-requires c).After-end_at-n) in
     let laid = c.requires.calls_read.read.well.laid in
-    let size = ap vertices is ∙ vertices-are c.args.file.now laid in
+    let size = ap vertices is ∙ vertices_are c.args.file.now laid in
     let count = ap edges is ∙ edges_are c.args.file.now laid in
     record {
-      read_as = subst (λ (l : List ℕ). ReadAs l c.in-Routine.e) (sym is) (read-expanded c.expand_within-expanded.ensures e c.requires.calls_read.passed);
+      read_as = subst (λ (l : List ℕ). ReadAs l c.in-Routine.e) (sym is) (read_expanded c.expand_within-expanded.ensures e c.requires.calls_read.passed);
       file_in_bounds = omega (arith, count, c.expand_within-expanded.auto.order, c.requires.file_in_bounds_2);
       file_in_bounds_2 = omega (arith, size, c.expand_within-expanded.auto.versions, c.requires.file_in_bounds_3);
       file_in_bounds_3 = omega (arith, size, c.expand_within-expanded.auto.uses, c.requires.file_in_bounds_4);
@@ -118,5 +118,5 @@ shape_of-halves c = c.run_within.auto.halves ∙ c.expand_within-expanded.auto.h
 pub returns : goal.returns
 returns c =
     let e = c.in-Routine.is in
-    calls-ran c.args.file.now c.args.path.now c.args.out.now c.requires.calls_read.passed c.requires.calls_read.some (calls-passed c.expand_within-expanded.ensures e)
-    (subst (λ (l : List ℕ). RanRead l c.args.path.now c.args.out.now c.run_within.result c.run_within.new.out) (front-is c.expand_within-expanded.ensures e c.requires.calls_read.passed (end (goal.at.returns c).After-end_at-n)) c.run_within.ensures)
+    calls_ran c.args.file.now c.args.path.now c.args.out.now c.requires.calls_read.passed c.requires.calls_read.some (calls_passed c.expand_within-expanded.ensures e)
+    (subst (λ (l : List ℕ). RanRead l c.args.path.now c.args.out.now c.run_within.result c.run_within.new.out) (front_is c.expand_within-expanded.ensures e c.requires.calls_read.passed (end (goal.at.returns c).After-end_at-n)) c.run_within.ensures)

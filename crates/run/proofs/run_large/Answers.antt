@@ -5,10 +5,10 @@ use Rattle.run.proofs.run_large.Goals as goal
 
 pub run_within-requires : goal.run_within-requires
 run_within-requires c =
-    let n = c.requires.heads.vertices-are in
+    let n = c.requires.heads.vertices_are in
     let e = c.requires.heads.edges_are in
-    let v = c.requires.well.laid.limits.few-vertices in
-    let l = c.requires.well.laid.limits.few-edges in
+    let v = c.requires.well.laid.limits.few_vertices in
+    let l = c.requires.well.laid.limits.few_edges in
     record {
       read_as = c.requires;
       file_in_bounds = omega (arith, n, e, v, l);

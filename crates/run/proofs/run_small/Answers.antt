@@ -5,7 +5,7 @@ use Rattle.run.proofs.run_small.Goals as goal
 
 pub run_within-requires : goal.run_within-requires
 run_within-requires c =
-    let n = c.requires.read_as.heads.vertices-are in
+    let n = c.requires.read_as.heads.vertices_are in
     let e = c.requires.read_as.heads.edges_are in
     let v = c.requires.vertices_bound.0 in
     let l = c.requires.vertices_bound.1 in

@@ -2,7 +2,7 @@
 use mathlib.Core.Path.{◌≡◌, refl, sym, subst, ◌∙◌}
 use Rattle.refusal.specs.declared.Reply.{Reply}
 use Rattle.refusal.specs.declared.Verdict.TheVariants.{Passed}
-use Rattle.run.proofs.Ways.{denied-ran, run-passed, run-follows, run-size, run_fits, written-ran}
+use Rattle.run.proofs.Ways.{denied_ran, run_passed, run_follows, run_size, run_fits, written_ran}
 use Rattle.run.specs.Calls.{Taken}
 use Rattle.run.proofs.run_with.Goals as goal
 use Rattle.run.proofs.run_with.Goals.{In-Written}
@@ -33,13 +33,13 @@ reply-reply-requires c =
 pub returns-in_default : goal.returns-in_default
 returns-in_default c =
     let a = c.args in
-    denied-ran a.file.now a.path.now a.out.now c.reply-reply.ensures.value c.in_default.is
+    denied_ran a.file.now a.path.now a.out.now c.reply-reply.ensures.value c.in_default.is
 
 -- 20 and 21 are passed
 passed : (c : In-Written) → c.prepare-checked.result.verdict ≡ Passed
 passed c =
     let a = c.args in
-    c.prepare-checked.ensures.checked.answers ∙ run-passed a.file.now a.path.now a.out.now c.reply-reply.ensures.value c.in-Written.is
+    c.prepare-checked.ensures.checked.answers ∙ run_passed a.file.now a.path.now a.out.now c.reply-reply.ensures.value c.in-Written.is
 
 pub kept-requires : goal.kept-requires
 kept-requires c =
@@ -47,7 +47,7 @@ kept-requires c =
       read_as = c.requires.read_as;
       edge_order = c.prepare-checked.ensures.edge_order;
       versions = c.prepare-checked.ensures.versions;
-      letters = c.prepare-checked.ensures.checked.letters-are (passed (goal.at.kept-requires c).In-Written);
+      letters = c.prepare-checked.ensures.checked.letters_are (passed (goal.at.kept-requires c).In-Written);
       sets_len = c.prepare-checked.auto.reaching ∙ c.requires.kept_len;
       gives_len = c.prepare-checked.auto.gives ∙ c.requires.gives_len;
       passes_len = c.prepare-checked.auto.passes ∙ c.requires.passes_len;
@@ -61,10 +61,10 @@ write-requires c =
     let w = c.in-Written.is in
     record {
       read_as = c.requires.read_as;
-      path_value = run-follows f h c.args.out.now c.reply-reply.ensures.value w;
-      letters_and_kept = record { letters-are = c.prepare-checked.ensures.checked.letters-are (passed (goal.at.write-requires c).In-Written); kept-are = c.kept.ensures.cells };
+      path_value = run_follows f h c.args.out.now c.reply-reply.ensures.value w;
+      letters_and_kept = record { letters_are = c.prepare-checked.ensures.checked.letters_are (passed (goal.at.write-requires c).In-Written); kept_are = c.kept.ensures.cells };
       taken_value = subst (λ (r : Reply). Taken r f h c.reply-reply.new.taken) w c.reply-reply.ensures.taken;
-      size_value = run-size f h c.args.out.now c.reply-reply.ensures.value w;
+      size_value = run_size f h c.args.out.now c.reply-reply.ensures.value w;
       size_in_bounds = run_fits f h c.args.out.now c.reply-reply.ensures.value w;
     }
 
@@ -93,4 +93,4 @@ pub shape_of-halves : goal.shape_of-halves
 shape_of-halves c = c.kept.auto.halves ∙ c.prepare-checked.auto.halves
 
 pub returns : goal.returns
-returns c = written-ran c.args.file.now c.args.path.now c.args.out.now (sym c.in-Written.is ∙ c.reply-reply.ensures.value) refl c.write.ensures
+returns c = written_ran c.args.file.now c.args.path.now c.args.out.now (sym c.in-Written.is ∙ c.reply-reply.ensures.value) refl c.write.ensures

@@ -3,9 +3,9 @@ use mathlib.Core.Path.{ap}
 use Prim.Native.Nat.{ℕ}
 use lib.Dec.{eqb}
 use Rattle.sets.specs.Sets.{has}
-use Rattle.sets.proofs.Laws.{test-shift}
+use Rattle.sets.proofs.Laws.{test_shift}
 use Rattle.sets.proofs.member.Goals as goal
 
 pub returns : goal.returns
 unfolding has
-returns c = ap (λ (n : ℕ). eqb n 1) (test-shift c.args.set c.args.k)
+returns c = ap (λ (n : ℕ). eqb n 1) (test_shift c.args.set c.args.k)

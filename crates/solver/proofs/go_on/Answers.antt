@@ -6,8 +6,8 @@ use borrow.Author.Tests.{not-true, not-false}
 use native.Mathlib.Omega.{arith}
 use lib.ListN.{length}
 use Rattle.flow.specs.Solver.{row_count}
-use Rattle.flow.proofs.Rows.{tables, made-length, going_more, going-stops}
-use Rattle.solver.proofs.Blocks.{round-done, closed-next, closed_all}
+use Rattle.flow.proofs.Rows.{tables, made_length, going_more, going_stops}
+use Rattle.solver.proofs.Blocks.{round_done, closed_next, closed_all}
 use Rattle.solver.proofs.go_on.Goals as goal
 use Rattle.solver.proofs.go_on.Goals.{At-loop-p}
 
@@ -15,7 +15,7 @@ module _ (c : At-loop-p) where
   size : length c.loop-p.sets ≡ length c.args.sets.now
   size =
       let a = c.args in
-      ap length c.loop-p.invariant.0.sets ∙ made-length a.edges.now a.order.now a.along a.gives.now a.passes.now (row_count a.sets.now) c.requires.order c.loop-p.done
+      ap length c.loop-p.invariant.0.sets ∙ made_length a.edges.now a.order.now a.along a.gives.now a.passes.now (row_count a.sets.now) c.requires.order c.loop-p.done
       ∙ sym c.requires.tables.whole
 
 pub loop-p-init : goal.loop-p-init
@@ -41,8 +41,8 @@ overflow_add-done c = omega (arith, c.loop-p.invariant.0.most)
 pub returns-then-not-p : goal.returns-then-not-p
 returns-then-not-p c =
     let a = c.args in
-    going-stops a.edges.now a.order.now a.along a.gives.now a.passes.now (row_count a.sets.now) c.requires.order c.requires.tables.ends c.loop-p.sets _ _ c.loop-p.done c.loop-p.invariant.0
-    (round-done a.edges.now a.along a.gives.now a.passes.now a.order.now c.round-p.ensures) (not-true _ c.if-not-p.true)
+    going_stops a.edges.now a.order.now a.along a.gives.now a.passes.now (row_count a.sets.now) c.requires.order c.requires.tables.ends c.loop-p.sets _ _ c.loop-p.done c.loop-p.invariant.0
+    (round_done a.edges.now a.along a.gives.now a.passes.now a.order.now c.round-p.ensures) (not-true _ c.if-not-p.true)
 
 pub shape_of-sets-then-not-p : goal.shape_of-sets-then-not-p
 shape_of-sets-then-not-p c = (returns-then-not-p c).size ∙ sym c.requires.tables.whole
@@ -51,8 +51,8 @@ pub loop-p-preserved : goal.loop-p-preserved
 loop-p-preserved c =
     let a = c.args in (
       going_more a.edges.now a.order.now a.along a.gives.now a.passes.now (row_count a.sets.now) c.requires.order c.requires.tables.ends c.loop-p.sets _ _ c.loop-p.done c.loop-p.invariant.0
-          (round-done a.edges.now a.along a.gives.now a.passes.now a.order.now c.round-p.ensures) (not-false _ c.if-not-p.false),
-      closed-next a.edges.now a.along a.gives.now a.passes.now a.order.now c.round-p.ensures,
+          (round_done a.edges.now a.along a.gives.now a.passes.now a.order.now c.round-p.ensures) (not-false _ c.if-not-p.false),
+      closed_next a.edges.now a.along a.gives.now a.passes.now a.order.now c.round-p.ensures,
     )
 
 pub loop-p-smaller : goal.loop-p-smaller

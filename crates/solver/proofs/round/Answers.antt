@@ -6,7 +6,7 @@ use native.Mathlib.Omega.{arith}
 use lib.ListN.{length}
 use Rattle.flow.proofs.Rows.{tables}
 use Rattle.solver.specs.Blocks.{block_start, Taken}
-use Rattle.solver.proofs.Blocks.{skipped, round-none}
+use Rattle.solver.proofs.Blocks.{skipped, round_none}
 use Rattle.solver.proofs.round.Goals as goal
 
 pub loop-b-init : goal.loop-b-init
@@ -18,7 +18,7 @@ loop-b-init c =
       refl,
       skipped a.edges.now a.along a.gives.now a.passes.now c.requires.order a.sets.now
           (subst (λ (x : ℕ). Taken a.edges.now a.order.now a.along a.gives.now a.passes.now a.sets.now x x a.sets.now (record { pending = a.pending; altered = false })) none
-          (round-none a.edges.now a.along a.gives.now a.passes.now a.order.now a.sets.now a.pending c.requires.closed))
+          (round_none a.edges.now a.along a.gives.now a.passes.now a.order.now a.sets.now a.pending c.requires.closed))
           c.next_pending-b.ensures,
     )
 

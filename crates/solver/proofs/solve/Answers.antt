@@ -4,7 +4,7 @@ use Prim.Native.Nat.{ℕ, ◌+◌, ◌*◌, ◌/◌, ◌≤◌}
 use native.Mathlib.Omega.{arith}
 use lib.ListN.{length, replicate, length-replicate}
 use Rattle.flow.specs.Solver.{Ends, Tables, Going, Solved, row_count}
-use Rattle.flow.proofs.Rows.{going-none, going_more, going-stops, made-length, tables}
+use Rattle.flow.proofs.Rows.{going_none, going_more, going_stops, made_length, tables}
 use Rattle.solver.proofs.solve.Goals as goal
 use Rattle.solver.proofs.solve.Goals.{After-clear, At-loop-r}
 
@@ -27,7 +27,7 @@ module _ (c : At-loop-r) where
   kept : length c.loop-r.sets ≡ length c.args.sets.now
   kept =
       let a = c.args in
-      ap length c.loop-r.invariant.sets ∙ made-length a.edges.now a.order.now a.along a.gives.now a.passes.now n c.requires.order c.loop-r.r
+      ap length c.loop-r.invariant.sets ∙ made_length a.edges.now a.order.now a.along a.gives.now a.passes.now n c.requires.order c.loop-r.r
       ∙ ap (λ (x : ℕ). 8 * x) rows_same ∙ sym c.requires.tables.whole
 
   held : Tables c.args.edges.now c.args.gives.now c.args.passes.now c.loop-r.sets
@@ -36,7 +36,7 @@ module _ (c : At-loop-r) where
 pub loop-r-init : goal.loop-r-init
 loop-r-init c =
     let whole : length c.args.sets.now ≡ 8 * row_count c.clear.new.sets = c.requires.tables.whole ∙ ap (λ (x : ℕ). 8 * (x / 8)) (sym (size (goal.at.loop-r-init c).After-clear)) in
-    going-none c.args.edges.now c.args.order.now c.args.along c.args.gives.now c.args.passes.now _ _ (c.clear.ensures ∙ ap (λ (x : ℕ). replicate x 0) whole)
+    going_none c.args.edges.now c.args.order.now c.args.along c.args.gives.now c.args.passes.now _ _ (c.clear.ensures ∙ ap (λ (x : ℕ). replicate x 0) whole)
 
 pub round-requires : goal.round-requires
 round-requires c =
@@ -52,7 +52,7 @@ pub returns-then-not-round : goal.returns-then-not-round
 returns-then-not-round c =
     let a = c.args in
     subst (λ (m : ℕ). Solved a.edges.now a.order.now a.along a.gives.now a.passes.now m (c.loop-r.r + 1) c.round.new.sets) (rows_same (goal.at.returns-then-not-round c).At-loop-r)
-    (going-stops a.edges.now a.order.now a.along a.gives.now a.passes.now (n (goal.at.returns-then-not-round c).At-loop-r) c.requires.order (within (goal.at.returns-then-not-round c).At-loop-r) c.loop-r.sets _ _ c.loop-r.r c.loop-r.invariant c.round.ensures (c.if-not-round.true))
+    (going_stops a.edges.now a.order.now a.along a.gives.now a.passes.now (n (goal.at.returns-then-not-round c).At-loop-r) c.requires.order (within (goal.at.returns-then-not-round c).At-loop-r) c.loop-r.sets _ _ c.loop-r.r c.loop-r.invariant c.round.ensures (c.if-not-round.true))
 
 pub shape_of-sets-then-not-round : goal.shape_of-sets-then-not-round
 shape_of-sets-then-not-round c = (returns-then-not-round c).size ∙ sym c.requires.tables.whole

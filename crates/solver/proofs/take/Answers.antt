@@ -7,9 +7,9 @@ use lib.ListN.{length, replicate}
 use Rattle.flow.specs.Paths.{edge_count}
 use Rattle.flow.specs.Solver.{near, far, turn, handed_row, row_count, noted, Altered}
 use Rattle.flow.specs.declared.Carry.{Carry}
-use Rattle.flow.proofs.Rounds.{turn-lt, near-lt}
-use Rattle.flow.proofs.Rows.{recent-as, near_fits}
-use Rattle.solver.proofs.Blocks.{told-by, took-none, took-some}
+use Rattle.flow.proofs.Rounds.{turn_lt, near_lt}
+use Rattle.flow.proofs.Rows.{recent_as, near_fits}
+use Rattle.solver.proofs.Blocks.{told_by, took_none, took_some}
 use Rattle.solver.proofs.take.Goals as goal
 use Rattle.solver.proofs.take.Goals.{After-edge_at-i, After-relax-next}
 
@@ -18,33 +18,33 @@ module _ (c : After-edge_at-i) where
   turn_is : c.edge_at-i.result ≡ turn c.args.order.now c.args.along c.args.j
   turn_is = c.edge_at-i.ensures
 
-  turn-fits : c.edge_at-i.result < edge_count c.args.edges.now
-  turn-fits = subst (λ (i : ℕ). i < edge_count c.args.edges.now) (sym turn_is) (turn-lt c.requires.order c.args.along c.args.j c.requires.j_in_bounds)
+  turn_fits : c.edge_at-i.result < edge_count c.args.edges.now
+  turn_fits = subst (λ (i : ℕ). i < edge_count c.args.edges.now) (sym turn_is) (turn_lt c.requires.order c.args.along c.args.j c.requires.j_in_bounds)
 
 pub relax-next-requires : goal.relax-next-requires
 relax-next-requires c =
     record {
       tables = c.requires.tables;
-      i_bound = turn-fits (goal.at.relax-next-requires c).After-edge_at-i;
-      recent = recent-as c.unnoted-before.ensures c.requires.recent;
+      i_bound = turn_fits (goal.at.relax-next-requires c).After-edge_at-i;
+      recent = recent_as c.unnoted-before.ensures c.requires.recent;
     }
 
 -- once it is taken
 module _ (c : After-relax-next) where
-  near-in : near c.args.edges.now c.args.along c.edge_at-i.result < row_count c.args.sets.now
-  near-in = near-lt c.requires.tables.ends c.args.along c.edge_at-i.result (turn-fits (goal.at.After-relax-next c).After-edge_at-i)
+  near_in : near c.args.edges.now c.args.along c.edge_at-i.result < row_count c.args.sets.now
+  near_in = near_lt c.requires.tables.ends c.args.along c.edge_at-i.result (turn_fits (goal.at.After-relax-next c).After-edge_at-i)
 
-  vertex-fits : c.relax-next.result.vertex < length c.args.marks.now
-  vertex-fits = omega (arith, c.relax-next.ensures.vertex_value, near-in, c.requires.sets_in_bounds)
+  vertex_fits : c.relax-next.result.vertex < length c.args.marks.now
+  vertex_fits = omega (arith, c.relax-next.ensures.vertex_value, near_in, c.requires.sets_in_bounds)
 
   row_fits : 8 * near c.args.edges.now c.args.along c.edge_at-i.result + 8 ≤ length c.args.sets.now
   row_fits =
       let a = c.args in
-      near_fits a.edges.now a.along a.gives.now a.passes.now a.sets.now a.sets.now c.edge_at-i.result c.requires.tables refl (turn-fits (goal.at.After-relax-next c).After-edge_at-i)
+      near_fits a.edges.now a.along a.gives.now a.passes.now a.sets.now a.sets.now c.edge_at-i.result c.requires.tables refl (turn_fits (goal.at.After-relax-next c).After-edge_at-i)
 
-  note-is : c.relax-next.result.note ≡ noted (replicate 8 0) c.args.sets.now (near c.args.edges.now c.args.along c.edge_at-i.result)
+  note_is : c.relax-next.result.note ≡ noted (replicate 8 0) c.args.sets.now (near c.args.edges.now c.args.along c.edge_at-i.result)
       (handed_row c.args.gives.now c.args.passes.now c.args.sets.now (far c.args.edges.now c.args.along c.edge_at-i.result))
-  note-is =
+  note_is =
       let a = c.args in
       let i = c.edge_at-i.result in
       c.relax-next.ensures.note_value
@@ -53,19 +53,19 @@ module _ (c : After-relax-next) where
 
 pub offset_bounds-marks-v : goal.offset_bounds-marks-v
 offset_bounds-marks-v c =
-    let small : c.relax-next.result.vertex * 8 < 2 ^ 64 = omega (arith, vertex-fits (goal.at.offset_bounds-marks-v c).After-relax-next, c.well_formed) in
+    let small : c.relax-next.result.vertex * 8 < 2 ^ 64 = omega (arith, vertex_fits (goal.at.offset_bounds-marks-v c).After-relax-next, c.well_formed) in
     record { fits = small }
 
 pub bounds-marks-v : goal.bounds-marks-v
-bounds-marks-v c = vertex-fits (goal.at.bounds-marks-v c).After-relax-next
+bounds-marks-v c = vertex_fits (goal.at.bounds-marks-v c).After-relax-next
 
 pub returns-then-any : goal.returns-then-any
 returns-then-any c =
     let a = c.args in
     record {
-      took = took-some a.edges.now a.along a.gives.now a.passes.now a.order.now a.sets.now a.j (turn_is (goal.at.returns-then-any c).After-edge_at-i) c.relax-next.ensures.sets_after a.p c.relax-next.ensures.vertex_value
+      took = took_some a.edges.now a.along a.gives.now a.passes.now a.order.now a.sets.now a.j (turn_is (goal.at.returns-then-any c).After-edge_at-i) c.relax-next.ensures.sets_after a.p c.relax-next.ensures.vertex_value
           (subst (λ (b : Bool). Altered b a.sets.now c.relax-next.new.sets) c.if-any.true
-          (told-by a.edges.now a.along a.gives.now a.passes.now a.sets.now c.edge_at-i.result (row_fits (goal.at.returns-then-any c).After-relax-next) (note-is (goal.at.returns-then-any c).After-relax-next) c.relax-next.ensures.sets_after c.any.ensures));
+          (told_by a.edges.now a.along a.gives.now a.passes.now a.sets.now c.edge_at-i.result (row_fits (goal.at.returns-then-any c).After-relax-next) (note_is (goal.at.returns-then-any c).After-relax-next) c.relax-next.ensures.sets_after c.any.ensures));
       recent_2 = c.relax-next.ensures.recent_2;
     }
 
@@ -73,8 +73,8 @@ pub returns : goal.returns
 returns c =
     let a = c.args in
     record {
-      took = took-none a.edges.now a.along a.gives.now a.passes.now a.order.now a.sets.now a.j (turn_is (goal.at.returns c).After-edge_at-i) c.relax-next.ensures.sets_after a.p
+      took = took_none a.edges.now a.along a.gives.now a.passes.now a.order.now a.sets.now a.j (turn_is (goal.at.returns c).After-edge_at-i) c.relax-next.ensures.sets_after a.p
           (subst (λ (b : Bool). Altered b a.sets.now c.relax-next.new.sets) c.if-any.false
-          (told-by a.edges.now a.along a.gives.now a.passes.now a.sets.now c.edge_at-i.result (row_fits (goal.at.returns c).After-relax-next) (note-is (goal.at.returns c).After-relax-next) c.relax-next.ensures.sets_after c.any.ensures));
+          (told_by a.edges.now a.along a.gives.now a.passes.now a.sets.now c.edge_at-i.result (row_fits (goal.at.returns c).After-relax-next) (note_is (goal.at.returns c).After-relax-next) c.relax-next.ensures.sets_after c.any.ensures));
       recent_2 = c.relax-next.ensures.recent_2;
     }

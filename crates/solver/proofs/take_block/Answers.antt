@@ -5,8 +5,8 @@ use native.Mathlib.Omega.{arith}
 use lib.ListN.{length}
 use Rattle.flow.specs.Solver.{turn, Tables}
 use Rattle.flow.specs.declared.Carry.{Carry}
-use Rattle.flow.proofs.Rows.{recent-none, step-length, tables}
-use Rattle.solver.proofs.Blocks.{took, block-done}
+use Rattle.flow.proofs.Rows.{recent_none, step_length, tables}
+use Rattle.solver.proofs.Blocks.{took, block_done}
 use Rattle.solver.proofs.take_block.Goals as goal
 use Rattle.solver.proofs.take_block.Goals.{At-loop-j}
 
@@ -30,7 +30,7 @@ pub without-requires : goal.without-requires
 without-requires c = c.requires.b_bound
 
 pub loop-j-init : goal.loop-j-init
-loop-j-init c = (refl, omega (arith, c.start-from.ensures, c.start-to.ensures), λ old w. w, recent-none _ (ap (λ (r : Carry). r.vertex) c.untouched-last.ensures))
+loop-j-init c = (refl, omega (arith, c.start-from.ensures, c.start-to.ensures), λ old w. w, recent_none _ (ap (λ (r : Carry). r.vertex) c.untouched-last.ensures))
 
 pub take-next-requires : goal.take-next-requires
 take-next-requires c =
@@ -46,7 +46,7 @@ pub loop-j-preserved : goal.loop-j-preserved
 loop-j-preserved c =
     let a = c.args in
     let j-due = c.loop-j-test.true in (
-      ap length c.take-next.ensures.took.sets ∙ step-length a.edges.now a.along a.gives.now a.passes.now c.loop-j.sets (turn a.order.now a.along c.loop-j.j) ∙ c.loop-j.invariant.0,
+      ap length c.take-next.ensures.took.sets ∙ step_length a.edges.now a.along a.gives.now a.passes.now c.loop-j.sets (turn a.order.now a.along c.loop-j.j) ∙ c.loop-j.invariant.0,
       omega (arith, j-due),
       λ old w. took a.edges.now a.along a.gives.now a.passes.now c.requires.order old (held (goal.at.loop-j-preserved c).At-loop-j) c.requires.marked (c.loop-j.invariant.2 old w) (due (goal.at.loop-j-preserved c).At-loop-j j-due) c.take-next.ensures.took,
       c.take-next.ensures.recent_2,
@@ -58,6 +58,6 @@ shape_of-sets c = c.loop-j.invariant.0
 pub returns : goal.returns
 returns c =
     let a = c.args in
-    block-done a.edges.now a.along a.gives.now a.passes.now c.requires.order c.start-from.ensures c.start-to.ensures
+    block_done a.edges.now a.along a.gives.now a.passes.now c.requires.order c.start-from.ensures c.start-to.ensures
     (ap (λ (m : ℕ). record { pending = m; altered = a.p.altered }) c.without.ensures)
     (omega (arith, c.loop-j.invariant.1, c.loop-j-test.false)) c.loop-j.invariant.0 c.loop-j.invariant.2

@@ -3,17 +3,17 @@ use mathlib.Core.Path.{ap}
 use native.Mathlib.Omega.{arith}
 use Rattle.labels.specs.Letters.{use_of_byte}
 use Rattle.routine.specs.Actions.{is_remap}
-use Rattle.state.proofs.Carrying.{relabelled-is, not-labelled}
+use Rattle.state.proofs.Carrying.{relabelled_is, not-labelled}
 use Rattle.state.proofs.relabelled.Goals as goal
 
 pub bounds-others-at : goal.bounds-others-at
-bounds-others-at c = omega (arith, c.requires.a_bound.0, c.requires.a_bound.1, c.requires.visits.at-remap _ c.in-Remap.is)
+bounds-others-at c = omega (arith, c.requires.a_bound.0, c.requires.a_bound.1, c.requires.visits.at_remap _ c.in-Remap.is)
 
 pub stepped-requires : goal.stepped-requires
 stepped-requires c =
     let p = c.requires.visits in
     record {
-      t_lt_width = p.at-remap _ c.in-Remap.is;
+      t_lt_width = p.at_remap _ c.in-Remap.is;
       sound = p.sound;
     }
 
@@ -30,7 +30,7 @@ returns-in-Reference c =
 pub returns-in-Remap : goal.returns-in-Remap
 returns-in-Remap c =
     let g = c.args in
-    relabelled-is g.c g.a g.others.now c.requires.visits.sound.current c.requires.a_bound.0 c.requires.a_bound.1 (use_of_byte g.letter) g.keep c.in-Remap.is
+    relabelled_is g.c g.a g.others.now c.requires.visits.sound.current c.requires.a_bound.0 c.requires.a_bound.1 (use_of_byte g.letter) g.keep c.in-Remap.is
     c.store.ensures c.stepped.ensures
 
 pub returns-in-Unknown : goal.returns-in-Unknown

@@ -8,25 +8,25 @@ use lib.Seq.{take-add, take-append-le}
 use Rattle.streams.proofs.read_all.Goals as goal
 
 -- the first bytes of a buffer whose part from `at` on was lent
-take-lent : (at k n : ℕ) (xs ys : List ℕ) → at ≤ length xs → n ≤ length ys → take (at + n) (put_mid at k xs ys) ≡ take at xs ++ take n ys
-take-lent at k n xs ys within fits =
+take_lent : (at k n : ℕ) (xs ys : List ℕ) → at ≤ length xs → n ≤ length ys → take (at + n) (put_mid at k xs ys) ≡ take at xs ++ take n ys
+take_lent at k n xs ys within fits =
     let after = post_of at k xs in
     take-add at n (put_mid at k xs ys)
     ∙ ap₂ (λ (front back : List ℕ). front ++ take n back) (take-put_mid_below at k xs ys at (le_refl at) within) (drop_at (take at xs) (ys ++ after) at (length-take-le at xs within))
     ∙ ap (λ (l : List ℕ). take at xs ++ l) (take-append-le n ys after fits)
 
 -- one read after others
-consumes-more : (first then last : Option (List ℕ)) (xs ys : List ℕ) → Consumes first then xs → Consumes then last ys → Consumes first last (xs ++ ys)
-consumes-more None then last xs ys h k = search rules
-consumes-more (Some a) None last xs ys h k = absurd h
-consumes-more (Some a) (Some b) None xs ys h k = absurd k
-consumes-more (Some a) (Some b) (Some c) xs ys h k = h ∙ ap (λ (l : List ℕ). xs ++ l) k ∙ sym (append_assoc xs ys c)
+consumes_more : (first then last : Option (List ℕ)) (xs ys : List ℕ) → Consumes first then xs → Consumes then last ys → Consumes first last (xs ++ ys)
+consumes_more None then last xs ys h k = search rules
+consumes_more (Some a) None last xs ys h k = absurd h
+consumes_more (Some a) (Some b) None xs ys h k = absurd k
+consumes_more (Some a) (Some b) (Some c) xs ys h k = h ∙ ap (λ (l : List ℕ). xs ++ l) k ∙ sym (append_assoc xs ys c)
 
 pub loop-done-preserved : goal.loop-done-preserved
 loop-done-preserved g c =
     let room = length c.loop-done.buf - c.loop-done.done in
-    let came = take-lent c.loop-done.done room c.read_once-more.result c.loop-done.buf c.read_once-more.new.buf c.loop-done.invariant.0 c.read_once-more.ensures.prefix_len.0 in (
+    let came = take_lent c.loop-done.done room c.read_once-more.result c.loop-done.buf c.read_once-more.new.buf c.loop-done.invariant.0 c.read_once-more.ensures.prefix_len.0 in (
       search rules,
       search rules,
-      subst (Consumes _ _) (sym came) (consumes-more _ _ _ _ _ c.loop-done.invariant.2 c.read_once-more.ensures.taken),
+      subst (Consumes _ _) (sym came) (consumes_more _ _ _ _ _ c.loop-done.invariant.2 c.read_once-more.ensures.taken),
     )

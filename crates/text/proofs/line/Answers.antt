@@ -5,13 +5,13 @@ use native.Mathlib.Omega.{arith}
 use lib.ListN.{length}
 use lib.Seq.{length-take-le}
 use Rattle.words.specs.Tables.{rows}
-use Rattle.words.proofs.Buffers.{begin, buffer-length, end, lends, lies, next_row, onward, all, lies-all}
-use Rattle.text.proofs.Cells.{cell-most, cells-most}
+use Rattle.words.proofs.Buffers.{begin, buffer_length, end, lends, lies, next_row, onward, all, lies_all}
+use Rattle.text.proofs.Cells.{cell_most, cells_most}
 use Rattle.text.proofs.line.Goals as goal
 
 pub loop-i-init : goal.loop-i-init
 unfolding rows
-loop-i-init c = (begin _ _ _ (omega (arith, c.requires.fields_in_bounds, cells-most c.args.forms.now c.args.fields.now (length c.args.fields.now))), refl)
+loop-i-init c = (begin _ _ _ (omega (arith, c.requires.fields_in_bounds, cells_most c.args.forms.now c.args.fields.now (length c.args.fields.now))), refl)
 
 pub slice_bounds-put_cell-count : goal.slice_bounds-put_cell-count
 slice_bounds-put_cell-count c = lies c.loop-i.invariant.0 c.loop-i.invariant.1 (omega arith)
@@ -23,7 +23,7 @@ pub bounds-forms-i : goal.bounds-forms-i
 bounds-forms-i c = omega (arith, c.requires.forms_len)
 
 pub put_cell-at-requires : goal.put_cell-at-requires
-put_cell-at-requires c = lends c.loop-i.invariant.0.front c.loop-i.invariant.1 (omega (arith, c.requires.fields_in_bounds, c.loop-i.invariant.1, cells-most c.args.forms.now c.args.fields.now c.loop-i.i))
+put_cell-at-requires c = lends c.loop-i.invariant.0.front c.loop-i.invariant.1 (omega (arith, c.requires.fields_in_bounds, c.loop-i.invariant.1, cells_most c.args.forms.now c.args.fields.now c.loop-i.i))
 
 pub overflow_add-at : goal.overflow_add-at
 overflow_add-at c =
@@ -31,9 +31,9 @@ overflow_add-at c =
       arith,
       c.requires.fields_in_bounds,
       c.loop-i.invariant.1,
-      cells-most c.args.forms.now c.args.fields.now c.loop-i.i,
+      cells_most c.args.forms.now c.args.fields.now c.loop-i.i,
       c.put_cell-at.ensures.value,
-      cell-most c.args.forms.now c.args.fields.now c.loop-i.i,
+      cell_most c.args.forms.now c.args.fields.now c.loop-i.i,
     )
 
 pub loop-i-preserved : goal.loop-i-preserved
@@ -43,12 +43,12 @@ loop-i-preserved c = (
 )
 
 pub shape_of-out : goal.shape_of-out
-shape_of-out c = buffer-length c.loop-i.invariant.0
+shape_of-out c = buffer_length c.loop-i.invariant.0
 
 pub returns : goal.returns
 returns c =
     let long = all c.loop-i.invariant.0 c.loop-i.invariant.1 (omega arith) in
-    let fits = lies-all c.loop-i.invariant.0 long in
+    let fits = lies_all c.loop-i.invariant.0 long in
     record {
       prefix_len = (fits, sym (length-take-le c.loop-i.at c.loop-i.out fits));
       value = long;

@@ -5,21 +5,21 @@ use mathlib.Core.List.{List, [], ◌∷◌}
 use Prim.Native.Nat.{ℕ}
 use native.Mathlib.Omega.{arith}
 use lib.ListN.{length, set, length-append}
-use Rattle.words.proofs.Written.{wrote-length, write-one}
+use Rattle.words.proofs.Written.{wrote-length, write_one}
 use Rattle.text.specs.Text.{column_text}
-use Rattle.text.proofs.Cells.{column-most}
+use Rattle.text.proofs.Cells.{column_most}
 use Rattle.text.proofs.put_cell.Goals as goal
 use Rattle.text.proofs.put_cell.Goals.{After-put_column-at}
 
 fits : (c : After-put_column-at) → length c.put_column-at.new.out ≡ length c.args.out.now
 fits c =
-    wrote-length c.args.out.now (column_text c.args.form c.args.n) c.put_column-at.ensures.out_after (omega (arith, column-most c.args.form c.args.n, c.requires))
+    wrote-length c.args.out.now (column_text c.args.form c.args.n) c.put_column-at.ensures.out_after (omega (arith, column_most c.args.form c.args.n, c.requires))
 
 pub bounds-out-at : goal.bounds-out-at
-bounds-out-at c = omega (arith, fits (goal.at.bounds-out-at c).After-put_column-at, column-most c.args.form c.args.n, c.put_column-at.ensures.value, c.requires)
+bounds-out-at c = omega (arith, fits (goal.at.bounds-out-at c).After-put_column-at, column_most c.args.form c.args.n, c.put_column-at.ensures.value, c.requires)
 
 pub overflow_add-result : goal.overflow_add-result
-overflow_add-result c = omega (arith, column-most c.args.form c.args.n, c.put_column-at.ensures.value)
+overflow_add-result c = omega (arith, column_most c.args.form c.args.n, c.put_column-at.ensures.value)
 
 pub returns : goal.returns
 returns c =
@@ -28,5 +28,5 @@ returns c =
     record {
       value = omega (arith, c.put_column-at.ensures.value, length-append text (last ∷ []));
       out_after = ap₂ (λ (l : List ℕ) (b : ℕ). set l c.put_column-at.result b) c.put_column-at.ensures.out_after c.separator_after.ensures
-          ∙ write-one c.args.out.now text last _ c.put_column-at.ensures.value (omega (arith, column-most c.args.form c.args.n, c.put_column-at.ensures.value, c.requires));
+          ∙ write_one c.args.out.now text last _ c.put_column-at.ensures.value (omega (arith, column_most c.args.form c.args.n, c.put_column-at.ensures.value, c.requires));
     }

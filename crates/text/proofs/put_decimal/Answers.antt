@@ -3,7 +3,7 @@ use mathlib.Core.Path.{ap, ◌∙◌}
 use native.Mathlib.Omega.{arith}
 use lib.ListN.{length}
 use Rattle.words.specs.Tables.{wrote}
-use Rattle.text.proofs.Digits.{decimal-text, decimal-length}
+use Rattle.text.proofs.Digits.{decimal_text, decimal-length}
 use Rattle.text.proofs.put_decimal.Goals as goal
 
 pub copy-requires : goal.copy-requires
@@ -11,7 +11,7 @@ copy-requires c = omega (arith, c.requires, decimal-length c.decimal-k.ensures.l
 
 pub returns : goal.returns
 returns c =
-    let is = c.decimal-k.ensures.digits ∙ decimal-text c.decimal-k.ensures.len (omega (arith, c.ranges.n.fits)) in
+    let is = c.decimal-k.ensures.digits ∙ decimal_text c.decimal-k.ensures.len (omega (arith, c.ranges.n.fits)) in
     record {
       value = c.copy.ensures.value ∙ ap length is;
       out_after = c.copy.ensures.out_after ∙ ap (wrote c.args.out.now) is;

@@ -10,13 +10,13 @@ use Rattle.words.specs.Tables.{wrote}
 use Rattle.text.specs.Text.{decimal, version_text}
 use Rattle.text.proofs.put_version.Goals as goal
 
-version-by : (n : ℕ) {none : Bool} → eqb n 255 ≡ none → cond none (45 ∷ []) (decimal n) ≡ version_text n
+version_by : (n : ℕ) {none : Bool} → eqb n 255 ≡ none → cond none (45 ∷ []) (decimal n) ≡ version_text n
 unfolding version_text
-version-by n e = ap (λ t. cond t (45 ∷ []) (decimal n)) (sym e)
+version_by n e = ap (λ t. cond t (45 ∷ []) (decimal n)) (sym e)
 
 pub returns-then-n-eq255 : goal.returns-then-n-eq255
 returns-then-n-eq255 c =
-    let is = version-by c.args.n (eq-eqb _ _ c.if-n-eq255.true) in
+    let is = version_by c.args.n (eq-eqb _ _ c.if-n-eq255.true) in
     record {
       value = c.put_character.ensures.value ∙ ap length is;
       out_after = c.put_character.ensures.out_after ∙ ap (wrote c.args.out.now) is;
@@ -24,7 +24,7 @@ returns-then-n-eq255 c =
 
 pub returns : goal.returns
 returns c =
-    let is = version-by c.args.n (ne_eqb _ _ c.if-n-eq255.false) in
+    let is = version_by c.args.n (ne_eqb _ _ c.if-n-eq255.false) in
     record {
       value = c.put_decimal.ensures.value ∙ ap length is;
       out_after = c.put_decimal.ensures.out_after ∙ ap (wrote c.args.out.now) is;

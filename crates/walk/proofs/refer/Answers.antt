@@ -11,50 +11,50 @@ use Rattle.report.specs.Bytes.{records_bytes}
 use Rattle.report.specs.Records.{records_at}
 use Rattle.state.specs.Stamps.{stamp_by}
 use Rattle.walk.specs.Walks.{cell_bytes, row_bytes}
-use Rattle.passes.proofs.Cells.{in-eight}
+use Rattle.passes.proofs.Cells.{in_eight}
 use Rattle.words.specs.Tables.{rows, wrote}
-use Rattle.words.proofs.Buffers.{begin, lies, lent, row_room, next_row, onward, all, end, buffer-length}
-use Rattle.words.proofs.Replaced.{replacing-begin, replacing-behind, replacing-next, replacing-end}
+use Rattle.words.proofs.Buffers.{begin, lies, lent, row_room, next_row, onward, all, end, buffer_length}
+use Rattle.words.proofs.Replaced.{replacing_begin, replacing_behind, replacing_next, replacing_end}
 use Rattle.words.proofs.Written.{part_from}
 use Rattle.walk.proofs.refer.Goals as goal
 use Rattle.walk.proofs.refer.Goals.{After-at-x, In-loop-a}
 
 -- what holds in a turn
 module _ (c : In-loop-a) where
-  in-a : c.loop-a.a < arrays c.args.file.now
-  in-a = omega (arith, c.requires.read_as.heads.arrays-are)
+  in_a : c.loop-a.a < arrays c.args.file.now
+  in_a = omega (arith, c.requires.read_as.heads.arrays_are)
 
   small : c.loop-a.a < 8
-  small = in-eight c.requires.read_as.well in-a
+  small = in_eight c.requires.read_as.well in_a
 
   abbrev cells : ℕ → List ℕ
   cells = cell_bytes c.args.file.now c.args.v c.args.step c.args.versions.now c.args.stamps.now
 
   -- the stamp of the next array is as it was
   same : get_or c.loop-a.stamps c.loop-a.a 0 ≡ get_or c.args.stamps.now c.loop-a.a 0
-  same = replacing-behind c.loop-a.invariant.2 0 (omega arith)
+  same = replacing_behind c.loop-a.invariant.2 0 (omega arith)
 
 pub loop-a-init : goal.loop-a-init
 unfolding row_bytes rows
-loop-a-init c = (begin _ _ _ c.requires.stamps_in_bounds, refl, replacing-begin _ _ _ _)
+loop-a-init c = (begin _ _ _ c.requires.stamps_in_bounds, refl, replacing_begin _ _ _ _)
 
 pub at-x-requires : goal.at-x-requires
 at-x-requires c =
     record {
       heads = c.requires.read_as.heads;
       v_bound = c.requires.v_bound.0;
-      a_bound = in-a c;
+      a_bound = in_a c;
     }
 
 -- the action that is read is the event
-event-is : (c : After-at-x) → c.at-x.result ≡ event c.args.file.now c.loop-a.a c.args.v
-event-is c = c.at-x.ensures ∙ sym (c.requires.unlabelled.as_read c.loop-a.a)
+event_is : (c : After-at-x) → c.at-x.result ≡ event c.args.file.now c.loop-a.a c.args.v
+event_is c = c.at-x.ensures ∙ sym (c.requires.unlabelled.as_read c.loop-a.a)
 
 -- and so its bytes are those of the row
-bytes-are : (c : After-at-x) →
+bytes_are : (c : After-at-x) →
     records_bytes (records_at c.at-x.result c.args.step c.loop-a.a (get_or c.args.versions.now c.loop-a.a 0) (get_or c.loop-a.stamps c.loop-a.a 0)) ≡ cells (goal.at.After-at-x c).In-loop-a c.loop-a.a
-bytes-are c =
-    ap₂ (λ (x : Action) (stamp : ℕ). records_bytes (records_at x c.args.step c.loop-a.a (get_or c.args.versions.now c.loop-a.a 0) stamp)) (event-is c) (same (goal.at.After-at-x c).In-loop-a)
+bytes_are c =
+    ap₂ (λ (x : Action) (stamp : ℕ). records_bytes (records_at x c.args.step c.loop-a.a (get_or c.args.versions.now c.loop-a.a 0) stamp)) (event_is c) (same (goal.at.After-at-x c).In-loop-a)
 
 pub bounds-versions-a : goal.bounds-versions-a
 bounds-versions-a c = omega (arith, small (goal.at.bounds-versions-a c).In-loop-a)
@@ -66,20 +66,20 @@ pub bounds-stamps-a : goal.bounds-stamps-a
 bounds-stamps-a c = omega (arith, small (goal.at.bounds-stamps-a c).In-loop-a)
 
 pub slice_bounds-put-count : goal.slice_bounds-put-count
-slice_bounds-put-count c = lies c.loop-a.invariant.0 c.loop-a.invariant.1 (in-a (goal.at.slice_bounds-put-count c).In-loop-a)
+slice_bounds-put-count c = lies c.loop-a.invariant.0 c.loop-a.invariant.1 (in_a (goal.at.slice_bounds-put-count c).In-loop-a)
 
 pub slice_bounds-put-start : goal.slice_bounds-put-start
-slice_bounds-put-start c = lies c.loop-a.invariant.0 c.loop-a.invariant.1 (in-a (goal.at.slice_bounds-put-start c).In-loop-a)
+slice_bounds-put-start c = lies c.loop-a.invariant.0 c.loop-a.invariant.1 (in_a (goal.at.slice_bounds-put-start c).In-loop-a)
 
 pub put-bytes-requires : goal.put-bytes-requires
 put-bytes-requires c =
     record {
       step_bound = (c.requires.v_bound.1, small (goal.at.put-bytes-requires c).In-loop-a);
-      stamp_in_bounds = omega (arith, ap length (bytes-are (goal.at.put-bytes-requires c).After-at-x), lent c.loop-a.invariant.0 c.loop-a.invariant.1 (in-a (goal.at.put-bytes-requires c).In-loop-a));
+      stamp_in_bounds = omega (arith, ap length (bytes_are (goal.at.put-bytes-requires c).After-at-x), lent c.loop-a.invariant.0 c.loop-a.invariant.1 (in_a (goal.at.put-bytes-requires c).In-loop-a));
     }
 
 pub overflow_add-bytes : goal.overflow_add-bytes
-overflow_add-bytes c = omega (arith, c.put-bytes.ensures.value, ap length (bytes-are (goal.at.overflow_add-bytes c).After-at-x), row_room c.loop-a.invariant.0 c.loop-a.invariant.1 (in-a (goal.at.overflow_add-bytes c).In-loop-a), c.well_formed)
+overflow_add-bytes c = omega (arith, c.put-bytes.ensures.value, ap length (bytes_are (goal.at.overflow_add-bytes c).After-at-x), row_room c.loop-a.invariant.0 c.loop-a.invariant.1 (in_a (goal.at.overflow_add-bytes c).In-loop-a), c.well_formed)
 
 pub offset_bounds-stamps-a-in-loop-a : goal.offset_bounds-stamps-a-in-loop-a
 offset_bounds-stamps-a-in-loop-a c = omega (arith, small (goal.at.offset_bounds-stamps-a-in-loop-a c).In-loop-a)
@@ -98,21 +98,21 @@ overflow_add-a c = omega (arith, small (goal.at.overflow_add-a c).In-loop-a)
 
 pub loop-a-preserved : goal.loop-a-preserved
 loop-a-preserved c = (
-  next_row c.loop-a.invariant.0 c.loop-a.invariant.1 (in-a (goal.at.loop-a-preserved c).In-loop-a) (c.put-bytes.ensures.out_after ∙ ap (wrote (part_from c.loop-a.out c.loop-a.bytes)) (bytes-are (goal.at.loop-a-preserved c).After-at-x)),
-  onward c.loop-a.invariant.0 c.loop-a.invariant.1 (c.put-bytes.ensures.value ∙ ap length (bytes-are (goal.at.loop-a-preserved c).After-at-x)),
-  replacing-next c.loop-a.invariant.2 (in-a (goal.at.loop-a-preserved c).In-loop-a) (omega arith)
-      (c.stamp_after.ensures ∙ ap₂ (λ (x : Action) (stamp : ℕ). stamp_by x c.args.step stamp) (event-is (goal.at.loop-a-preserved c).After-at-x) (same (goal.at.loop-a-preserved c).In-loop-a)),
+  next_row c.loop-a.invariant.0 c.loop-a.invariant.1 (in_a (goal.at.loop-a-preserved c).In-loop-a) (c.put-bytes.ensures.out_after ∙ ap (wrote (part_from c.loop-a.out c.loop-a.bytes)) (bytes_are (goal.at.loop-a-preserved c).After-at-x)),
+  onward c.loop-a.invariant.0 c.loop-a.invariant.1 (c.put-bytes.ensures.value ∙ ap length (bytes_are (goal.at.loop-a-preserved c).After-at-x)),
+  replacing_next c.loop-a.invariant.2 (in_a (goal.at.loop-a-preserved c).In-loop-a) (omega arith)
+      (c.stamp_after.ensures ∙ ap₂ (λ (x : Action) (stamp : ℕ). stamp_by x c.args.step stamp) (event_is (goal.at.loop-a-preserved c).After-at-x) (same (goal.at.loop-a-preserved c).In-loop-a)),
 )
 
 pub shape_of-out : goal.shape_of-out
-shape_of-out c = buffer-length c.loop-a.invariant.0
+shape_of-out c = buffer_length c.loop-a.invariant.0
 
 pub returns : goal.returns
 unfolding row_bytes
 returns c =
-    let over : arrays c.args.file.now ≤ c.loop-a.a = omega (arith, c.requires.read_as.heads.arrays-are) in
+    let over : arrays c.args.file.now ≤ c.loop-a.a = omega (arith, c.requires.read_as.heads.arrays_are) in
     record {
-      length-is = all c.loop-a.invariant.0 c.loop-a.invariant.1 over;
-      out-is = end c.loop-a.invariant.0 over;
-      stamps-are = replacing-end c.loop-a.invariant.2 over;
+      length_is = all c.loop-a.invariant.0 c.loop-a.invariant.1 over;
+      out_is = end c.loop-a.invariant.0 over;
+      stamps_are = replacing_end c.loop-a.invariant.2 over;
     }

@@ -10,7 +10,7 @@ use Rattle.words.proofs.Tables.{table_at, table-length}
 use Rattle.path.specs.Paths.{steps}
 use Rattle.report.specs.References.{references_at}
 use Rattle.walk.specs.Report.{references_on}
-use Rattle.walk.proofs.Bytes.{on_none, on-more, on-few}
+use Rattle.walk.proofs.Bytes.{on_none, on_more, on_few}
 use Rattle.path.proofs.Paths.{walk, within-vertices}
 use Rattle.walk.proofs.references_on.Goals as goal
 use Rattle.walk.proofs.references_on.Goals.{After-shared_slice_known-in-loop-i-1, After-vertex, Start}
@@ -32,13 +32,13 @@ more : (c : After-shared_slice_known-in-loop-i-1) →
     c.loop-i.count + get_or a.counts.now c.vertex.result 0 ≡ references_on a.file.now a.path.now (c.loop-i.i + 1)
 more c =
     let f = references_at c.args.file.now in
-    on-more _ _ _ c.loop-i.invariant.1
+    on_more _ _ _ c.loop-i.invariant.1
     (ap (λ (t : List ℕ). get_or t c.vertex.result 0) (table_is (goal.at.After-shared_slice_known-in-loop-i-1 c).Start) ∙ table_at f _ _ (within (goal.at.After-shared_slice_known-in-loop-i-1 c).After-vertex) ∙ ap f c.vertex.ensures)
 
 -- at most eight at each of at most 4,096 vertices
 few : (c : Start) (n : ℕ) → n ≤ steps c.args.path.now → references_on c.args.file.now c.args.path.now n ≤ 32768
 few c n h =
-    omega (arith, on-few c.args.file.now c.args.path.now c.requires.well_formed.laid.limits.few-arrays n, walk c.requires.well_formed c.requires.path_value)
+    omega (arith, on_few c.args.file.now c.args.path.now c.requires.well_formed.laid.limits.few_arrays n, walk c.requires.well_formed c.requires.path_value)
 
 pub bounds-counts-vertex : goal.bounds-counts-vertex
 bounds-counts-vertex c = omega (arith, within (goal.at.bounds-counts-vertex c).After-vertex, ap length (table_is (goal.at.bounds-counts-vertex c).Start), table-length (references_at c.args.file.now) (vertices c.args.file.now))

@@ -1,7 +1,7 @@
 -- `walk::serve` meets its contract: a vertex that may have labels has no references.
 use mathlib.Core.Path.{subst}
 use Rattle.walk.specs.Walks.{Labels}
-use Rattle.walk.proofs.Held.{nothing-referred}
+use Rattle.walk.proofs.Held.{nothing_referred}
 use Rattle.walk.proofs.serve.Goals as goal
 
 pub returns-then-labels : goal.returns-then-labels
@@ -9,7 +9,7 @@ returns-then-labels c =
     let file = c.args.file.now in
     let none = subst (Labels file c.args.v) c.if-labels.true c.has_labels-labels.ensures in
     record {
-      referred = nothing-referred file c.args.v c.args.step c.args.versions.now c.args.stamps.now c.args.out.now none;
+      referred = nothing_referred file c.args.v c.args.step c.args.versions.now c.args.stamps.now c.args.out.now none;
       labels = c.has_labels-labels.ensures;
     }
 

@@ -7,7 +7,7 @@ use lib.ListN.{get_or}
 use Rattle.report.specs.Bytes.{carried_of}
 use Rattle.state.specs.Carrying.{carrying}
 use Rattle.state.specs.declared.Carried.{Carried}
-use Rattle.words.proofs.Replaced.{replacing-begin, replacing-behind, replacing-next, replacing-end}
+use Rattle.words.proofs.Replaced.{replacing_begin, replacing_behind, replacing_next, replacing_end}
 use Rattle.walk.proofs.settle_all.Goals as goal
 use Rattle.walk.proofs.settle_all.Goals.{At-loop-a}
 
@@ -17,10 +17,10 @@ settled_at stamps states b = carrying (get_or stamps b 0) (carried_of states b)
 
 -- the state that comes next is as it was
 same : (c : At-loop-a) → carried_of c.loop-a.new c.loop-a.a ≡ carried_of c.args.states c.loop-a.a
-same c = replacing-behind c.loop-a.invariant _ (omega arith)
+same c = replacing_behind c.loop-a.invariant _ (omega arith)
 
 pub loop-a-init : goal.loop-a-init
-loop-a-init c = replacing-begin _ _ _ _
+loop-a-init c = replacing_begin _ _ _ _
 
 pub offset_bounds-new-a : goal.offset_bounds-new-a
 offset_bounds-new-a c = omega (arith, c.requires)
@@ -44,7 +44,7 @@ pub overflow_add-a : goal.overflow_add-a
 overflow_add-a c = omega (arith, c.requires)
 
 pub loop-a-preserved : goal.loop-a-preserved
-loop-a-preserved c = replacing-next c.loop-a.invariant (omega arith) (omega arith) (c.with_stamp.ensures ∙ ap (carrying _) (same (goal.at.loop-a-preserved c).At-loop-a))
+loop-a-preserved c = replacing_next c.loop-a.invariant (omega arith) (omega arith) (c.with_stamp.ensures ∙ ap (carrying _) (same (goal.at.loop-a-preserved c).At-loop-a))
 
 pub returns : goal.returns
-returns c = replacing-end c.loop-a.invariant (omega arith)
+returns c = replacing_end c.loop-a.invariant (omega arith)

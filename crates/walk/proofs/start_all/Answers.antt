@@ -3,7 +3,7 @@ use mathlib.Core.Path.{◌≡◌, refl, sym, subst}
 use Prim.Native.Nat.{ℕ, ◌+◌, ◌*◌, ◌<◌}
 use native.Mathlib.Omega.{arith}
 use lib.ListN.{replicate}
-use Rattle.passes.proofs.Cells.{in-eight}
+use Rattle.passes.proofs.Cells.{in_eight}
 use Rattle.labels.proofs.Rules.Proper.{proper}
 use Rattle.routine.specs.Arrays.{array_of}
 use Rattle.routine.specs.Layout.{arrays}
@@ -12,29 +12,29 @@ use Rattle.sets.specs.Sets.{width}
 use Rattle.state.specs.Carrying.{Carries, row_of}
 use Rattle.state.specs.Cleaning.{callers}
 use Rattle.state.specs.Start.{started}
-use Rattle.words.proofs.Tables.{zeros-at}
+use Rattle.words.proofs.Tables.{zeros_at}
 use Rattle.walk.specs.Walks.{Held}
-use Rattle.walk.proofs.Held.{hold-more}
+use Rattle.walk.proofs.Held.{hold_more}
 use Rattle.walk.proofs.start_all.Goals as goal
 use Rattle.walk.proofs.start_all.Goals.{In-loop-a}
 
 -- what holds in a turn
 module _ (c : In-loop-a) where
   small : c.loop-a.a < 8
-  small = in-eight c.requires.read_as.well (omega (arith, c.requires.read_as.heads.arrays-are))
+  small = in_eight c.requires.read_as.well (omega (arith, c.requires.read_as.heads.arrays_are))
 
 pub loop-a-init : goal.loop-a-init
-loop-a-init c = (omega arith, record { states-sized = refl; versions-sized = c.requires.versions_len; stamps-sized = c.requires.stamps_len; others-sized = refl; stand = λ b h. absurd (omega arith) })
+loop-a-init c = (omega arith, record { states_sized = refl; versions_sized = c.requires.versions_len; stamps_sized = c.requires.stamps_len; others_sized = refl; stand = λ b h. absurd (omega arith) })
 
 pub record_of-requires : goal.record_of-requires
 record_of-requires c =
     record {
       laid = c.requires.read_as.well.laid;
-      a_bound = omega (arith, c.requires.read_as.heads.arrays-are);
+      a_bound = omega (arith, c.requires.read_as.heads.arrays_are);
     }
 
 pub start-s-requires : goal.start-s-requires
-start-s-requires c = subst (λ (r : ArrayRecord). r.initial < width) (sym c.record_of.ensures) (proper _ c.requires.read_as.well c.loop-a.a (omega (arith, c.requires.read_as.heads.arrays-are))).initial-fits
+start-s-requires c = subst (λ (r : ArrayRecord). r.initial < width) (sym c.record_of.ensures) (proper _ c.requires.read_as.well c.loop-a.a (omega (arith, c.requires.read_as.heads.arrays_are))).initial_fits
 
 pub bounds-versions-a : goal.bounds-versions-a
 bounds-versions-a c = omega (arith, small (goal.at.bounds-versions-a c).In-loop-a)
@@ -61,9 +61,9 @@ loop-a-preserved c =
     let a = c.loop-a.a in
     let zeros : ((row : ℕ → ℕ) → row (array_of file a).initial ≡ 0 → Carries (callers (array_of file a)) (started (array_of file a)) n row) =
     subst (λ (r : ArrayRecord). (row : ℕ → ℕ) → row r.initial ≡ 0 → Carries (callers r) (started r) n row) c.record_of.ensures c.start-s.ensures in
-    (omega arith, hold-more n c.loop-a.invariant.1 (small (goal.at.loop-a-preserved c).In-loop-a) refl (λ b k ne in-k. refl) (zeros (row_of (replicate (8 * width) 0) a) (zeros-at (8 * width) (width * a + (array_of file a).initial))))
+    (omega arith, hold_more n c.loop-a.invariant.1 (small (goal.at.loop-a-preserved c).In-loop-a) refl (λ b k ne in-k. refl) (zeros (row_of (replicate (8 * width) 0) a) (zeros_at (8 * width) (width * a + (array_of file a).initial))))
 
 pub returns : goal.returns
 returns c =
-    let all : c.loop-a.a ≡ arrays c.args.file.now = omega (arith, c.requires.read_as.heads.arrays-are) in
+    let all : c.loop-a.a ≡ arrays c.args.file.now = omega (arith, c.requires.read_as.heads.arrays_are) in
     subst (λ (m : ℕ). Held c.args.file.now (λ b. started (array_of c.args.file.now b)) m c.loop-a.states c.loop-a.versions c.loop-a.stamps (replicate (8 * width) 0)) all c.loop-a.invariant.1

@@ -9,15 +9,15 @@ use Rattle.state.specs.Carrying.{bare}
 use Rattle.walk.specs.Report.{counts, report_bytes}
 use Rattle.demand.specs.Run.{run_records}
 use Rattle.report.proofs.Bytes.{entries-length}
-use Rattle.walk.proofs.Bytes.{entries-of, report-parts}
+use Rattle.walk.proofs.Bytes.{entries-of, report_parts}
 use Rattle.words.specs.Tables.{wrote}
-use Rattle.words.proofs.Written.{part_length, lent_length, write-front}
+use Rattle.words.proofs.Written.{part_length, lent_length, write_front}
 use Rattle.walk.proofs.write.Goals as goal
 use Rattle.walk.proofs.write.Goals.{Start}
 
 -- the parts of the report
 parts : (s : Start) → 8 * s.args.h.arrays + (length (records_bytes (run_records s.args.file.now s.args.path.now)) + 2 * s.args.h.edges) ≡ s.args.size
-parts s = omega (arith, s.requires.size_value, report-parts s.args.file.now s.args.path.now, s.requires.read_as.heads.arrays-are, s.requires.read_as.heads.edges_are)
+parts s = omega (arith, s.requires.size_value, report_parts s.args.file.now s.args.path.now, s.requires.read_as.heads.arrays_are, s.requires.read_as.heads.edges_are)
 
 fits : (s : Start) → s.args.size ≤ length s.args.out.now
 fits s = s.requires.size_in_bounds
@@ -26,7 +26,7 @@ pub overflow_sub-records : goal.overflow_sub-records
 overflow_sub-records c = omega (arith, parts (goal.at.overflow_sub-records c).Start)
 
 pub overflow_mul-records : goal.overflow_mul-records
-overflow_mul-records c = omega (arith, c.requires.read_as.heads.edges_are, c.requires.read_as.well.laid.limits.few-edges)
+overflow_mul-records c = omega (arith, c.requires.read_as.heads.edges_are, c.requires.read_as.well.laid.limits.few_edges)
 
 pub overflow_sub-records-2 : goal.overflow_sub-records-2
 overflow_sub-records-2 c = omega (arith, parts (goal.at.overflow_sub-records-2 c).Start)
@@ -51,7 +51,7 @@ write_behind-states-requires c =
 pub write_entries-requires : goal.write_entries-requires
 write_entries-requires c =
     record {
-      m_bound = omega (arith, c.requires.read_as.heads.arrays-are, c.requires.read_as.well.laid.limits.few-arrays);
+      m_bound = omega (arith, c.requires.read_as.heads.arrays_are, c.requires.read_as.well.laid.limits.few_arrays);
       m_in_bounds = omega (arith, parts (goal.at.write_entries-requires c).Start, fits (goal.at.write_entries-requires c).Start, lent_length c.args.out.now c.write_behind-states.new.out (8 * c.args.h.arrays) (omega (arith, parts (goal.at.write_entries-requires c).Start, fits (goal.at.write_entries-requires c).Start)) c.write_behind-states.auto.out);
     }
 
@@ -62,8 +62,8 @@ returns c =
     let path = c.args.path.now in
     let states = c.write_behind-states.result in
     let rest = records_bytes (run_records file path) ++ counts file path in
-    let front = ap (entries_of states) c.requires.read_as.heads.arrays-are ∙ entries-of file path states c.write_behind-states.ensures.by_index in
+    let front = ap (entries_of states) c.requires.read_as.heads.arrays_are ∙ entries-of file path states c.write_behind-states.ensures.by_index in
     let long : 8 * c.args.h.arrays ≡ length (entries_of states c.args.h.arrays) = sym (entries-length (λ b. bare (carried_of states b)) c.args.h.arrays) in
     c.write_entries.ensures
-    ∙ write-front c.args.out.now (entries_of states c.args.h.arrays) rest _ (8 * c.args.h.arrays) long (omega (arith, parts (goal.at.returns c).Start, fits (goal.at.returns c).Start)) c.write_behind-states.ensures.out_after
+    ∙ write_front c.args.out.now (entries_of states c.args.h.arrays) rest _ (8 * c.args.h.arrays) long (omega (arith, parts (goal.at.returns c).Start, fits (goal.at.returns c).Start)) c.write_behind-states.ensures.out_after
     ∙ ap (λ (e : List ℕ). wrote c.args.out.now (e ++ rest)) front

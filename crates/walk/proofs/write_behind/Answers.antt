@@ -8,7 +8,7 @@ use Rattle.report.specs.Bytes.{records_bytes, counts_of}
 use Rattle.demand.specs.Run.{run_records}
 use Rattle.walk.proofs.Bytes.{taken-length, counts_of_is}
 use Rattle.words.specs.Tables.{wrote}
-use Rattle.words.proofs.Written.{part_length, lent_length, write-front}
+use Rattle.words.proofs.Written.{part_length, lent_length, write_front}
 use Rattle.walk.proofs.write_behind.Goals as goal
 use Rattle.walk.proofs.write_behind.Goals.{Start}
 
@@ -25,7 +25,7 @@ slice_bounds-write_counts-start c = omega (arith, room (goal.at.slice_bounds-wri
 pub write_counts-requires : goal.write_counts-requires
 write_counts-requires c =
     record {
-      counts_len_bound = omega (arith, taken-length c.args.file.now c.args.path.now c.requires.taken_value, c.requires.read_as.well.laid.limits.few-edges);
+      counts_len_bound = omega (arith, taken-length c.args.file.now c.args.path.now c.requires.taken_value, c.requires.read_as.well.laid.limits.few_edges);
       counts_in_bounds = omega (arith, room (goal.at.write_counts-requires c).Start, part_length c.args.out.now c.args.records);
     }
 
@@ -44,6 +44,6 @@ returns c =
     record {
       by_index = c.follow.ensures.by_index;
       out_after = c.follow.ensures.out_after
-          ∙ write-front c.args.out.now records (counts_of c.args.taken.now) _ c.args.records c.requires.records_value (omega (arith, room (goal.at.returns c).Start)) c.write_counts.ensures
+          ∙ write_front c.args.out.now records (counts_of c.args.taken.now) _ c.args.records c.requires.records_value (omega (arith, room (goal.at.returns c).Start)) c.write_counts.ensures
           ∙ ap (λ (l : List ℕ). wrote c.args.out.now (records ++ l)) (counts_of_is c.args.file.now c.args.path.now c.requires.taken_value);
     }

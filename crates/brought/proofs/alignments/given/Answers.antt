@@ -4,7 +4,7 @@ use mathlib.Core.Bool.{Bool, cond}
 use Prim.Native.Nat.{◌^◌}
 use native.Mathlib.Omega.{arith}
 use Rattle.directives.specs.declared.array.Alignment.{Alignment}
-use Rattle.directives.proofs.Limits.{read-heads}
+use Rattle.directives.proofs.Limits.{read_heads}
 use Rattle.mappings.specs.Along.{initial_state}
 use Rattle.mappings.specs.Computed.{alignment_of, code}
 use Rattle.mappings.specs.Theorem.{Right}
@@ -16,24 +16,24 @@ abbrev alignment : Start → Alignment
 alignment s = alignment_of ((initial_state s.args.file.now).aligned s.args.a) s.args.d
 
 -- the alignment that is made a set
-is-alignment : (c : After-alignment_of) → c.alignment_of.result ≡ alignment (goal.at.After-alignment_of c).Start
-is-alignment c =
+is_alignment : (c : After-alignment_of) → c.alignment_of.result ≡ alignment (goal.at.After-alignment_of c).Start
+is_alignment c =
     c.alignment_of.ensures ∙ ap (λ (x : Alignment). alignment_of x c.args.d) c.initial_alignment.ensures
 
 pub initial_alignment-requires : goal.initial_alignment-requires
 initial_alignment-requires c =
     record {
-      heads = read-heads c.requires.directives_read;
+      heads = read_heads c.requires.directives_read;
       a_bound = c.requires.a_bound;
     }
 
 pub single-requires : goal.single-requires
 single-requires c =
-    let right = subst (Right c.args.file.now) (sym (is-alignment (goal.at.single-requires c).After-alignment_of)) c.requires.right in
-    (omega (arith, right.0, (read-heads c.requires.directives_read).limits.few-templates), right.1)
+    let right = subst (Right c.args.file.now) (sym (is_alignment (goal.at.single-requires c).After-alignment_of)) c.requires.right in
+    (omega (arith, right.0, (read_heads c.requires.directives_read).limits.few_templates), right.1)
 
 pub returns-then-aligns : goal.returns-then-aligns
 returns-then-aligns c =
     c.single.ensures
-    ∙ ap (λ (x : Alignment). 2 ^ code x) (is-alignment (goal.at.returns-then-aligns c).After-alignment_of)
+    ∙ ap (λ (x : Alignment). 2 ^ code x) (is_alignment (goal.at.returns-then-aligns c).After-alignment_of)
     ∙ ap (λ (b : Bool). cond b (2 ^ code (alignment (goal.at.returns-then-aligns c).Start)) 0) (sym c.if-aligns.true)

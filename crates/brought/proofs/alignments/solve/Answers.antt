@@ -5,20 +5,20 @@ use mathlib.Core.List.{List}
 use Prim.Native.Nat.{ℕ, ◌≤◌}
 use lib.ListN.{length}
 use Rattle.flow.specs.Cells.{Pass}
-use Rattle.flow.proofs.Cells.{none-cleared, cells-solved}
+use Rattle.flow.proofs.Cells.{none_cleared, cells_solved}
 use Rattle.directives.specs.Layout.{arrays, vertices, edge_bytes}
-use Rattle.directives.proofs.Limits.{read-heads}
+use Rattle.directives.proofs.Limits.{read_heads}
 use Rattle.mappings.specs.Computed.{last_sets, align_sets}
 use Rattle.mappings.specs.Tables.{ArrayCells, Alignments}
-use Rattle.facts.proofs.Rounds.{pass-stops}
+use Rattle.facts.proofs.Rounds.{pass_stops}
 use Rattle.brought.specs.Cells.{align_gives, align_passes}
 use Rattle.brought.proofs.alignments.solve.Goals as goal
 
 -- what the pass leaves
-alignments-solved : (file : List ℕ) {gives passes sets : List ℕ} → arrays file ≤ 8 → ArrayCells file (align_gives file) gives → ArrayCells file (align_passes file) passes
+alignments_solved : (file : List ℕ) {gives passes sets : List ℕ} → arrays file ≤ 8 → ArrayCells file (align_gives file) gives → ArrayCells file (align_passes file) passes
     → Pass (edge_bytes file) (vertices file) false gives passes sets → Alignments file sets
 unfolding align_sets last_sets align_gives align_passes
-alignments-solved file few g p h = cells-solved few (align_gives file) (align_passes file) g p h
+alignments_solved file few g p h = cells_solved few (align_gives file) (align_passes file) g p h
 
 pub fill-requires : goal.fill-requires
 fill-requires c =
@@ -27,7 +27,7 @@ fill-requires c =
       reached = c.requires.reached;
       gives_len = c.clear.auto.sets ∙ c.requires.gives_len;
       passes_len = c.requires.passes_len;
-      none_beyond = none-cleared (read-heads c.requires.directives_read).limits.few-arrays (length c.args.gives.now) c.clear.ensures;
+      none_beyond = none_cleared (read_heads c.requires.directives_read).limits.few_arrays (length c.args.gives.now) c.clear.ensures;
     }
 
 pub solve-requires : goal.solve-requires
@@ -46,8 +46,8 @@ shape_of-gives c = c.fill.auto.gives ∙ c.clear.auto.sets
 pub returns : goal.returns
 returns c =
     let file = c.args.file.now in
-    let few = (read-heads c.requires.directives_read).limits.few-arrays in
+    let few = (read_heads c.requires.directives_read).limits.few_arrays in
     record {
-      alignments = alignments-solved file few c.fill.ensures.cells c.fill.ensures.cells_2 c.solve.ensures.pass;
-      alignments_stop = pass-stops (align_gives file) (align_passes file) c.requires.directives_read few c.requires.edge_order c.fill.ensures.cells c.fill.ensures.cells_2 c.fill.ensures.none_beyond_2 c.solve.ensures.rounds;
+      alignments = alignments_solved file few c.fill.ensures.cells c.fill.ensures.cells_2 c.solve.ensures.pass;
+      alignments_stop = pass_stops (align_gives file) (align_passes file) c.requires.directives_read few c.requires.edge_order c.fill.ensures.cells c.fill.ensures.cells_2 c.fill.ensures.none_beyond_2 c.solve.ensures.rounds;
     }

@@ -3,36 +3,36 @@ use mathlib.Core.Path.{sym, ap, ◌∙◌}
 use Prim.Native.Nat.{◌<◌}
 use native.Mathlib.Omega.{arith}
 use Rattle.directives.specs.Layout.{vertices}
-use Rattle.directives.proofs.Limits.{read-heads}
+use Rattle.directives.proofs.Limits.{read_heads}
 use Rattle.brought.specs.Cells.{realigns_with}
-use Rattle.brought.proofs.SpreadRows.{copying-begin, copying-on, copying-next, copying-end}
+use Rattle.brought.proofs.SpreadRows.{copying_begin, copying_on, copying_next, copying_end}
 use Rattle.brought.proofs.spreads.copy_asked.Goals as goal
 use Rattle.brought.proofs.spreads.copy_asked.Goals.{In-loop-v, then-realigns_with, else-realigns_with}
 
 -- what holds in a turn
 module _ (c : In-loop-v) where
-  in-v : c.loop-v.v < vertices c.args.file.now
-  in-v = omega (arith, (read-heads c.requires.directives_read).vertices-are)
+  in_v : c.loop-v.v < vertices c.args.file.now
+  in_v = omega (arith, (read_heads c.requires.directives_read).vertices_are)
 
   small : c.loop-v.v < 256
-  small = omega (arith, in-v, (read-heads c.requires.directives_read).limits.few-vertices)
+  small = omega (arith, in_v, (read_heads c.requires.directives_read).limits.few_vertices)
 
 pub loop-v-init : goal.loop-v-init
-loop-v-init c = (omega arith, copying-begin c.requires.spreads_to)
+loop-v-init c = (omega arith, copying_begin c.requires.spreads_to)
 
 pub at-requires : goal.at-requires
 at-requires c =
     record {
-      heads = read-heads c.requires.directives_read;
-      v_bound = in-v c;
+      heads = read_heads c.requires.directives_read;
+      v_bound = in_v c;
     }
 
 pub copy_row-requires : goal.copy_row-requires
 copy_row-requires c =
     record {
       v_bound = small (goal.at.copy_row-requires c).In-loop-v;
-      v_in_bounds = omega (arith, in-v (goal.at.copy_row-requires c).In-loop-v, c.requires.cells.size);
-      v_in_bounds_2 = omega (arith, in-v (goal.at.copy_row-requires c).In-loop-v, c.loop-v.invariant.1.size);
+      v_in_bounds = omega (arith, in_v (goal.at.copy_row-requires c).In-loop-v, c.requires.cells.size);
+      v_in_bounds_2 = omega (arith, in_v (goal.at.copy_row-requires c).In-loop-v, c.loop-v.invariant.1.size);
     }
 
 pub overflow_add-v : goal.overflow_add-v
@@ -47,8 +47,8 @@ loop-v-preserved c =
     let told = c.realigns_with.ensures ∙ ap (realigns_with c.args.t) c.at.ensures in (
       omega (arith, c.loop-v-test.true),
       elim c.if-realigns_with.branch [
-        | then-realigns_with w ↦ copying-next h (sym w.if-realigns_with.true ∙ told) (in-v (goal.at.loop-v-preserved c).In-loop-v) c.requires.cells (w.spreads-is ∙ w.copy_row.ensures)
-        | else-realigns_with w ↦ copying-on h (sym w.if-realigns_with.false ∙ told) w.spreads-is
+        | then-realigns_with w ↦ copying_next h (sym w.if-realigns_with.true ∙ told) (in_v (goal.at.loop-v-preserved c).In-loop-v) c.requires.cells (w.spreads-is ∙ w.copy_row.ensures)
+        | else-realigns_with w ↦ copying_on h (sym w.if-realigns_with.false ∙ told) w.spreads-is
       ],
     )
 
@@ -56,4 +56,4 @@ pub shape_of-spreads : goal.shape_of-spreads
 shape_of-spreads c = c.loop-v.invariant.1.size ∙ sym c.requires.spreads_to.size
 
 pub returns : goal.returns
-returns c = copying-end c.loop-v.invariant.1 (omega (arith, (read-heads c.requires.directives_read).vertices-are))
+returns c = copying_end c.loop-v.invariant.1 (omega (arith, (read_heads c.requires.directives_read).vertices_are))

@@ -6,7 +6,7 @@ use native.Mathlib.Nat.{le_refl}
 use native.Mathlib.Omega.{arith}
 use Rattle.flow.proofs.Cells.{rows_none, rows_next, rows_all}
 use Rattle.directives.specs.Layout.{vertices}
-use Rattle.directives.proofs.Limits.{read-heads}
+use Rattle.directives.proofs.Limits.{read_heads}
 use Rattle.brought.specs.Cells.{spread_gives, spread_halves}
 use Rattle.brought.proofs.spreads.fill.Goals as goal
 use Rattle.brought.proofs.spreads.fill.Goals.{In-loop-v}
@@ -20,8 +20,8 @@ passes_at file t c v = spread_halves file t v
 
 -- what holds in a turn
 module _ (c : In-loop-v) where
-  in-v : c.loop-v.v < vertices c.args.file.now
-  in-v = omega (arith, (read-heads c.requires.directives_read).vertices-are)
+  in_v : c.loop-v.v < vertices c.args.file.now
+  in_v = omega (arith, (read_heads c.requires.directives_read).vertices_are)
 
 pub loop-v-init : goal.loop-v-init
 loop-v-init c = (omega arith, rows_none (le_refl 8) _ _ c.requires.gives_len, rows_none (le_refl 8) _ _ c.requires.passes_len)
@@ -30,21 +30,21 @@ pub fill_row-requires : goal.fill_row-requires
 fill_row-requires c =
     record {
       directives_read = c.requires.directives_read;
-      v_bound = in-v (goal.at.fill_row-requires c).In-loop-v;
+      v_bound = in_v (goal.at.fill_row-requires c).In-loop-v;
       reached = c.requires.reached;
       gives_len = c.loop-v.invariant.1.size;
       passes_len = c.loop-v.invariant.2.size;
     }
 
 pub overflow_add-v : goal.overflow_add-v
-overflow_add-v c = omega (arith, in-v (goal.at.overflow_add-v c).In-loop-v, (read-heads c.requires.directives_read).limits.few-vertices)
+overflow_add-v c = omega (arith, in_v (goal.at.overflow_add-v c).In-loop-v, (read_heads c.requires.directives_read).limits.few_vertices)
 
 pub loop-v-preserved : goal.loop-v-preserved
 loop-v-preserved c =
     let file = c.args.file.now in (
       omega arith,
-      rows_next (le_refl 8) (gives_at file c.args.t) c.args.gives.now c.loop-v.v (in-v (goal.at.loop-v-preserved c).In-loop-v) c.loop-v.invariant.1 c.fill_row.ensures.gives_after,
-      rows_next (le_refl 8) (passes_at file c.args.t) c.args.passes.now c.loop-v.v (in-v (goal.at.loop-v-preserved c).In-loop-v) c.loop-v.invariant.2 c.fill_row.ensures.passes_after,
+      rows_next (le_refl 8) (gives_at file c.args.t) c.args.gives.now c.loop-v.v (in_v (goal.at.loop-v-preserved c).In-loop-v) c.loop-v.invariant.1 c.fill_row.ensures.gives_after,
+      rows_next (le_refl 8) (passes_at file c.args.t) c.args.passes.now c.loop-v.v (in_v (goal.at.loop-v-preserved c).In-loop-v) c.loop-v.invariant.2 c.fill_row.ensures.passes_after,
     )
 
 pub shape_of-gives : goal.shape_of-gives
@@ -56,7 +56,7 @@ shape_of-passes c = c.loop-v.invariant.2.size ∙ sym c.requires.passes_len
 pub returns : goal.returns
 returns c =
     let file = c.args.file.now in
-    let all : vertices file ≤ c.loop-v.v = omega (arith, (read-heads c.requires.directives_read).vertices-are) in
+    let all : vertices file ≤ c.loop-v.v = omega (arith, (read_heads c.requires.directives_read).vertices_are) in
     record {
       cells = rows_all (le_refl 8) (gives_at file c.args.t) c.args.gives.now c.loop-v.v all c.loop-v.invariant.1;
       cells_2 = rows_all (le_refl 8) (passes_at file c.args.t) c.args.passes.now c.loop-v.v all c.loop-v.invariant.2;

@@ -2,22 +2,22 @@
 use mathlib.Core.Path.{refl, ap, ◌∙◌}
 use Prim.Native.Nat.{◌<◌}
 use native.Mathlib.Omega.{arith}
-use Rattle.words.proofs.Replaced.{replacing-begin, replacing-next, replacing-end}
-use Rattle.directives.proofs.Limits.{read-heads}
+use Rattle.words.proofs.Replaced.{replacing_begin, replacing_next, replacing_end}
+use Rattle.directives.proofs.Limits.{read_heads}
 use Rattle.mappings.specs.Computed.{redistributes}
-use Rattle.brought.proofs.SpreadRows.{spread-gives, spread-passes}
+use Rattle.brought.proofs.SpreadRows.{spread_gives_lem, spread_passes_lem}
 use Rattle.brought.proofs.spreads.fill_row.Goals as goal
 use Rattle.brought.proofs.spreads.fill_row.Goals.{In-loop-c}
 
 -- what holds in a turn
 module _ (c : In-loop-c) where
   small : c.args.v < 256
-  small = omega (arith, c.requires.v_bound, (read-heads c.requires.directives_read).limits.few-vertices)
+  small = omega (arith, c.requires.v_bound, (read_heads c.requires.directives_read).limits.few_vertices)
 
 pub at-requires : goal.at-requires
 at-requires c =
     record {
-      heads = read-heads c.requires.directives_read;
+      heads = read_heads c.requires.directives_read;
       v_bound = c.requires.v_bound;
     }
 
@@ -26,11 +26,11 @@ is_reached-requires c =
     record {
       reached = c.requires.reached;
       v_bound = c.requires.v_bound;
-      v_bound_2 = omega (arith, c.requires.v_bound, (read-heads c.requires.directives_read).limits.few-vertices);
+      v_bound_2 = omega (arith, c.requires.v_bound, (read_heads c.requires.directives_read).limits.few_vertices);
     }
 
 pub loop-c-init : goal.loop-c-init
-loop-c-init c = (replacing-begin _ _ _ _, replacing-begin _ _ _ _)
+loop-c-init c = (replacing_begin _ _ _ _, replacing_begin _ _ _ _)
 
 pub overflow_mul-at : goal.overflow_mul-at
 overflow_mul-at c = omega (arith, small c)
@@ -54,9 +54,9 @@ pub loop-c-preserved : goal.loop-c-preserved
 loop-c-preserved c =
     let a = c.args in
     let is = c.redistributes.ensures ∙ ap (redistributes a.t) c.at.ensures in (
-      replacing-next c.loop-c.invariant.0 c.loop-c-test.true refl
-          (spread-gives a.file.now a.t a.v is c.loop-c.c c.is_reached.ensures c.single-set.ensures c.set_if.ensures),
-      replacing-next c.loop-c.invariant.1 c.loop-c-test.true refl (spread-passes a.file.now a.t a.v is c.every_if.ensures),
+      replacing_next c.loop-c.invariant.0 c.loop-c-test.true refl
+          (spread_gives_lem a.file.now a.t a.v is c.loop-c.c c.is_reached.ensures c.single-set.ensures c.set_if.ensures),
+      replacing_next c.loop-c.invariant.1 c.loop-c-test.true refl (spread_passes_lem a.file.now a.t a.v is c.every_if.ensures),
     )
 
 pub shape_of-gives : goal.shape_of-gives
@@ -68,6 +68,6 @@ shape_of-passes c = c.loop-c.invariant.1.sized
 pub returns : goal.returns
 returns c =
     record {
-      gives_after = replacing-end c.loop-c.invariant.0 c.loop-c-test.false;
-      passes_after = replacing-end c.loop-c.invariant.1 c.loop-c-test.false;
+      gives_after = replacing_end c.loop-c.invariant.0 c.loop-c-test.false;
+      passes_after = replacing_end c.loop-c.invariant.1 c.loop-c-test.false;
     }

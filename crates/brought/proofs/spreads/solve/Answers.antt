@@ -2,18 +2,18 @@
 use mathlib.Core.Path.{sym, ◌∙◌}
 use Prim.Native.Nat.{◌<◌}
 use native.Mathlib.Omega.{arith}
-use Rattle.directives.proofs.Limits.{read-heads}
-use Rattle.brought.proofs.SpreadRows.{spreads-begin, spreads-end}
+use Rattle.directives.proofs.Limits.{read_heads}
+use Rattle.brought.proofs.SpreadRows.{spreads_begin, spreads_end}
 use Rattle.brought.proofs.spreads.solve.Goals as goal
 use Rattle.brought.proofs.spreads.solve.Goals.{In-loop-t}
 
 -- what holds in a turn
 module _ (c : In-loop-t) where
   small : c.loop-t.t < 8
-  small = let heads = read-heads c.requires.directives_read in omega (arith, c.loop-t-test.true, heads.templates-are, heads.limits.few-templates)
+  small = let heads = read_heads c.requires.directives_read in omega (arith, c.loop-t-test.true, heads.templates_are, heads.limits.few_templates)
 
 pub loop-t-init : goal.loop-t-init
-loop-t-init c = (omega arith, spreads-begin c.requires.spreads_len, c.requires.sets_len, c.requires.gives_len, c.requires.passes_len, c.requires.halves_len)
+loop-t-init c = (omega arith, spreads_begin c.requires.spreads_len, c.requires.sets_len, c.requires.gives_len, c.requires.passes_len, c.requires.halves_len)
 
 pub solve_template-requires : goal.solve_template-requires
 solve_template-requires c =
@@ -62,4 +62,4 @@ pub shape_of-halves : goal.shape_of-halves
 shape_of-halves c = c.loop-t.invariant.5 ∙ sym c.requires.halves_len
 
 pub returns : goal.returns
-returns c = spreads-end c.requires.directives_read (omega (arith, c.loop-t-test.false, (read-heads c.requires.directives_read).templates-are)) c.loop-t.invariant.1
+returns c = spreads_end c.requires.directives_read (omega (arith, c.loop-t-test.false, (read_heads c.requires.directives_read).templates_are)) c.loop-t.invariant.1

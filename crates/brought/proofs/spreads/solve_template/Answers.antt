@@ -2,16 +2,16 @@
 use mathlib.Core.Path.{refl, sym, ◌∙◌}
 use mathlib.Core.Logic.{inl, inr}
 use native.Mathlib.Nat.{le_refl}
-use Rattle.facts.proofs.Rounds.{pass-stops, none-beyond}
+use Rattle.facts.proofs.Rounds.{pass_stops, none_beyond}
 use Rattle.brought.specs.Cells.{spread_gives, spread_passes}
-use Rattle.brought.proofs.SpreadRows.{spread-passing, spreads-solved, spreads-on}
+use Rattle.brought.proofs.SpreadRows.{spread_passing, spreads_solved, spreads_on}
 use Rattle.brought.proofs.spreads.solve_template.Goals as goal
 
 pub returns-then-not-asked : goal.returns-then-not-asked
 returns-then-not-asked c =
     let none = sym c.is_asked-asked.ensures ∙ c.if-not-asked.true in
     record {
-      spreads_to_2 = spreads-on c.args.t c.requires.spreads_to none;
+      spreads_to_2 = spreads_on c.args.t c.requires.spreads_to none;
       spreads_asked = inr (refl, none);
     }
 
@@ -26,7 +26,7 @@ fill-requires c =
 
 pub solve_sets-rounds-requires : goal.solve_sets-rounds-requires
 solve_sets-rounds-requires c =
-    let passed = spread-passing c.args.file.now c.args.t c.fill.ensures.cells_2 in
+    let passed = spread_passing c.args.file.now c.args.t c.fill.ensures.cells_2 in
     record {
       directives_read = c.requires.directives_read;
       edge_order = c.requires.edge_order;
@@ -43,7 +43,7 @@ copy_asked-requires c =
     let t = c.args.t in
     record {
       directives_read = c.requires.directives_read;
-      cells = spreads-solved file t c.fill.ensures.cells (spread-passing file t c.fill.ensures.cells_2).cells c.solve_sets-rounds.ensures.pass;
+      cells = spreads_solved file t c.fill.ensures.cells (spread_passing file t c.fill.ensures.cells_2).cells c.solve_sets-rounds.ensures.pass;
       spreads_to = c.requires.spreads_to;
     }
 
@@ -51,8 +51,8 @@ pub returns : goal.returns
 returns c =
     let file = c.args.file.now in
     let t = c.args.t in
-    let passed = (spread-passing file t c.fill.ensures.cells_2).cells in
+    let passed = (spread_passing file t c.fill.ensures.cells_2).cells in
     record {
       spreads_to_2 = c.copy_asked.ensures;
-      spreads_asked = inl (pass-stops (spread_gives file t) (λ k v. spread_passes file t v) c.requires.directives_read (le_refl 8) c.requires.edge_order c.fill.ensures.cells passed (none-beyond _ _) c.solve_sets-rounds.ensures.rounds);
+      spreads_asked = inl (pass_stops (spread_gives file t) (λ k v. spread_passes file t v) c.requires.directives_read (le_refl 8) c.requires.edge_order c.fill.ensures.cells passed (none_beyond _ _) c.solve_sets-rounds.ensures.rounds);
     }

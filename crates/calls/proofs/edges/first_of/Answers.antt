@@ -4,7 +4,7 @@ use Prim.Native.Nat.{◌≤◌}
 use native.Mathlib.Omega.{arith}
 use lib.ListN.{get_or}
 use Rattle.calls.specs.Parts.{first_vertex_of}
-use Rattle.calls.proofs.Written.{firsts-few}
+use Rattle.calls.proofs.Written.{firsts_few}
 use Rattle.calls.proofs.edges.first_of.Goals as goal
 use Rattle.calls.proofs.edges.first_of.Goals.{Start}
 
@@ -12,7 +12,7 @@ is : (s : Start) → get_or s.args.firsts.now s.args.v 0 ≡ first_vertex_of s.a
 is s = s.requires.firsts.are s.args.v s.requires.v_bound
 
 few : (s : Start) → get_or s.args.firsts.now s.args.v 0 ≤ 256
-few s = omega (arith, is s, firsts-few s.args.file.now s.requires.file_bound s.args.v s.requires.v_bound)
+few s = omega (arith, is s, firsts_few s.args.file.now s.requires.file_bound s.args.v s.requires.v_bound)
 
 pub overflow_cast-result : goal.overflow_cast-result
 overflow_cast-result c = record { fits = omega (arith, few (goal.at.overflow_cast-result c).Start) }

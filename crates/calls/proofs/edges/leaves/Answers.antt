@@ -2,8 +2,8 @@
 use mathlib.Core.Path.{ap}
 use native.Mathlib.Omega.{arith}
 use Rattle.routine.specs.declared.edge.Edge.{Edge}
-use Rattle.calls.proofs.Written.{leaves-tell}
+use Rattle.calls.proofs.Written.{leaves_tell}
 use Rattle.calls.proofs.edges.leaves.Goals as goal
 
 pub returns : goal.returns
-returns c = leaves-tell c.args.file.now c.args.i c.args.v c.at.result.from (omega (arith, c.if-i-h.false, c.requires.heads.edges_are)) (ap (λ (e : Edge). e.from) c.at.ensures)
+returns c = leaves_tell c.args.file.now c.args.i c.args.v c.at.result.from (omega (arith, c.if-i-h.false, c.requires.heads.edges_are)) (ap (λ (e : Edge). e.from) c.at.ensures)

@@ -10,25 +10,25 @@ use Rattle.words.proofs.Written.{wrote-length}
 use Rattle.words.specs.Tables.{wrote}
 use Rattle.calls.specs.Expanded.{expanded_edges, edges_bytes}
 use Rattle.calls.specs.Writing.{edges_up_to}
-use Rattle.calls.proofs.Written.{begins, begins-none, all-few, up-to-few, place_is, write-on, ends}
+use Rattle.calls.proofs.Written.{begins, begins_none, all_few, up_to_few, place_is, write_on, ends}
 use Rattle.calls.proofs.edges.write.Goals as goal
 use Rattle.calls.proofs.edges.write.Goals.{At-loop-p}
 
 -- what is written is no longer than what is to be
 within : (l : At-loop-p) → 4 * l.loop-p.p.count ≤ 4 * length (expanded_edges l.args.file.now)
-within l = omega (arith, up-to-few l.requires.read_as.well l.loop-p.invariant.0)
+within l = omega (arith, up_to_few l.requires.read_as.well l.loop-p.invariant.0)
 
 place : (l : At-loop-p) → 4 * l.loop-p.p.count ≡ length (edges_bytes (edges_up_to l.args.file.now l.loop-p.p.vertex l.loop-p.p.edge))
 place l = place_is l.requires.read_as.well l.loop-p.invariant.0
 
 pub loop-p-init : goal.loop-p-init
-loop-p-init c = (begins c.requires.read_as.well, record { is = sym (ap (λ (es : List Edge). wrote c.args.out.now (edges_bytes es)) (begins-none c.requires.read_as.well)) })
+loop-p-init c = (begins c.requires.read_as.well, record { is = sym (ap (λ (es : List Edge). wrote c.args.out.now (edges_bytes es)) (begins_none c.requires.read_as.well)) })
 
 pub overflow_add-p : goal.overflow_add-p
-overflow_add-p c = record { fits = omega (arith, c.loop-p.invariant.0.in-vertices, c.requires.read_as.well.laid.limits.few-vertices) }
+overflow_add-p c = record { fits = omega (arith, c.loop-p.invariant.0.in_vertices, c.requires.read_as.well.laid.limits.few_vertices) }
 
 pub overflow_mul-at : goal.overflow_mul-at
-overflow_mul-at c = record { fits = omega (arith, within (goal.at.overflow_mul-at c).At-loop-p, all-few c.requires.read_as.well) }
+overflow_mul-at c = record { fits = omega (arith, within (goal.at.overflow_mul-at c).At-loop-p, all_few c.requires.read_as.well) }
 
 pub slice_bounds-write_next-count : goal.slice_bounds-write_next-count
 slice_bounds-write_next-count c = starts c.loop-p.invariant.1 (place (goal.at.slice_bounds-write_next-count c).At-loop-p) (omega (arith, within (goal.at.slice_bounds-write_next-count c).At-loop-p, c.requires.file_in_bounds))
@@ -44,15 +44,15 @@ write_next-next-requires c =
       firsts = c.requires.firsts;
       file_bound = c.requires.file_bound;
       placed = c.loop-p.invariant.0;
-      vertex_bound = omega (arith, c.loop-p-test.true, c.requires.read_as.heads.vertices-are);
+      vertex_bound = omega (arith, c.loop-p-test.true, c.requires.read_as.heads.vertices_are);
       file_bound_2 = omega (arith, left);
     }
 
 pub loop-p-smaller : goal.loop-p-smaller
-loop-p-smaller c = omega (arith, c.write_next-next.ensures.less, c.write_next-next.ensures.placed.in-vertices, c.write_next-next.ensures.placed.in-edges)
+loop-p-smaller c = omega (arith, c.write_next-next.ensures.less, c.write_next-next.ensures.placed.in_vertices, c.write_next-next.ensures.placed.in_edges)
 
 pub loop-p-preserved : goal.loop-p-preserved
-loop-p-preserved c = (c.write_next-next.ensures.placed, write-on c.requires.read_as.well c.loop-p.invariant.0 c.loop-p.invariant.1 c.write_next-next.ensures)
+loop-p-preserved c = (c.write_next-next.ensures.placed, write_on c.requires.read_as.well c.loop-p.invariant.0 c.loop-p.invariant.1 c.write_next-next.ensures)
 
 pub shape_of-out : goal.shape_of-out
 shape_of-out c =
@@ -61,7 +61,7 @@ shape_of-out c =
 
 pub returns : goal.returns
 returns c =
-    let all = ends c.requires.read_as.well c.loop-p.invariant.0 (omega (arith, c.loop-p-test.false, c.requires.read_as.heads.vertices-are)) in
+    let all = ends c.requires.read_as.well c.loop-p.invariant.0 (omega (arith, c.loop-p-test.false, c.requires.read_as.heads.vertices_are)) in
     record {
       value = c.loop-p.invariant.0.counted ∙ ap length all;
       out_after = c.loop-p.invariant.1.is ∙ ap (λ (es : List Edge). wrote c.args.out.now (edges_bytes es)) all;

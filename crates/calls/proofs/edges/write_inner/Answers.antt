@@ -8,7 +8,7 @@ use Rattle.routine.specs.declared.edge.Edge.{Edge}
 use Rattle.words.proofs.Buffers.{Front, starts, lends, more}
 use Rattle.words.specs.Tables.{wrote}
 use Rattle.calls.specs.Expanded.{edge, inner_edges, edges_bytes}
-use Rattle.calls.proofs.Written.{none_inside, two-inside}
+use Rattle.calls.proofs.Written.{none_inside, two_inside}
 use Rattle.calls.proofs.edges.write_inner.Goals as goal
 use Rattle.calls.proofs.edges.write_inner.Goals.{After-write_edge, Else-next-first}
 
@@ -30,7 +30,7 @@ first c = c.first_of-first.result
 
 inside : (c : Else-next-first) → inner_edges c.args.file.now c.args.v ≡ edge (first c) (first c + 1) ∷ edge (first c + 1) (first c + 2) ∷ []
 inside c =
-    two-inside c.args.file.now c.args.v (λ e. c.if-next-first.false (c.first_of-next.ensures.value ∙ e ∙ ap (λ (x : ℕ). x + 1) (sym c.first_of-first.ensures.value)))
+    two_inside c.args.file.now c.args.v (λ e. c.if-next-first.false (c.first_of-next.ensures.value ∙ e ∙ ap (λ (x : ℕ). x + 1) (sym c.first_of-first.ensures.value)))
     ∙ ap (λ (x : ℕ). edge x (x + 1) ∷ edge (x + 1) (x + 2) ∷ []) (sym c.first_of-first.ensures.value)
 
 room : (c : Else-next-first) → 8 ≤ length (old c)

@@ -7,22 +7,22 @@ use lib.ListN.{length, take, drop, length-append}
 use Rattle.routine.specs.Layout.{arrays}
 use Rattle.routine.specs.Reader.{Limits}
 use Rattle.routine.specs.declared.header.Header.{Header}
-use Rattle.words.proofs.Written.{wrote-length, part_from, part_length, lent_length, write-front}
+use Rattle.words.proofs.Written.{wrote-length, part_from, part_length, lent_length, write_front}
 use Rattle.words.specs.Tables.{rows, wrote}
 use Rattle.calls.specs.Expanded.{expanded_row, expanded_edges, edges_bytes}
 use Rattle.calls.specs.Interfaces.{Expandable}
 use Rattle.calls.specs.Parts.{expanded_vertices}
 use Rattle.calls.specs.Writing.{head_bytes}
-use Rattle.calls.proofs.Bytes.{edges-size, rows-size}
-use Rattle.calls.proofs.Formed.{expanded-formed}
-use Rattle.calls.proofs.Written.{expanded_header, header_is, expanded-size, size_few, head-size, whole}
+use Rattle.calls.proofs.Bytes.{edges_size, rows_size}
+use Rattle.calls.proofs.Formed.{expanded_formed}
+use Rattle.calls.proofs.Written.{expanded_header, header_is, expanded_size, size_few, head_size, whole}
 use Rattle.calls.proofs.expanded.write.Goals as goal
 use Rattle.calls.proofs.expanded.write.Goals.{After-actions_at-at, After-write, After-write-count, Start}
 
 -- ---- where each part stands
 
 can : (s : Start) → Expandable s.args.file.now
-can s = record { well = s.requires.read_as.well; interfaces = s.requires.interfaces; few-edges = s.requires.file_bound; few-vertices = s.requires.file_bound_2 }
+can s = record { well = s.requires.read_as.well; interfaces = s.requires.interfaces; few_edges = s.requires.file_bound; few_vertices = s.requires.file_bound_2 }
 
 abbrev old : Start → List ℕ
 old s = s.args.out.now
@@ -30,17 +30,17 @@ old s = s.args.out.now
 abbrev edges_from : After-actions_at-at → ℕ
 edges_from c = c.actions_at-at.result + c.args.vertices * c.args.h.arrays
 
-rows-place : (c : After-actions_at-at) → c.actions_at-at.result ≡ 18 + 4 * arrays c.args.file.now
-rows-place c = omega (arith, c.actions_at-at.ensures, c.requires.read_as.heads.arrays-are)
+rows_place : (c : After-actions_at-at) → c.actions_at-at.result ≡ 18 + 4 * arrays c.args.file.now
+rows_place c = omega (arith, c.actions_at-at.ensures, c.requires.read_as.heads.arrays_are)
 
-row-bytes : (s : Start) → s.args.vertices * s.args.h.arrays ≡ expanded_vertices s.args.file.now * arrays s.args.file.now
-row-bytes s = ap₂ ◌*◌ s.requires.vertices_value s.requires.read_as.heads.arrays-are
+row_bytes_lem : (s : Start) → s.args.vertices * s.args.h.arrays ≡ expanded_vertices s.args.file.now * arrays s.args.file.now
+row_bytes_lem s = ap₂ ◌*◌ s.requires.vertices_value s.requires.read_as.heads.arrays_are
 
 room : (c : After-actions_at-at) → edges_from c + 4 * length (expanded_edges c.args.file.now) ≤ length (old (goal.at.After-actions_at-at c).Start)
-room c = omega (arith, rows-place c, row-bytes (goal.at.After-actions_at-at c).Start, expanded-size (can (goal.at.After-actions_at-at c).Start), c.requires.file_in_bounds)
+room c = omega (arith, rows_place c, row_bytes_lem (goal.at.After-actions_at-at c).Start, expanded_size (can (goal.at.After-actions_at-at c).Start), c.requires.file_in_bounds)
 
 small : (c : After-actions_at-at) → edges_from c ≤ 6866
-small c = omega (arith, rows-place c, row-bytes (goal.at.After-actions_at-at c).Start, size_few (can (goal.at.After-actions_at-at c).Start))
+small c = omega (arith, rows_place c, row_bytes_lem (goal.at.After-actions_at-at c).Start, size_few (can (goal.at.After-actions_at-at c).Start))
 
 pub overflow_mul-edges_at : goal.overflow_mul-edges_at
 overflow_mul-edges_at c = record { fits = omega (arith, small (goal.at.overflow_mul-edges_at c).After-actions_at-at) }
@@ -73,7 +73,7 @@ edges-length : (c : After-write-count) → length (with_edges c) ≡ length (old
 edges-length c =
     let es = expanded_edges c.args.file.now in
     lent_length (old (goal.at.After-write-count c).Start) c.write-count.new.out (edges_from (goal.at.After-write-count c).After-actions_at-at) (omega (arith, room (goal.at.After-write-count c).After-actions_at-at))
-    (wrote-length (part_from (old (goal.at.After-write-count c).Start) (edges_from (goal.at.After-write-count c).After-actions_at-at)) (edges_bytes es) c.write-count.ensures.out_after (omega (arith, edges-size es, room (goal.at.After-write-count c).After-actions_at-at, part_length (old (goal.at.After-write-count c).Start) (edges_from (goal.at.After-write-count c).After-actions_at-at))))
+    (wrote-length (part_from (old (goal.at.After-write-count c).Start) (edges_from (goal.at.After-write-count c).After-actions_at-at)) (edges_bytes es) c.write-count.ensures.out_after (omega (arith, edges_size es, room (goal.at.After-write-count c).After-actions_at-at, part_length (old (goal.at.After-write-count c).Start) (edges_from (goal.at.After-write-count c).After-actions_at-at))))
 
 abbrev counts : ℕ → ℕ → ℕ → Header
 counts a v e = record { arrays = a; vertices = v; edges = e }
@@ -81,7 +81,7 @@ counts a v e = record { arrays = a; vertices = v; edges = e }
 header : (c : After-write-count) →
     counts c.args.h.arrays c.args.vertices c.write-count.result ≡ expanded_header c.args.file.now
 header c =
-    ap (λ (a : ℕ). counts a c.args.vertices c.write-count.result) c.requires.read_as.heads.arrays-are
+    ap (λ (a : ℕ). counts a c.args.vertices c.write-count.result) c.requires.read_as.heads.arrays_are
     ∙ ap₂ (counts (arrays c.args.file.now)) c.requires.vertices_value c.write-count.ensures.value
 
 -- ---- the rows
@@ -98,7 +98,7 @@ write-requires c =
       arrivals = c.requires.arrivals;
       firsts = c.requires.firsts;
       file_bound = c.requires.file_bound_2;
-      file_in_bounds = omega (arith, room (goal.at.write-requires c).After-actions_at-at, row-bytes (goal.at.write-requires c).Start, edges-length (goal.at.write-requires c).After-write-count, part_length (with_edges (goal.at.write-requires c).After-write-count) c.actions_at-at.result);
+      file_in_bounds = omega (arith, room (goal.at.write-requires c).After-actions_at-at, row_bytes_lem (goal.at.write-requires c).Start, edges-length (goal.at.write-requires c).After-write-count, part_length (with_edges (goal.at.write-requires c).After-write-count) c.actions_at-at.result);
     }
 
 abbrev with_rows : After-write → List ℕ
@@ -113,16 +113,16 @@ rows-length c =
     let here = part_length (with_edges (goal.at.After-write c).After-write-count) c.actions_at-at.result in
     lent_length (with_edges (goal.at.After-write c).After-write-count) c.write.new.out c.actions_at-at.result (omega (arith, room (goal.at.After-write c).After-actions_at-at, edges-length (goal.at.After-write c).After-write-count))
     (wrote-length (part_from (with_edges (goal.at.After-write c).After-write-count) c.actions_at-at.result) (rows (expanded_row file) (expanded_vertices file)) c.write.ensures
-    (omega (arith, rows-size file c.requires.read_as.well.laid, row-bytes (goal.at.After-write c).Start, room (goal.at.After-write c).After-actions_at-at, edges-length (goal.at.After-write c).After-write-count, here)))
+    (omega (arith, rows_size file c.requires.read_as.well.laid, row_bytes_lem (goal.at.After-write c).Start, room (goal.at.After-write c).After-actions_at-at, edges-length (goal.at.After-write c).After-write-count, here)))
     ∙ edges-length (goal.at.After-write c).After-write-count
 
 -- ---- contents and array records
 pub write_head-requires : goal.write_head-requires
 write_head-requires c =
     record {
-      limits = subst Limits (sym (header (goal.at.write_head-requires c).After-write-count ∙ header_is (can (goal.at.write_head-requires c).Start))) (expanded-formed c.args.file.now (can (goal.at.write_head-requires c).Start)).laid.limits;
-      arrays_in_bounds = omega (arith, c.requires.read_as.well.laid.ends, c.requires.read_as.heads.arrays-are);
-      arrays_in_bounds_2 = omega (arith, rows-length (goal.at.write_head-requires c).After-write, room (goal.at.write_head-requires c).After-actions_at-at, rows-place (goal.at.write_head-requires c).After-actions_at-at, c.requires.read_as.heads.arrays-are);
+      limits = subst Limits (sym (header (goal.at.write_head-requires c).After-write-count ∙ header_is (can (goal.at.write_head-requires c).Start))) (expanded_formed c.args.file.now (can (goal.at.write_head-requires c).Start)).laid.limits;
+      arrays_in_bounds = omega (arith, c.requires.read_as.well.laid.ends, c.requires.read_as.heads.arrays_are);
+      arrays_in_bounds_2 = omega (arith, rows-length (goal.at.write_head-requires c).After-write, room (goal.at.write_head-requires c).After-actions_at-at, rows_place (goal.at.write_head-requires c).After-actions_at-at, c.requires.read_as.heads.arrays_are);
     }
 
 pub returns : goal.returns
@@ -130,13 +130,13 @@ returns c =
     let file = c.args.file.now in
     let front = head_bytes file (expanded_header file) in
     let middle = rows (expanded_row file) (expanded_vertices file) in
-    let at : c.actions_at-at.result ≡ length front = rows-place (goal.at.returns c).After-actions_at-at ∙ sym (head-size (can (goal.at.returns c).Start)) in
-    let edges-at : edges_from (goal.at.returns c).After-actions_at-at ≡ length (front ++ middle) = omega (arith, at, row-bytes (goal.at.returns c).Start, length-append front middle, rows-size file c.requires.read_as.well.laid) in
+    let at : c.actions_at-at.result ≡ length front = rows_place (goal.at.returns c).After-actions_at-at ∙ sym (head_size (can (goal.at.returns c).Start)) in
+    let edges_at_lem : edges_from (goal.at.returns c).After-actions_at-at ≡ length (front ++ middle) = omega (arith, at, row_bytes_lem (goal.at.returns c).Start, length-append front middle, rows_size file c.requires.read_as.well.laid) in
     record {
       value = header (goal.at.returns c).After-write-count ∙ header_is (can (goal.at.returns c).Start);
       out_after = c.write_head.ensures
           ∙ ap (λ (h : Header). wrote (with_rows (goal.at.returns c).After-write) (head_bytes file h)) (header (goal.at.returns c).After-write-count)
-          ∙ write-front (with_edges (goal.at.returns c).After-write-count) front middle c.write.new.out c.actions_at-at.result at (omega (arith, room (goal.at.returns c).After-actions_at-at, edges-length (goal.at.returns c).After-write-count)) c.write.ensures
-          ∙ write-front (old (goal.at.returns c).Start) (front ++ middle) (edges_bytes (expanded_edges file)) c.write-count.new.out (edges_from (goal.at.returns c).After-actions_at-at) edges-at (omega (arith, room (goal.at.returns c).After-actions_at-at)) c.write-count.ensures.out_after
+          ∙ write_front (with_edges (goal.at.returns c).After-write-count) front middle c.write.new.out c.actions_at-at.result at (omega (arith, room (goal.at.returns c).After-actions_at-at, edges-length (goal.at.returns c).After-write-count)) c.write.ensures
+          ∙ write_front (old (goal.at.returns c).Start) (front ++ middle) (edges_bytes (expanded_edges file)) c.write-count.new.out (edges_from (goal.at.returns c).After-actions_at-at) edges_at_lem (omega (arith, room (goal.at.returns c).After-actions_at-at)) c.write-count.ensures.out_after
           ∙ ap (wrote (old (goal.at.returns c).Start)) (whole (can (goal.at.returns c).Start));
     }

@@ -4,8 +4,8 @@ use mathlib.Core.List.{List, ◌++◌, append-nil}
 use Prim.Native.Nat.{ℕ, ◌*◌}
 use native.Mathlib.Omega.{arith}
 use lib.ListN.{length, drop, drop_of_length-le}
-use Rattle.routine.proofs.Form.{header-limits, few-actions}
-use Rattle.calls.proofs.Referring.{replaced-is}
+use Rattle.routine.proofs.Form.{header_limits, few_actions}
+use Rattle.calls.proofs.Referring.{replaced_is}
 use Rattle.calls.proofs.references.write.Goals as goal
 use Rattle.calls.proofs.references.write.Goals.{After-copy}
 
@@ -18,18 +18,18 @@ copies : (c : After-copy) → c.copy.new.to ≡ c.args.file.now
 copies c = c.copy.ensures.out_after ∙ copied c.args.file.now c.args.out.now c.requires.out_len
 
 pub overflow_mul-h : goal.overflow_mul-h
-overflow_mul-h c = omega (arith, few-actions (header-limits c.requires.heads))
+overflow_mul-h c = omega (arith, few_actions (header_limits c.requires.heads))
 
 pub replace-requires : goal.replace-requires
 replace-requires c =
     let is = c.requires.heads in
     record {
-      n_in_bounds = omega (arith, c.actions_at.ensures, ap₂ ◌*◌ is.vertices-are is.arrays-are, is.arrays-are, is.laid.ends);
+      n_in_bounds = omega (arith, c.actions_at.ensures, ap₂ ◌*◌ is.vertices_are is.arrays_are, is.arrays_are, is.laid.ends);
       out_len = ap length (copies (goal.at.replace-requires c).After-copy);
     }
 
 pub returns : goal.returns
 returns c =
     let is = c.requires.heads in
-    rw (c.replace.ensures, copies (goal.at.returns c).After-copy, c.actions_at.ensures, is.vertices-are, is.arrays-are)
-    (replaced-is c.args.file.now is.laid)
+    rw (c.replace.ensures, copies (goal.at.returns c).After-copy, c.actions_at.ensures, is.vertices_are, is.arrays_are)
+    (replaced_is c.args.file.now is.laid)

@@ -3,13 +3,13 @@
 use mathlib.Core.Path.{refl, ap, ◌∙◌}
 use native.Mathlib.Omega.{arith}
 use Rattle.words.specs.Tables.{rows, wrote}
-use Rattle.words.proofs.Buffers.{begin, buffer-length, end, row_room, lies, lent, next_row, onward}
-use Rattle.calls.proofs.RowBytes.{all-by-vertex, all-length}
+use Rattle.words.proofs.Buffers.{begin, buffer_length, end, row_room, lies, lent, next_row, onward}
+use Rattle.calls.proofs.RowBytes.{all_by_vertex, all_length}
 use Rattle.calls.proofs.rows.write.Goals as goal
 
 pub loop-v-init : goal.loop-v-init
 unfolding rows
-loop-v-init c = (begin _ _ _ (omega (arith, c.requires.file_in_bounds, all-length c.args.file.now)), refl)
+loop-v-init c = (begin _ _ _ (omega (arith, c.requires.file_in_bounds, all_length c.args.file.now)), refl)
 
 pub slice_bounds-write_vertex-count : goal.slice_bounds-write_vertex-count
 slice_bounds-write_vertex-count c = lies c.loop-v.invariant.0 c.loop-v.invariant.1 (omega arith)
@@ -38,7 +38,7 @@ loop-v-preserved c = (
 )
 
 pub shape_of-out : goal.shape_of-out
-shape_of-out c = buffer-length c.loop-v.invariant.0
+shape_of-out c = buffer_length c.loop-v.invariant.0
 
 pub returns : goal.returns
-returns c = end c.loop-v.invariant.0 (omega arith) ∙ ap (wrote c.args.out.now) (all-by-vertex c.args.file.now)
+returns c = end c.loop-v.invariant.0 (omega arith) ∙ ap (wrote c.args.out.now) (all_by_vertex c.args.file.now)

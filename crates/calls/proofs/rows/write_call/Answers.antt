@@ -7,7 +7,7 @@ use lib.ListN.{length, take, drop, length-append}
 use Rattle.words.proofs.Buffers.{Front, starts, lends, more}
 use Rattle.calls.specs.Parts.{passing, calling, returning}
 use Rattle.calls.specs.VertexRows.{part_row}
-use Rattle.calls.proofs.RowBytes.{row-length}
+use Rattle.calls.proofs.RowBytes.{row_length}
 use Rattle.calls.proofs.rows.write_call.Goals as goal
 use Rattle.calls.proofs.rows.write_call.Goals.{After-write_row, After-write_row-2, Start}
 
@@ -26,14 +26,14 @@ abbrev third : Start → List ℕ
 third s = part_row s.args.file.now (returning s.args.v)
 
 second_at : (s : Start) → s.args.h.arrays ≡ length (first s)
-second_at s = s.requires.read_as.heads.arrays-are ∙ sym (row-length s.args.file.now (passing s.args.v))
+second_at s = s.requires.read_as.heads.arrays_are ∙ sym (row_length s.args.file.now (passing s.args.v))
 
 third_at : (s : Start) → 2 * s.args.h.arrays ≡ length (first s ++ second s)
 third_at s =
-    omega (arith, second_at s, s.requires.read_as.heads.arrays-are, row-length s.args.file.now (calling s.args.v), length-append (first s) (second s))
+    omega (arith, second_at s, s.requires.read_as.heads.arrays_are, row_length s.args.file.now (calling s.args.v), length-append (first s) (second s))
 
 room : (s : Start) → 3 * s.args.h.arrays ≤ length (old s)
-room s = omega (arith, s.requires.read_as.heads.arrays-are, s.requires.file_in_bounds)
+room s = omega (arith, s.requires.read_as.heads.arrays_are, s.requires.file_in_bounds)
 
 pub write_row-requires : goal.write_row-requires
 write_row-requires c =
@@ -53,7 +53,7 @@ write_row-requires-2 c =
       read_as = c.requires.read_as;
       arrivals = c.requires.arrivals;
       v_bound = c.requires.v_bound;
-      file_in_bounds = lends (one (goal.at.write_row-requires-2 c).After-write_row) (second_at (goal.at.write_row-requires-2 c).Start) (omega (arith, room (goal.at.write_row-requires-2 c).Start, c.requires.read_as.heads.arrays-are));
+      file_in_bounds = lends (one (goal.at.write_row-requires-2 c).After-write_row) (second_at (goal.at.write_row-requires-2 c).Start) (omega (arith, room (goal.at.write_row-requires-2 c).Start, c.requires.read_as.heads.arrays_are));
     }
 
 abbrev behind : After-write_row-2 → List ℕ
@@ -78,7 +78,7 @@ write_row-requires-3 c =
       read_as = c.requires.read_as;
       arrivals = c.requires.arrivals;
       v_bound = c.requires.v_bound;
-      file_in_bounds = lends (two (goal.at.write_row-requires-3 c).After-write_row-2) (third_at (goal.at.write_row-requires-3 c).Start) (omega (arith, room (goal.at.write_row-requires-3 c).Start, c.requires.read_as.heads.arrays-are));
+      file_in_bounds = lends (two (goal.at.write_row-requires-3 c).After-write_row-2) (third_at (goal.at.write_row-requires-3 c).Start) (omega (arith, room (goal.at.write_row-requires-3 c).Start, c.requires.read_as.heads.arrays_are));
     }
 
 pub returns : goal.returns

@@ -1,7 +1,7 @@
 -- `rows::write_row` meets its contract. The invariant: the bytes of the arrays before a are written. The measure is what is left.
 use native.Mathlib.Omega.{arith}
 use Rattle.routine.specs.Layout.{arrays}
-use Rattle.words.proofs.Buffers.{begin, buffer-length, end, next-byte}
+use Rattle.words.proofs.Buffers.{begin, buffer_length, end, next_byte}
 use Rattle.words.proofs.Tables.{table-length}
 use Rattle.calls.specs.Expanded.{expanded_byte}
 use Rattle.calls.specs.VertexRows.{part_of, part_row}
@@ -18,17 +18,17 @@ expanded_byte-requires c =
       read_as = c.requires.read_as;
       arrivals = c.requires.arrivals;
       v_bound = c.requires.v_bound;
-      a_bound = omega (arith, c.loop-a-test.true, c.requires.read_as.heads.arrays-are);
+      a_bound = omega (arith, c.loop-a-test.true, c.requires.read_as.heads.arrays_are);
     }
 
 pub bounds-out-a : goal.bounds-out-a
-bounds-out-a c = omega (arith, buffer-length c.loop-a.invariant, c.requires.read_as.heads.arrays-are, c.requires.file_in_bounds)
+bounds-out-a c = omega (arith, buffer_length c.loop-a.invariant, c.requires.read_as.heads.arrays_are, c.requires.file_in_bounds)
 
 pub loop-a-preserved : goal.loop-a-preserved
-loop-a-preserved c = next-byte c.loop-a.invariant (omega (arith, c.requires.read_as.heads.arrays-are)) c.expanded_byte.ensures
+loop-a-preserved c = next_byte c.loop-a.invariant (omega (arith, c.requires.read_as.heads.arrays_are)) c.expanded_byte.ensures
 
 pub shape_of-out : goal.shape_of-out
-shape_of-out c = buffer-length c.loop-a.invariant
+shape_of-out c = buffer_length c.loop-a.invariant
 
 pub returns : goal.returns
 unfolding part_row

@@ -5,7 +5,7 @@ use lib.ListN.{length}
 use Rattle.words.specs.Tables.{wrote}
 use Rattle.calls.specs.Parts.{plain}
 use Rattle.calls.specs.VertexRows.{call_rows, part_row, vertex_rows}
-use Rattle.calls.proofs.RowBytes.{row-length, call_length, call_rows_are, plain_row}
+use Rattle.calls.proofs.RowBytes.{row_length, call_length, call_rows_are, plain_row}
 use Rattle.calls.proofs.rows.write_vertex.Goals as goal
 use Rattle.calls.proofs.rows.write_vertex.Goals.{Else-call, Then-call}
 
@@ -31,7 +31,7 @@ write_call-requires c =
 pub returns-then-call : goal.returns-then-call
 returns-then-call c =
     record {
-      value = omega (arith, ap length (call (goal.at.returns-then-call c).Then-call), call_length c.args.file.now c.args.v, c.requires.read_as.heads.arrays-are);
+      value = omega (arith, ap length (call (goal.at.returns-then-call c).Then-call), call_length c.args.file.now c.args.v, c.requires.read_as.heads.arrays_are);
       out_after = c.write_call.ensures ∙ sym (ap (wrote c.args.out.now) (call (goal.at.returns-then-call c).Then-call));
     }
 
@@ -40,12 +40,12 @@ write_plain-requires c =
     record {
       read_as = c.requires.read_as;
       v_bound = c.requires.v_bound;
-      file_in_bounds = omega (arith, c.requires.v_in_bounds, ap length (other (goal.at.write_plain-requires c).Else-call), row-length c.args.file.now (plain c.args.v));
+      file_in_bounds = omega (arith, c.requires.v_in_bounds, ap length (other (goal.at.write_plain-requires c).Else-call), row_length c.args.file.now (plain c.args.v));
     }
 
 pub returns : goal.returns
 returns c =
     record {
-      value = omega (arith, ap length (other (goal.at.returns c).Else-call), row-length c.args.file.now (plain c.args.v), c.requires.read_as.heads.arrays-are);
+      value = omega (arith, ap length (other (goal.at.returns c).Else-call), row_length c.args.file.now (plain c.args.v), c.requires.read_as.heads.arrays_are);
       out_after = c.write_plain.ensures ∙ sym (ap (wrote c.args.out.now) (other (goal.at.returns c).Else-call));
     }

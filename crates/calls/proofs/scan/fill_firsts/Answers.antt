@@ -6,9 +6,9 @@ use native.Mathlib.Numerals.{add-one}
 use native.Mathlib.Omega.{arith}
 use lib.ListN.{length, set, length-set}
 use Rattle.routine.specs.Layout.{vertices}
-use Rattle.words.proofs.Filling.{Filling, fill-begin, fill-length, fill-next, fill-at}
+use Rattle.words.proofs.Filling.{Filling, fill_begin, fill_length, fill_next, fill_at}
 use Rattle.calls.specs.Parts.{first_vertex_of}
-use Rattle.calls.proofs.Parts.{first-zero, first-parts, first-few, size_is}
+use Rattle.calls.proofs.Parts.{first_zero, first_parts, first_few, size_is}
 use Rattle.calls.proofs.scan.fill_firsts.Goals as goal
 use Rattle.calls.proofs.scan.fill_firsts.Goals.{After-size-count, At-loop-v, In-loop-v}
 
@@ -16,22 +16,22 @@ use Rattle.calls.proofs.scan.fill_firsts.Goals.{After-size-count, At-loop-v, In-
 
 few : (c : At-loop-v) → c.loop-v.count ≤ 768
 few c =
-    omega (arith, first-few c.args.file.now c.loop-v.v, c.loop-v.invariant.0, c.loop-v.invariant.1, c.requires.heads.vertices-are, c.requires.heads.laid.limits.few-vertices)
+    omega (arith, first_few c.args.file.now c.loop-v.v, c.loop-v.invariant.0, c.loop-v.invariant.1, c.requires.heads.vertices_are, c.requires.heads.laid.limits.few_vertices)
 
 within : (c : In-loop-v) → c.loop-v.v < vertices c.args.file.now
-within c = omega (arith, c.requires.heads.vertices-are)
+within c = omega (arith, c.requires.heads.vertices_are)
 
 pub loop-v-init : goal.loop-v-init
-loop-v-init c = (omega arith, sym (first-zero _), fill-begin _ refl)
+loop-v-init c = (omega arith, sym (first_zero _), fill_begin _ refl)
 
 pub overflow_cast-firsts : goal.overflow_cast-firsts
 overflow_cast-firsts c = omega (arith, few (goal.at.overflow_cast-firsts c).At-loop-v)
 
 pub offset_bounds-firsts-v : goal.offset_bounds-firsts-v
-offset_bounds-firsts-v c = omega (arith, within c, c.requires.heads.laid.limits.few-vertices)
+offset_bounds-firsts-v c = omega (arith, within c, c.requires.heads.laid.limits.few_vertices)
 
 pub bounds-firsts-v : goal.bounds-firsts-v
-bounds-firsts-v c = omega (arith, within c, c.requires.file_in_bounds, fill-length c.loop-v.invariant.2)
+bounds-firsts-v c = omega (arith, within c, c.requires.file_in_bounds, fill_length c.loop-v.invariant.2)
 
 pub size-count-requires : goal.size-count-requires
 size-count-requires c =
@@ -45,37 +45,37 @@ counted : (c : After-size-count) →
     c.loop-v.count + c.size-count.result ≡ first_vertex_of c.args.file.now (c.loop-v.v + 1)
 counted c =
     let file = c.args.file.now in
-    ap₂ ◌+◌ c.loop-v.invariant.1 c.size-count.ensures ∙ sym (first-parts file c.loop-v.v) ∙ ap (first_vertex_of file) (sym (add-one c.loop-v.v))
+    ap₂ ◌+◌ c.loop-v.invariant.1 c.size-count.ensures ∙ sym (first_parts file c.loop-v.v) ∙ ap (first_vertex_of file) (sym (add-one c.loop-v.v))
 
 pub overflow_add-count : goal.overflow_add-count
-overflow_add-count c = omega (arith, counted c, first-few c.args.file.now (c.loop-v.v + 1), within (goal.at.overflow_add-count c).In-loop-v, c.requires.heads.laid.limits.few-vertices)
+overflow_add-count c = omega (arith, counted c, first_few c.args.file.now (c.loop-v.v + 1), within (goal.at.overflow_add-count c).In-loop-v, c.requires.heads.laid.limits.few_vertices)
 
 pub loop-v-preserved : goal.loop-v-preserved
 loop-v-preserved c =
     let t = c.loop-v.invariant in
-    (omega arith, counted c, fill-next t.2 (omega (arith, within (goal.at.loop-v-preserved c).In-loop-v, c.requires.file_in_bounds)) t.1)
+    (omega arith, counted c, fill_next t.2 (omega (arith, within (goal.at.loop-v-preserved c).In-loop-v, c.requires.file_in_bounds)) t.1)
 
 -- ---- at the end
 pub overflow_cast-firsts-2 : goal.overflow_cast-firsts-2
 overflow_cast-firsts-2 c = omega (arith, few (goal.at.overflow_cast-firsts-2 c).At-loop-v)
 
 pub offset_bounds-firsts-n : goal.offset_bounds-firsts-n
-offset_bounds-firsts-n c = omega (arith, c.requires.heads.vertices-are, c.requires.heads.laid.limits.few-vertices)
+offset_bounds-firsts-n c = omega (arith, c.requires.heads.vertices_are, c.requires.heads.laid.limits.few_vertices)
 
 pub bounds-firsts-n : goal.bounds-firsts-n
-bounds-firsts-n c = omega (arith, c.requires.heads.vertices-are, c.requires.file_in_bounds, fill-length c.loop-v.invariant.2)
+bounds-firsts-n c = omega (arith, c.requires.heads.vertices_are, c.requires.file_in_bounds, fill_length c.loop-v.invariant.2)
 
 pub shape_of-firsts : goal.shape_of-firsts
-shape_of-firsts c = let e : length (set c.loop-v.firsts c.args.h.vertices c.loop-v.count) ≡ length c.args.firsts.now = simp length-set (fill-length c.loop-v.invariant.2) in e
+shape_of-firsts c = let e : length (set c.loop-v.firsts c.args.h.vertices c.loop-v.count) ≡ length c.args.firsts.now = simp length-set (fill_length c.loop-v.invariant.2) in e
 
 pub returns : goal.returns
 returns c =
     let file = c.args.file.now in
-    let is = c.requires.heads.vertices-are in
+    let is = c.requires.heads.vertices_are in
     let end : c.loop-v.v ≡ c.args.h.vertices = omega (arith, c.loop-v.invariant.0, c.loop-v-test.false) in
     let counted : c.loop-v.count ≡ first_vertex_of file c.args.h.vertices = c.loop-v.invariant.1 ∙ ap (first_vertex_of file) end in
-    let done = fill-next (subst (Filling (first_vertex_of file) (length c.args.firsts.now) c.args.firsts.now c.loop-v.firsts) end c.loop-v.invariant.2) (omega (arith, is, c.requires.file_in_bounds)) counted in
+    let done = fill_next (subst (Filling (first_vertex_of file) (length c.args.firsts.now) c.args.firsts.now c.loop-v.firsts) end c.loop-v.invariant.2) (omega (arith, is, c.requires.file_in_bounds)) counted in
     record {
-      firsts = record { room = omega (arith, c.requires.file_in_bounds, fill-length done); are = λ v h. fill-at done v (omega (arith, is)) };
+      firsts = record { room = omega (arith, c.requires.file_in_bounds, fill_length done); are = λ v h. fill_at done v (omega (arith, is)) };
       value = counted ∙ ap (first_vertex_of file) is ∙ sym (size_is file);
     }

@@ -13,7 +13,7 @@ use Rattle.calls.proofs.scan.is_call_row.Goals as goal
 
 -- a row ends before the edges
 row_ends : {h : Header} {file : List ℕ} {v : ℕ} → Heads h file → v < vertices file → 18 + 4 * h.arrays + v * h.arrays + h.arrays ≤ length file
-row_ends {h} {file} {v} is in-v = omega (arith, ap (λ (n : ℕ). v * n) is.arrays-are, mul-le-mul_right (arrays file) in-v)
+row_ends {h} {file} {v} is in_v = omega (arith, ap (λ (n : ℕ). v * n) is.arrays_are, mul-le-mul_right (arrays file) in_v)
 
 pub overflow_mul-v : goal.overflow_mul-v
 overflow_mul-v c = omega (arith, row_ends c.requires.heads c.requires.v_bound)
@@ -28,4 +28,4 @@ pub returns : goal.returns
 unfolding is_call_row
 returns c =
     let is = c.requires.heads in
-    rw (c.any_from.ensures, c.actions_at.ensures, is.arrays-are)
+    rw (c.any_from.ensures, c.actions_at.ensures, is.arrays_are)

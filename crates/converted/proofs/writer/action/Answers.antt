@@ -4,10 +4,10 @@ use mathlib.Core.Bool.{true}
 use Prim.Native.Nat.{ℕ, ◌+◌, ◌*◌, ◌<◌, ◌^◌}
 use native.Mathlib.Omega.{arith}
 use lib.ListN.{length, get_or}
-use Rattle.directives.proofs.Limits.{read-heads}
+use Rattle.directives.proofs.Limits.{read_heads}
 use Rattle.flow.proofs.Cells.{in_cells}
 use Rattle.mappings.specs.Computed.{given_set}
-use Rattle.sets.proofs.Laws.{lowest-has, lowest-below}
+use Rattle.sets.proofs.Laws.{lowest_has, lowest_below}
 use Rattle.sets.specs.Sets.{width, has}
 use Rattle.converted.proofs.Actions.{stays, remaps}
 use Rattle.converted.proofs.writer.action.Goals as goal
@@ -19,11 +19,11 @@ place s = 8 * s.args.v + s.args.a
 
 inside : (s : Start) → (place s < length s.args.given.now) × (place s < 2048)
 inside s =
-    let l = (read-heads s.requires.directives_read).limits in
-    omega (arith, in_cells l.few-arrays s.requires.a_bound s.requires.v_bound, s.requires.single.given-are.size, l.few-vertices)
+    let l = (read_heads s.requires.directives_read).limits in
+    omega (arith, in_cells l.few_arrays s.requires.a_bound s.requires.v_bound, s.requires.single.given_are.size, l.few_vertices)
 
 holds : (s : Start) → get_or s.args.given.now (place s) 0 ≡ given_set s.args.file.now s.args.a s.args.v
-holds s = s.requires.single.given-are.cells s.args.a s.args.v s.requires.a_bound s.requires.v_bound
+holds s = s.requires.single.given_are.cells s.args.a s.args.v s.requires.a_bound s.requires.v_bound
 
 pub overflow_mul-at : goal.overflow_mul-at
 overflow_mul-at c = omega (arith, inside (goal.at.overflow_mul-at c).Start)
@@ -40,7 +40,7 @@ bounds-given-at c = (inside (goal.at.bounds-given-at c).Start).0
 pub reference-requires : goal.reference-requires
 reference-requires c =
     record {
-      heads = read-heads c.requires.directives_read;
+      heads = read_heads c.requires.directives_read;
       v_bound = c.requires.v_bound;
       a_bound = c.requires.a_bound;
     }
@@ -54,7 +54,7 @@ chosen c =
     let x = get_or c.args.given.now (place (goal.at.After-lowest c).Start) 0 in
     let some : 0 < x = omega (arith, c.if-version-eq0.false) in
     let small : x < 2 ^ width = omega (arith, c.type_inv.given (place (goal.at.After-lowest c).Start)) in
-    (omega (arith, c.lowest.ensures, lowest-below width x some small), ap₂ has (sym (holds (goal.at.After-lowest c).Start)) c.lowest.ensures ∙ lowest-has width x some small)
+    (omega (arith, c.lowest.ensures, lowest_below width x some small), ap₂ has (sym (holds (goal.at.After-lowest c).Start)) c.lowest.ensures ∙ lowest_has width x some small)
 
 pub overflow_add-result : goal.overflow_add-result
 overflow_add-result c = omega (arith, (chosen c).0)

@@ -4,12 +4,12 @@ use mathlib.Core.List.{[], ◌∷◌}
 use Prim.Native.Nat.{ℕ, ◌*◌, ◌≤◌, ◌<◌}
 use native.Mathlib.Omega.{arith}
 use lib.ListN.{length}
-use Rattle.directives.proofs.Limits.{read-heads}
+use Rattle.directives.proofs.Limits.{read_heads}
 use Rattle.directives.specs.Layout.{arrays}
-use Rattle.mappings.proofs.Bytes.{records-size}
+use Rattle.mappings.proofs.Bytes.{records_size}
 use Rattle.mappings.specs.Computed.{given_to}
 use Rattle.mappings.specs.Converted.{array_bytes}
-use Rattle.words.proofs.Buffers.{begin, buffer-length, end, lies, lent, next_row}
+use Rattle.words.proofs.Buffers.{begin, buffer_length, end, lies, lent, next_row}
 use Rattle.words.proofs.Written.{part_from}
 use Rattle.words.specs.Tables.{rows, wrote}
 use Rattle.converted.proofs.writer.write_arrays.Goals as goal
@@ -18,18 +18,18 @@ use Rattle.converted.proofs.writer.write_arrays.Goals.{At-loop-a, In-loop-a}
 pub loop-a-init : goal.loop-a-init
 loop-a-init c =
     let file = c.args.file.now in
-    begin _ _ _ (omega (arith, c.requires.file_in_bounds, records-size file (given_to file) (arrays file)))
+    begin _ _ _ (omega (arith, c.requires.file_in_bounds, records_size file (given_to file) (arrays file)))
 
 -- where the record of array a is to stand
 here : (c : At-loop-a) → let file = c.args.file.now in
     4 * c.loop-a.a ≡ length (rows (array_bytes file (given_to file)) c.loop-a.a)
-here c = let file = c.args.file.now in sym (records-size file (given_to file) c.loop-a.a)
+here c = let file = c.args.file.now in sym (records_size file (given_to file) c.loop-a.a)
 
 -- array a is one of the file's
 listed : (c : In-loop-a) → (c.loop-a.a < arrays c.args.file.now) × (arrays c.args.file.now ≤ 8)
 listed c =
-    let heads = read-heads c.requires.directives_read in
-    omega (arith, c.loop-a-test.true, heads.arrays-are, heads.limits.few-arrays)
+    let heads = read_heads c.requires.directives_read in
+    omega (arith, c.loop-a-test.true, heads.arrays_are, heads.limits.few_arrays)
 
 pub overflow_mul-at : goal.overflow_mul-at
 overflow_mul-at c = omega (arith, listed c)
@@ -43,7 +43,7 @@ slice_bounds-write_record-start c = slice_bounds-write_record-count c
 pub kind-requires : goal.kind-requires
 kind-requires c =
     record {
-      heads = read-heads c.requires.directives_read;
+      heads = read_heads c.requires.directives_read;
       a_bound = (listed (goal.at.kind-requires c).In-loop-a).0;
     }
 
@@ -62,7 +62,7 @@ loop-a-preserved c =
     ∙ ap₂ (λ (x y : ℕ). wrote part (x ∷ y ∷ 0 ∷ 0 ∷ [])) c.kind.ensures (c.requires.version_counts.are a (listed (goal.at.loop-a-preserved c).In-loop-a).0))
 
 pub shape_of-out : goal.shape_of-out
-shape_of-out c = buffer-length c.loop-a.invariant
+shape_of-out c = buffer_length c.loop-a.invariant
 
 pub returns : goal.returns
-returns c = end c.loop-a.invariant (omega (arith, (read-heads c.requires.directives_read).arrays-are))
+returns c = end c.loop-a.invariant (omega (arith, (read_heads c.requires.directives_read).arrays_are))

@@ -4,12 +4,12 @@ use Prim.Native.Nat.{ℕ, ◌*◌, ◌≤◌, ◌<◌}
 use native.Mathlib.Nat.{mul-le-mul_right}
 use native.Mathlib.Omega.{arith}
 use lib.ListN.{length}
-use Rattle.directives.proofs.Limits.{read-heads}
+use Rattle.directives.proofs.Limits.{read_heads}
 use Rattle.directives.specs.Layout.{vertices}
-use Rattle.mappings.proofs.Bytes.{row-size, actions-size}
+use Rattle.mappings.proofs.Bytes.{row_size, actions_size}
 use Rattle.mappings.specs.Computed.{given_to}
 use Rattle.mappings.specs.Converted.{row_bytes}
-use Rattle.words.proofs.Buffers.{begin, buffer-length, end, lies, lent, next_row}
+use Rattle.words.proofs.Buffers.{begin, buffer_length, end, lies, lent, next_row}
 use Rattle.words.specs.Tables.{rows}
 use Rattle.converted.proofs.writer.write_rows.Goals as goal
 use Rattle.converted.proofs.writer.write_rows.Goals.{At-loop-v, In-loop-v}
@@ -17,24 +17,24 @@ use Rattle.converted.proofs.writer.write_rows.Goals.{At-loop-v, In-loop-v}
 pub loop-v-init : goal.loop-v-init
 loop-v-init c =
     let file = c.args.file.now in
-    begin _ _ _ (omega (arith, c.requires.file_in_bounds, actions-size file (given_to file) (vertices file)))
+    begin _ _ _ (omega (arith, c.requires.file_in_bounds, actions_size file (given_to file) (vertices file)))
 
 -- where the row of vertex v is to stand
 here : (c : At-loop-v) → let file = c.args.file.now in
     c.loop-v.v * c.args.h.arrays ≡ length (rows (row_bytes file (given_to file)) c.loop-v.v)
 here c =
     let file = c.args.file.now in
-    ap (λ (m : ℕ). c.loop-v.v * m) (read-heads c.requires.directives_read).arrays-are ∙ sym (actions-size file (given_to file) c.loop-v.v)
+    ap (λ (m : ℕ). c.loop-v.v * m) (read_heads c.requires.directives_read).arrays_are ∙ sym (actions_size file (given_to file) c.loop-v.v)
 
 -- vertex v is one of the file's
 listed : (c : In-loop-v) → c.loop-v.v < vertices c.args.file.now
-listed c = omega (arith, c.loop-v-test.true, (read-heads c.requires.directives_read).vertices-are)
+listed c = omega (arith, c.loop-v-test.true, (read_heads c.requires.directives_read).vertices_are)
 
 pub overflow_mul-at : goal.overflow_mul-at
 overflow_mul-at c =
-    let heads = read-heads c.requires.directives_read in
-    let few : c.loop-v.v ≤ 256 = omega (arith, listed (goal.at.overflow_mul-at c).In-loop-v, heads.limits.few-vertices) in
-    omega (arith, mul-le-mul_right c.args.h.arrays few, heads.arrays-are, heads.limits.few-arrays)
+    let heads = read_heads c.requires.directives_read in
+    let few : c.loop-v.v ≤ 256 = omega (arith, listed (goal.at.overflow_mul-at c).In-loop-v, heads.limits.few_vertices) in
+    omega (arith, mul-le-mul_right c.args.h.arrays few, heads.arrays_are, heads.limits.few_arrays)
 
 pub slice_bounds-write_row-count : goal.slice_bounds-write_row-count
 slice_bounds-write_row-count c = lies c.loop-v.invariant (here (goal.at.slice_bounds-write_row-count c).At-loop-v) (listed (goal.at.slice_bounds-write_row-count c).In-loop-v)
@@ -44,20 +44,20 @@ slice_bounds-write_row-start c = slice_bounds-write_row-count c
 
 pub write_row-requires : goal.write_row-requires
 write_row-requires c =
-    let in-v = listed (goal.at.write_row-requires c).In-loop-v in
+    let in_v = listed (goal.at.write_row-requires c).In-loop-v in
     let file = c.args.file.now in
     record {
       directives_read = c.requires.directives_read;
-      v_bound = in-v;
+      v_bound = in_v;
       single = c.requires.single;
-      file_in_bounds = omega (arith, lent c.loop-v.invariant (here (goal.at.write_row-requires c).At-loop-v) in-v, row-size file (given_to file) c.loop-v.v);
+      file_in_bounds = omega (arith, lent c.loop-v.invariant (here (goal.at.write_row-requires c).At-loop-v) in_v, row_size file (given_to file) c.loop-v.v);
     }
 
 pub loop-v-preserved : goal.loop-v-preserved
 loop-v-preserved c = next_row c.loop-v.invariant (here (goal.at.loop-v-preserved c).At-loop-v) (listed (goal.at.loop-v-preserved c).In-loop-v) c.write_row.ensures
 
 pub shape_of-out : goal.shape_of-out
-shape_of-out c = buffer-length c.loop-v.invariant
+shape_of-out c = buffer_length c.loop-v.invariant
 
 pub returns : goal.returns
-returns c = end c.loop-v.invariant (omega (arith, (read-heads c.requires.directives_read).vertices-are))
+returns c = end c.loop-v.invariant (omega (arith, (read_heads c.requires.directives_read).vertices_are))

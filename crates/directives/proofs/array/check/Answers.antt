@@ -15,7 +15,7 @@ returns c =
     (next file
     (next file
     (one file at 1 c.check.ensures (ap (λ (n : ℕ). leb n 3) c.byte_at-kind.ensures.value))
-    (one file (at + 1) 1 c.check-2.ensures (ap₂ ltb c.byte_at-template.ensures.value c.requires.heads.templates-are))
+    (one file (at + 1) 1 c.check-2.ensures (ap₂ ltb c.byte_at-template.ensures.value c.requires.heads.templates_are))
     c.and_then.ensures)
     (one file (at + 2) 1 c.check-3.ensures (ap (λ (n : ℕ). leb n 1) c.byte_at-exchanged.ensures.value))
     c.and_then-2.ensures)

@@ -13,7 +13,7 @@ returns c =
     let a = c.args in
     let file = a.file.now in
     let at = c.place-from_at.result in
-    let vertices = c.requires.heads.vertices-are in
+    let vertices = c.requires.heads.vertices_are in
     (next file
     (next file
     (one file at 2 c.check.ensures (ap₂ (λ (from n : ℕ). ltb from (n - 1)) c.word_at-from.ensures.value vertices))

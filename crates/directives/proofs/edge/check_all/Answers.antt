@@ -1,24 +1,24 @@
 -- `edge::check_all` meets its contract: a scan of the edges.
 use mathlib.Core.Path.{sym, ◌∙◌}
 use native.Mathlib.Omega.{arith}
-use Rattle.refusal.proofs.Checks.{scan-start, scan-stop, scan-next, scan-done}
+use Rattle.refusal.proofs.Checks.{scan_start, scan_stop, scan_next, scan_done}
 use Rattle.directives.specs.Fields.{edge_fields}
 use Rattle.directives.specs.Layout.{edges}
-use Rattle.directives.proofs.Fields.{order-rows}
+use Rattle.directives.proofs.Fields.{order_rows}
 use Rattle.directives.proofs.edge.check_all.Goals as goal
 
 pub loop-i-init : goal.loop-i-init
-loop-i-init c = scan-start _ _
+loop-i-init c = scan_start _ _
 
 pub returns-in-Failed : goal.returns-in-Failed
 returns-in-Failed c =
     let file = c.args.file.now in
-    scan-stop c.loop-i.invariant (omega arith) c.check-verdict.ensures c.in-Failed.is ∙ sym (order-rows file (edge_fields file) (edges file))
+    scan_stop c.loop-i.invariant (omega arith) c.check-verdict.ensures c.in-Failed.is ∙ sym (order_rows file (edge_fields file) (edges file))
 
 pub loop-i-preserved : goal.loop-i-preserved
-loop-i-preserved c = scan-next c.loop-i.invariant (omega arith) c.check-verdict.ensures c.in_default.is
+loop-i-preserved c = scan_next c.loop-i.invariant (omega arith) c.check-verdict.ensures c.in_default.is
 
 pub returns : goal.returns
 returns c =
     let file = c.args.file.now in
-    scan-done c.loop-i.invariant (omega arith) ∙ sym (order-rows file (edge_fields file) (edges file))
+    scan_done c.loop-i.invariant (omega arith) ∙ sym (order_rows file (edge_fields file) (edges file))

@@ -14,7 +14,7 @@ returns c =
     let arrays-at : c.arrays_at.result ≡ arrays_at file = c.arrays_at.ensures ∙ ap (λ (h : Header). 22 + 8 * h.templates) c.of-h.ensures.value in
     let vertices-at : c.vertices_at.result ≡ vertices_at file =
     c.vertices_at.ensures ∙ ap (λ (h : Header). 22 + 8 * h.templates + 4 * h.arrays) c.of-h.ensures.value in
-    let edges-at : c.edges_at.result ≡ edges_at file =
+    let edges_at_lem : c.edges_at.result ≡ edges_at file =
     c.edges_at.ensures ∙ ap (λ (h : Header). 22 + 8 * h.templates + 4 * h.arrays + h.vertices * (12 + h.arrays)) c.of-h.ensures.value in
     (next file
     (next file
@@ -27,6 +27,6 @@ returns c =
     c.and_then-2.ensures)
     (part file (contents_fields file 14 (vertices_at file) 2 256) (c.check_contents-3.ensures ∙ ap (λ (n : ℕ). in_order file (contents_fields file 14 n 2 256)) vertices-at))
     c.and_then-3.ensures)
-    (part file (contents_fields file 18 (edges_at file) 0 1024) (c.check_contents-4.ensures ∙ ap (λ (n : ℕ). in_order file (contents_fields file 18 n 0 1024)) edges-at))
+    (part file (contents_fields file 18 (edges_at file) 0 1024) (c.check_contents-4.ensures ∙ ap (λ (n : ℕ). in_order file (contents_fields file 18 n 0 1024)) edges_at_lem))
     c.and_then-4.ensures
     ).is

@@ -5,7 +5,7 @@ use Rattle.words.specs.Tables.{rows}
 use Rattle.refusal.proofs.Checks.{fails, passes}
 use Rattle.directives.specs.Fields.{Field, in_order, head_fields, template_fields, array_fields, vertex_fields, edge_fields, end_fields, body_fields, fields, check40}
 use Rattle.directives.specs.Layout.{templates, arrays, vertices, edges, Heads}
-use Rattle.directives.proofs.Fields.{order-append, part, next}
+use Rattle.directives.proofs.Fields.{order_append, part, next}
 use Rattle.directives.proofs.Limits.{limits, heads}
 use Rattle.directives.proofs.reader.check.Goals as goal
 use Rattle.directives.proofs.reader.check.Goals.{After-of-h}
@@ -14,7 +14,7 @@ pub returns-in-Failed : goal.returns-in-Failed
 unfolding check40 fields
 returns-in-Failed c =
     let file = c.args.file.now in
-    fails _ c.check-head.ensures c.in-Failed.is ∙ sym (order-append file (head_fields file) (body_fields file))
+    fails _ c.check-head.ensures c.in-Failed.is ∙ sym (order_append file (head_fields file) (body_fields file))
 
 -- the head passed
 head : (c : After-of-h) → Heads c.of-h.result c.args.file.now
@@ -64,4 +64,4 @@ returns c =
     c.and_then-4.ensures
     ).is
     ∙ ap (in_order file) (five ts rs vs es (end_fields file)))
-    ∙ sym (order-append file (head_fields file) (body_fields file))
+    ∙ sym (order_append file (head_fields file) (body_fields file))

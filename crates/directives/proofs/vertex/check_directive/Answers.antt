@@ -30,7 +30,7 @@ returns c =
     let a = c.args in
     let file = a.file.now in
     let at = c.place-at.result in
-    let templates = c.requires.heads.templates-are in
+    let templates = c.requires.heads.templates_are in
     (next file
     (next file
     (next file

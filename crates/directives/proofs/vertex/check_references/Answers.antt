@@ -6,16 +6,16 @@ use Prim.Native.Nat.{ℕ, ◌+◌}
 use native.Mathlib.Omega.{arith}
 use lib.Dec.{eqb}
 use lib.ListN.{get_or}
-use Rattle.refusal.proofs.Checks.{scan-start, scan-stop, scan-next, scan-done}
+use Rattle.refusal.proofs.Checks.{scan_start, scan_stop, scan_next, scan_done}
 use Rattle.routine.specs.Actions.{action_of, is_reference}
 use Rattle.directives.specs.Fields.{byte_field, in_order, is_right_reference}
 use Rattle.directives.specs.Layout.{arrays, reference_at}
-use Rattle.directives.proofs.Fields.{one, order-rows}
+use Rattle.directives.proofs.Fields.{one, order_rows}
 use Rattle.directives.proofs.vertex.check_references.Goals as goal
 use Rattle.directives.proofs.vertex.check_references.Goals.{After-check-verdict}
 
 pub loop-a-init : goal.loop-a-init
-loop-a-init c = scan-start _ _
+loop-a-init c = scan_start _ _
 
 pub overflow_add-at-in-loop-a : goal.overflow_add-at-in-loop-a
 overflow_add-at-in-loop-a c = omega (arith, c.place-at.ensures.file_bound)
@@ -46,14 +46,14 @@ pub returns-in-Failed : goal.returns-in-Failed
 returns-in-Failed c =
     let s = c.args in
     let file = s.file.now in
-    scan-stop c.loop-a.invariant (omega arith) (item (goal.at.returns-in-Failed c).After-check-verdict) c.in-Failed.is
-    ∙ sym (order-rows file (λ a. byte_field file (reference_at file s.v a) (is_right_reference file s.v) ∷ []) (arrays file))
+    scan_stop c.loop-a.invariant (omega arith) (item (goal.at.returns-in-Failed c).After-check-verdict) c.in-Failed.is
+    ∙ sym (order_rows file (λ a. byte_field file (reference_at file s.v a) (is_right_reference file s.v) ∷ []) (arrays file))
 
 pub loop-a-preserved : goal.loop-a-preserved
-loop-a-preserved c = scan-next c.loop-a.invariant (omega arith) (item (goal.at.loop-a-preserved c).After-check-verdict) c.in_default.is
+loop-a-preserved c = scan_next c.loop-a.invariant (omega arith) (item (goal.at.loop-a-preserved c).After-check-verdict) c.in_default.is
 
 pub returns : goal.returns
 returns c =
     let s = c.args in
     let file = s.file.now in
-    scan-done c.loop-a.invariant (omega arith) ∙ sym (order-rows file (λ a. byte_field file (reference_at file s.v a) (is_right_reference file s.v) ∷ []) (arrays file))
+    scan_done c.loop-a.invariant (omega arith) ∙ sym (order_rows file (λ a. byte_field file (reference_at file s.v a) (is_right_reference file s.v) ∷ []) (arrays file))

@@ -5,37 +5,37 @@ use Prim.Native.Nat.{ℕ}
 use native.Mathlib.Omega.{arith}
 use Rattle.flow.specs.Order.{Order}
 use Rattle.flow.specs.Paths.{edge_count}
-use Rattle.flow.proofs.Cells.{solved-pass}
-use Rattle.passes.proofs.Cells.{rows_are, tables-lent, solved-over}
-use Rattle.directives.proofs.Limits.{read-heads}
+use Rattle.flow.proofs.Cells.{solved_pass}
+use Rattle.passes.proofs.Cells.{rows_are, tables_lent, solved_over}
+use Rattle.directives.proofs.Limits.{read_heads}
 use Rattle.mappings.proofs.Formed.{formed}
-use Rattle.facts.proofs.Edges.{counts, few-edges, edges-inside, edges-part}
+use Rattle.facts.proofs.Edges.{counts, few_edges, edges_inside, edges_part}
 use Rattle.facts.proofs.pass.solve.Goals as goal
 
 pub edges_at-at-requires : goal.edges_at-at-requires
 edges_at-at-requires c = counts c.requires.directives_read
 
 pub slice_bounds-solve-count : goal.slice_bounds-solve-count
-slice_bounds-solve-count c = edges-inside c.requires.directives_read c.edges_at-at.ensures
+slice_bounds-solve-count c = edges_inside c.requires.directives_read c.edges_at-at.ensures
 
 pub slice_bounds-solve-start : goal.slice_bounds-solve-start
-slice_bounds-solve-start c = edges-inside c.requires.directives_read c.edges_at-at.ensures
+slice_bounds-solve-start c = edges_inside c.requires.directives_read c.edges_at-at.ensures
 
 pub solve-requires : goal.solve-requires
 solve-requires c =
     let is = c.requires.directives_read in
-    let lent = edges-part is c.edges_at-at.ensures in
+    let lent = edges_part is c.edges_at-at.ensures in
     record {
       order = subst (λ (es : List ℕ). Order (edge_count es) c.args.order.now) (sym lent) c.requires.edge_order;
-      edges_bound = omega (arith, ap edge_count lent, few-edges is);
-      tables = tables-lent c.args.sets.now c.requires.sets_len lent (formed c.args.file.now is.passed).ends c.requires.gives_len c.requires.passes_len;
-      sets_bound = omega (arith, rows_are c.args.sets.now c.requires.sets_len, (read-heads is).limits.few-vertices);
+      edges_bound = omega (arith, ap edge_count lent, few_edges is);
+      tables = tables_lent c.args.sets.now c.requires.sets_len lent (formed c.args.file.now is.passed).ends c.requires.gives_len c.requires.passes_len;
+      sets_bound = omega (arith, rows_are c.args.sets.now c.requires.sets_len, (read_heads is).limits.few_vertices);
     }
 
 pub returns : goal.returns
 returns c =
-    let h = solved-over c.args.sets.now c.requires.sets_len (edges-part c.requires.directives_read c.edges_at-at.ensures) c.solve.ensures in
+    let h = solved_over c.args.sets.now c.requires.sets_len (edges_part c.requires.directives_read c.edges_at-at.ensures) c.solve.ensures in
     record {
-      pass = solved-pass h;
+      pass = solved_pass h;
       rounds = h.counted;
     }

@@ -22,7 +22,7 @@ told {file} {h} {a} {r} v is e =
     ap (λ (b : Bool). cond (eqb v entry || (eqb v (h.vertices - 1) && b)) (Remap r.initial) (action file a v)) e
     ∙ ap₂
     (λ (n : ℕ) (r : ArrayRecord). cond (eqb v entry || (eqb v (n - 1) && is_out_or_inout r.kind)) (Remap r.initial) (action file a v))
-    is.read.heads.vertices-are is.recorded
+    is.read.heads.vertices_are is.recorded
 
 pub returns-then-label : goal.returns-then-label
 returns-then-label c = rw (← told c.args.v c.requires.of_array c.is_out_or_inout.ensures, c.if-label.true)

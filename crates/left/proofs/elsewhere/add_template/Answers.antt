@@ -1,10 +1,10 @@
 -- `elsewhere::add_template` meets its contract.
 use mathlib.Core.Path.{sym, ◌∙◌}
-use Rattle.left.proofs.Cells.{others-unasked}
+use Rattle.left.proofs.Cells.{others_unasked}
 use Rattle.left.proofs.elsewhere.add_template.Goals as goal
 
 pub returns-then-not-asked : goal.returns-then-not-asked
-returns-then-not-asked c = others-unasked c.args.file.now c.args.t (sym c.is_asked-asked.ensures ∙ c.if-not-asked.true) c.requires.array_cells
+returns-then-not-asked c = others_unasked c.args.file.now c.args.t (sym c.is_asked-asked.ensures ∙ c.if-not-asked.true) c.requires.array_cells
 
 pub solve-requires : goal.solve-requires
 solve-requires c =

@@ -4,7 +4,7 @@ use native.Mathlib.Nat.{le_antisymm}
 use native.Mathlib.Omega.{arith}
 use Rattle.words.specs.Sums.{any_below}
 use Rattle.words.proofs.Sums.{any_none, any_next}
-use Rattle.directives.proofs.Limits.{read-heads}
+use Rattle.directives.proofs.Limits.{read_heads}
 use Rattle.left.specs.Cells.{redistributes_other}
 use Rattle.left.proofs.elsewhere.is_asked.Goals as goal
 
@@ -13,10 +13,10 @@ loop-v-init c = (omega arith, sym (any_none _))
 
 pub at-requires : goal.at-requires
 at-requires c =
-    let heads = read-heads c.requires in
+    let heads = read_heads c.requires in
     record {
       heads = heads;
-      v_bound = omega (arith, heads.vertices-are);
+      v_bound = omega (arith, heads.vertices_are);
     }
 
 pub loop-v-preserved : goal.loop-v-preserved
@@ -26,5 +26,5 @@ loop-v-preserved c =
 
 pub returns : goal.returns
 returns c =
-    let heads = read-heads c.requires in
-    c.loop-v.invariant.1 ∙ ap (any_below _) (le_antisymm c.loop-v.invariant.0 c.loop-v-test.false ∙ heads.vertices-are)
+    let heads = read_heads c.requires in
+    c.loop-v.invariant.1 ∙ ap (any_below _) (le_antisymm c.loop-v.invariant.0 c.loop-v-test.false ∙ heads.vertices_are)

@@ -3,62 +3,62 @@ use mathlib.Core.Path.{◌≡◌, sym, ap, subst, ◌∙◌}
 use Prim.Native.Nat.{◌+◌, ◌≤◌, ◌<◌}
 use native.Mathlib.Omega.{arith}
 use Rattle.flow.proofs.Cells.{rows_to, rows_none, rows_all}
-use Rattle.directives.proofs.Limits.{read-heads}
+use Rattle.directives.proofs.Limits.{read_heads}
 use Rattle.directives.specs.Directives.{directive}
 use Rattle.directives.specs.Layout.{vertices}
 use Rattle.mappings.specs.Tables.{ArrayCells}
 use Rattle.left.specs.Cells.{redistributes_other, others_to}
-use Rattle.left.proofs.Cells.{few-columns, row-joined, row-left}
+use Rattle.left.proofs.Cells.{few_columns, row_joined, row_left}
 use Rattle.left.proofs.elsewhere.join.Goals as goal
 use Rattle.left.proofs.elsewhere.join.Goals.{After-redistributes_other, In-loop-v, then-redistributes_other, else-redistributes_other}
 
 -- what holds in a turn
 module _ (c : In-loop-v) where
-  in-v : c.loop-v.v < vertices c.args.file.now
-  in-v = omega (arith, (read-heads c.requires.directives_read).vertices-are)
+  in_v : c.loop-v.v < vertices c.args.file.now
+  in_v = omega (arith, (read_heads c.requires.directives_read).vertices_are)
 
   few : vertices c.args.file.now ≤ 256
-  few = (read-heads c.requires.directives_read).limits.few-vertices
+  few = (read_heads c.requires.directives_read).limits.few_vertices
 
 -- what the test says
-test-is : (c : After-redistributes_other) →
+test_is : (c : After-redistributes_other) →
     c.redistributes_other.result ≡ redistributes_other c.args.t (directive c.args.file.now c.loop-v.v)
-test-is c = c.redistributes_other.ensures ∙ ap (redistributes_other c.args.t) c.at.ensures
+test_is c = c.redistributes_other.ensures ∙ ap (redistributes_other c.args.t) c.at.ensures
 
 pub loop-v-init : goal.loop-v-init
-loop-v-init c = rows_none (few-columns c.requires.directives_read) _ _ c.requires.array_cells_2.size
+loop-v-init c = rows_none (few_columns c.requires.directives_read) _ _ c.requires.array_cells_2.size
 
 pub at-requires : goal.at-requires
 at-requires c =
     record {
-      heads = read-heads c.requires.directives_read;
-      v_bound = in-v c;
+      heads = read_heads c.requires.directives_read;
+      v_bound = in_v c;
     }
 
 pub join_row-requires : goal.join_row-requires
 join_row-requires c =
     record {
-      v_bound = omega (arith, in-v (goal.at.join_row-requires c).In-loop-v, few (goal.at.join_row-requires c).In-loop-v);
-      v_in_bounds = omega (arith, in-v (goal.at.join_row-requires c).In-loop-v, c.requires.array_cells.size);
-      v_in_bounds_2 = omega (arith, in-v (goal.at.join_row-requires c).In-loop-v, c.loop-v.invariant.size);
+      v_bound = omega (arith, in_v (goal.at.join_row-requires c).In-loop-v, few (goal.at.join_row-requires c).In-loop-v);
+      v_in_bounds = omega (arith, in_v (goal.at.join_row-requires c).In-loop-v, c.requires.array_cells.size);
+      v_in_bounds_2 = omega (arith, in_v (goal.at.join_row-requires c).In-loop-v, c.loop-v.invariant.size);
     }
 
 pub overflow_add-v : goal.overflow_add-v
-overflow_add-v c = omega (arith, in-v (goal.at.overflow_add-v c).In-loop-v, few (goal.at.overflow_add-v c).In-loop-v)
+overflow_add-v c = omega (arith, in_v (goal.at.overflow_add-v c).In-loop-v, few (goal.at.overflow_add-v c).In-loop-v)
 
 pub loop-v-preserved : goal.loop-v-preserved
 loop-v-preserved c =
     let g = c.args in
     let file = g.file.now in
-    let is = sym (test-is (goal.at.loop-v-preserved c).After-redistributes_other) in
+    let is = sym (test_is (goal.at.loop-v-preserved c).After-redistributes_other) in
     elim c.if-redistributes_other.branch [
-      | then-redistributes_other w ↦ row-joined c.requires.directives_read g.t c.requires.array_cells c.requires.array_cells_2 c.loop-v.v (in-v (goal.at.loop-v-preserved c).In-loop-v) c.loop-v.invariant (is ∙ w.if-redistributes_other.true) (w.others-is ∙ w.join_row.ensures)
+      | then-redistributes_other w ↦ row_joined c.requires.directives_read g.t c.requires.array_cells c.requires.array_cells_2 c.loop-v.v (in_v (goal.at.loop-v-preserved c).In-loop-v) c.loop-v.invariant (is ∙ w.if-redistributes_other.true) (w.others-is ∙ w.join_row.ensures)
       | else-redistributes_other w ↦ subst (ArrayCells file (rows_to (others_to file (g.t + 1)) g.others.now (c.loop-v.v + 1))) (sym w.others-is)
-          (row-left c.requires.directives_read g.t c.requires.array_cells c.requires.array_cells_2 c.loop-v.v (in-v (goal.at.loop-v-preserved c).In-loop-v) c.loop-v.invariant (is ∙ w.if-redistributes_other.false))
+          (row_left c.requires.directives_read g.t c.requires.array_cells c.requires.array_cells_2 c.loop-v.v (in_v (goal.at.loop-v-preserved c).In-loop-v) c.loop-v.invariant (is ∙ w.if-redistributes_other.false))
     ]
 
 pub shape_of-others : goal.shape_of-others
 shape_of-others c = c.loop-v.invariant.size ∙ sym c.requires.array_cells_2.size
 
 pub returns : goal.returns
-returns c = rows_all (few-columns c.requires.directives_read) (others_to c.args.file.now (c.args.t + 1)) c.args.others.now c.loop-v.v (omega (arith, (read-heads c.requires.directives_read).vertices-are)) c.loop-v.invariant
+returns c = rows_all (few_columns c.requires.directives_read) (others_to c.args.file.now (c.args.t + 1)) c.args.others.now c.loop-v.v (omega (arith, (read_heads c.requires.directives_read).vertices_are)) c.loop-v.invariant

@@ -2,12 +2,12 @@
 use mathlib.Core.Path.{refl, sym, ◌∙◌}
 use native.Mathlib.Nat.{le_antisymm}
 use native.Mathlib.Omega.{arith}
-use Rattle.directives.proofs.Limits.{read-heads}
-use Rattle.left.proofs.Cells.{others-none, others-all}
+use Rattle.directives.proofs.Limits.{read_heads}
+use Rattle.left.proofs.Cells.{others_none, others_all}
 use Rattle.left.proofs.elsewhere.solve.Goals as goal
 
 pub loop-t-init : goal.loop-t-init
-loop-t-init c = (omega arith, others-none c.args.file.now c.args.others.now c.requires.others_len c.clear.ensures, refl, refl, refl, refl)
+loop-t-init c = (omega arith, others_none c.args.file.now c.args.others.now c.requires.others_len c.clear.ensures, refl, refl, refl, refl)
 
 pub add_template-requires : goal.add_template-requires
 add_template-requires c =
@@ -26,8 +26,8 @@ add_template-requires c =
 
 pub overflow_add-t : goal.overflow_add-t
 overflow_add-t c =
-    let heads = read-heads c.requires.directives_read in
-    omega (arith, heads.templates-are, heads.limits.few-templates)
+    let heads = read_heads c.requires.directives_read in
+    omega (arith, heads.templates_are, heads.limits.few_templates)
 
 pub loop-t-preserved : goal.loop-t-preserved
 loop-t-preserved c =
@@ -58,4 +58,4 @@ shape_of-halves c = c.loop-t.invariant.5
 pub returns : goal.returns
 returns c =
     let l = c.loop-t.invariant in
-    others-all c.args.file.now (le_antisymm l.0 c.loop-t-test.false ∙ (read-heads c.requires.directives_read).templates-are) l.1
+    others_all c.args.file.now (le_antisymm l.0 c.loop-t-test.false ∙ (read_heads c.requires.directives_read).templates_are) l.1

@@ -5,11 +5,11 @@ use Prim.Native.Nat.{ℕ, ◌+◌, ◌*◌, ◌≤◌, ◌<◌}
 use native.Mathlib.Omega.{arith}
 use lib.ListN.{get_or}
 use Rattle.flow.proofs.Cells.{rows_none, rows_next, rows_all}
-use Rattle.directives.proofs.Limits.{read-heads}
+use Rattle.directives.proofs.Limits.{read_heads}
 use Rattle.directives.specs.Layout.{vertices}
-use Rattle.facts.proofs.Rounds.{none-next}
+use Rattle.facts.proofs.Rounds.{none_next}
 use Rattle.left.specs.Cells.{held_gives, held_halves}
-use Rattle.left.proofs.Cells.{few-columns}
+use Rattle.left.proofs.Cells.{few_columns}
 use Rattle.left.proofs.held.fill.Goals as goal
 use Rattle.left.proofs.held.fill.Goals.{In-loop-v}
 
@@ -19,33 +19,33 @@ gives_at file t given a v = held_gives file t a v (get_or given (8 * v + a) 0)
 
 -- what holds in a turn
 module _ (c : In-loop-v) where
-  in-v : c.loop-v.v < vertices c.args.file.now
-  in-v = omega (arith, (read-heads c.requires.directives_read).vertices-are)
+  in_v : c.loop-v.v < vertices c.args.file.now
+  in_v = omega (arith, (read_heads c.requires.directives_read).vertices_are)
 
 pub loop-v-init : goal.loop-v-init
-loop-v-init c = (rows_none (few-columns c.requires.directives_read) _ _ c.requires.gives_len, rows_none (few-columns c.requires.directives_read) _ _ c.requires.passes_len, c.requires.none_beyond, c.requires.none_beyond_2)
+loop-v-init c = (rows_none (few_columns c.requires.directives_read) _ _ c.requires.gives_len, rows_none (few_columns c.requires.directives_read) _ _ c.requires.passes_len, c.requires.none_beyond, c.requires.none_beyond_2)
 
 pub fill_row-requires : goal.fill_row-requires
 fill_row-requires c =
     record {
       directives_read = c.requires.directives_read;
-      v_bound = in-v (goal.at.fill_row-requires c).In-loop-v;
+      v_bound = in_v (goal.at.fill_row-requires c).In-loop-v;
       given = c.requires.given;
       gives_len = c.loop-v.invariant.0.size;
       passes_len = c.loop-v.invariant.1.size;
     }
 
 pub overflow_add-v : goal.overflow_add-v
-overflow_add-v c = omega (arith, in-v (goal.at.overflow_add-v c).In-loop-v, (read-heads c.requires.directives_read).limits.few-vertices)
+overflow_add-v c = omega (arith, in_v (goal.at.overflow_add-v c).In-loop-v, (read_heads c.requires.directives_read).limits.few_vertices)
 
 pub loop-v-preserved : goal.loop-v-preserved
 loop-v-preserved c =
     let g = c.args in
-    let few = few-columns c.requires.directives_read in (
-      rows_next few (gives_at g.file.now g.t g.given.now) g.gives.now c.loop-v.v (in-v (goal.at.loop-v-preserved c).In-loop-v) c.loop-v.invariant.0 c.fill_row.ensures.gives_after,
-      rows_next few (held_halves g.file.now g.t) g.passes.now c.loop-v.v (in-v (goal.at.loop-v-preserved c).In-loop-v) c.loop-v.invariant.1 c.fill_row.ensures.passes_after,
-      none-next few (λ a. gives_at g.file.now g.t g.given.now a c.loop-v.v) c.loop-v.v c.loop-v.invariant.2 c.fill_row.ensures.gives_after,
-      none-next few (λ a. held_halves g.file.now g.t a c.loop-v.v) c.loop-v.v c.loop-v.invariant.3 c.fill_row.ensures.passes_after,
+    let few = few_columns c.requires.directives_read in (
+      rows_next few (gives_at g.file.now g.t g.given.now) g.gives.now c.loop-v.v (in_v (goal.at.loop-v-preserved c).In-loop-v) c.loop-v.invariant.0 c.fill_row.ensures.gives_after,
+      rows_next few (held_halves g.file.now g.t) g.passes.now c.loop-v.v (in_v (goal.at.loop-v-preserved c).In-loop-v) c.loop-v.invariant.1 c.fill_row.ensures.passes_after,
+      none_next few (λ a. gives_at g.file.now g.t g.given.now a c.loop-v.v) c.loop-v.v c.loop-v.invariant.2 c.fill_row.ensures.gives_after,
+      none_next few (λ a. held_halves g.file.now g.t a c.loop-v.v) c.loop-v.v c.loop-v.invariant.3 c.fill_row.ensures.passes_after,
     )
 
 pub shape_of-gives : goal.shape_of-gives
@@ -57,8 +57,8 @@ shape_of-passes c = c.loop-v.invariant.1.size ∙ sym c.requires.passes_len
 pub returns : goal.returns
 returns c =
     let g = c.args in
-    let few = few-columns c.requires.directives_read in
-    let all : vertices g.file.now ≤ c.loop-v.v = omega (arith, (read-heads c.requires.directives_read).vertices-are) in
+    let few = few_columns c.requires.directives_read in
+    let all : vertices g.file.now ≤ c.loop-v.v = omega (arith, (read_heads c.requires.directives_read).vertices_are) in
     record {
       array_cells = rows_all few (gives_at g.file.now g.t g.given.now) g.gives.now c.loop-v.v all c.loop-v.invariant.0;
       array_cells_2 = rows_all few (held_halves g.file.now g.t) g.passes.now c.loop-v.v all c.loop-v.invariant.1;

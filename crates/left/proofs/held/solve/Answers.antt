@@ -1,28 +1,28 @@
 -- `held::solve` meets its contract: two tables are emptied, both are filled and solved.
 use mathlib.Core.Path.{◌∙◌}
 use lib.ListN.{length}
-use Rattle.flow.proofs.Cells.{none-cleared}
+use Rattle.flow.proofs.Cells.{none_cleared}
 use Rattle.mappings.specs.Computed.{given_set}
-use Rattle.facts.proofs.Rounds.{pass-stops}
+use Rattle.facts.proofs.Rounds.{pass_stops}
 use Rattle.left.specs.Cells.{held_gives, held_passes}
-use Rattle.left.proofs.Cells.{few-columns, held-passing, gives-held, cells-held}
+use Rattle.left.proofs.Cells.{few_columns, held_passing, gives_held, cells_held}
 use Rattle.left.proofs.held.solve.Goals as goal
 
 pub fill-requires : goal.fill-requires
 fill-requires c =
-    let few = few-columns c.requires.directives_read in
+    let few = few_columns c.requires.directives_read in
     record {
       directives_read = c.requires.directives_read;
       given = c.requires.given;
       gives_len = c.clear.auto.sets ∙ c.requires.held_len;
       passes_len = c.clear-2.auto.sets ∙ c.requires.passes_len;
-      none_beyond = none-cleared few (length c.args.held.now) c.clear.ensures;
-      none_beyond_2 = none-cleared few (length c.args.passes.now) c.clear-2.ensures;
+      none_beyond = none_cleared few (length c.args.held.now) c.clear.ensures;
+      none_beyond_2 = none_cleared few (length c.args.passes.now) c.clear-2.ensures;
     }
 
 pub solve_sets-requires : goal.solve_sets-requires
 solve_sets-requires c =
-    let passed = held-passing c.requires.directives_read c.args.t c.fill.ensures.array_cells_2 c.fill.ensures.none_beyond_4 in
+    let passed = held_passing c.requires.directives_read c.args.t c.fill.ensures.array_cells_2 c.fill.ensures.none_beyond_4 in
     record {
       directives_read = c.requires.directives_read;
       edge_order = c.requires.edge_order;
@@ -37,9 +37,9 @@ pub returns : goal.returns
 returns c =
     let file = c.args.file.now in
     let t = c.args.t in
-    let given = gives-held file t c.requires.given c.fill.ensures.array_cells in
-    let passed = (held-passing c.requires.directives_read t c.fill.ensures.array_cells_2 c.fill.ensures.none_beyond_4).cells in
+    let given = gives_held file t c.requires.given c.fill.ensures.array_cells in
+    let passed = (held_passing c.requires.directives_read t c.fill.ensures.array_cells_2 c.fill.ensures.none_beyond_4).cells in
     record {
-      array_cells = cells-held c.requires.directives_read t given passed c.solve_sets.ensures.pass;
-      held_stops = pass-stops (λ a v. held_gives file t a v (given_set file a v)) (held_passes file t) c.requires.directives_read (few-columns c.requires.directives_read) c.requires.edge_order given passed c.fill.ensures.none_beyond_3 c.solve_sets.ensures.rounds;
+      array_cells = cells_held c.requires.directives_read t given passed c.solve_sets.ensures.pass;
+      held_stops = pass_stops (λ a v. held_gives file t a v (given_set file a v)) (held_passes file t) c.requires.directives_read (few_columns c.requires.directives_read) c.requires.edge_order given passed c.fill.ensures.none_beyond_3 c.solve_sets.ensures.rounds;
     }

@@ -7,7 +7,7 @@ use native.Mathlib.Omega.{arith}
 use borrow.Author.Tests.{eq-eqb}
 use lib.ListN.{get_or}
 use Rattle.words.specs.Tables.{rows}
-use Rattle.directives.proofs.Limits.{read-heads}
+use Rattle.directives.proofs.Limits.{read_heads}
 use Rattle.directives.specs.Layout.{vertices}
 use Rattle.directives.specs.declared.array.Alignment.{Alignment}
 use Rattle.directives.specs.declared.spread.Mapping.{Mapping}
@@ -15,7 +15,7 @@ use Rattle.mappings.proofs.Formed.{formed}
 use Rattle.mappings.specs.Along.{turned}
 use Rattle.mappings.specs.Computed.{spread_sets, spread_by}
 use Rattle.numbering.specs.Lists.{Grows}
-use Rattle.numbering.proofs.Growth.{grows_none, grows_in, grows-out, grows-as, grows-row}
+use Rattle.numbering.proofs.Growth.{grows_none, grows_in, grows_out, grows_as, grows_row}
 use Rattle.sets.specs.Sets.{has}
 use Rattle.numbering.proofs.given.realigned.Goals as goal
 use Rattle.numbering.proofs.given.realigned.Goals.{In-loop-u, then-is_brought, else-is_brought}
@@ -29,15 +29,15 @@ unfolding rows
 loop-u-init c = (omega arith, grows_none c.requires.list_len c.requires.count_bound)
 
 -- in the loop there is such a vertex
-in-u : (c : In-loop-u) → c.loop-u.u < vertices c.args.file.now
-in-u c = omega (arith, (read-heads c.requires.directives_read).vertices-are)
+in_u : (c : In-loop-u) → c.loop-u.u < vertices c.args.file.now
+in_u c = omega (arith, (read_heads c.requires.directives_read).vertices_are)
 
 pub is_brought-requires : goal.is_brought-requires
 is_brought-requires c =
     record {
       directives_read = c.requires.directives_read;
       v_bound = c.requires.v_bound;
-      u_bound = in-u c;
+      u_bound = in_u c;
       v_value = c.requires.v_value;
       spreads = c.requires.spreads;
     }
@@ -47,7 +47,7 @@ spread_by-requires c =
     record {
       directives_read = c.requires.directives_read;
       t_bound = ((formed c.args.file.now c.requires.directives_read.passed).realigned c.args.v c.args.a c.args.x c.requires.v_bound c.requires.v_value).0;
-      u_bound = in-u (goal.at.spread_by-requires c).In-loop-u;
+      u_bound = in_u (goal.at.spread_by-requires c).In-loop-u;
     }
 
 pub add-q-requires : goal.add-q-requires
@@ -61,11 +61,11 @@ add-q-requires c =
 pub loop-u-preserved : goal.loop-u-preserved
 loop-u-preserved c =
     let s = c.args in (
-      omega (arith, in-u (goal.at.loop-u-preserved c).In-loop-u),
-      grows-row (row s.file.now s.v s.x) c.loop-u.u c.loop-u.invariant.1
+      omega (arith, in_u (goal.at.loop-u-preserved c).In-loop-u),
+      grows_row (row s.file.now s.v s.x) c.loop-u.u c.loop-u.invariant.1
           (elim c.if-is_brought.branch [
-            | then-is_brought w ↦ grows-as w.list-is w.q-is (grows_in (sym c.is_brought.ensures ∙ w.if-is_brought.true) (w.turned.ensures ∙ ap (turned s.x.exchanged) w.spread_by.ensures) w.add-q.ensures)
-            | else-is_brought w ↦ grows-as w.list-is w.q-is (grows-out (turned s.x.exchanged (spread_by s.file.now s.x.template c.loop-u.u)) (sym c.is_brought.ensures ∙ w.if-is_brought.false) c.loop-u.invariant.1.room c.loop-u.invariant.1.most)
+            | then-is_brought w ↦ grows_as w.list-is w.q-is (grows_in (sym c.is_brought.ensures ∙ w.if-is_brought.true) (w.turned.ensures ∙ ap (turned s.x.exchanged) w.spread_by.ensures) w.add-q.ensures)
+            | else-is_brought w ↦ grows_as w.list-is w.q-is (grows_out (turned s.x.exchanged (spread_by s.file.now s.x.template c.loop-u.u)) (sym c.is_brought.ensures ∙ w.if-is_brought.false) c.loop-u.invariant.1.room c.loop-u.invariant.1.most)
           ]),
     )
 
@@ -74,6 +74,6 @@ shape_of-list c = c.loop-u.invariant.1.room ∙ sym c.requires.list_len
 
 pub returns : goal.returns
 returns c =
-    let e : c.loop-u.u ≡ vertices c.args.file.now = omega (arith, c.loop-u.invariant.0, (read-heads c.requires.directives_read).vertices-are) in
+    let e : c.loop-u.u ≡ vertices c.args.file.now = omega (arith, c.loop-u.invariant.0, (read_heads c.requires.directives_read).vertices_are) in
     rw (eq-eqb c.args.a c.args.a refl)
     (subst (λ (n : ℕ). Grows (rows (row c.args.file.now c.args.v c.args.x) n) c.args.list.now c.args.p c.loop-u.list c.loop-u.q) e c.loop-u.invariant.1)

@@ -8,7 +8,7 @@ use Rattle.words.specs.Tables.{rows}
 use Rattle.directives.specs.declared.spread.Mapping.{Mapping}
 use Rattle.mappings.specs.Along.{turned}
 use Rattle.numbering.specs.Lists.{Grows}
-use Rattle.numbering.proofs.Growth.{grows_none, grows_in, grows-out, grows-as, grows-row}
+use Rattle.numbering.proofs.Growth.{grows_none, grows_in, grows_out, grows_as, grows_row}
 use Rattle.sets.specs.Sets.{has}
 use Rattle.numbering.proofs.given.redistributed.Goals as goal
 use Rattle.numbering.proofs.given.redistributed.Goals.{then-member, else-member}
@@ -33,10 +33,10 @@ pub loop-e-preserved : goal.loop-e-preserved
 loop-e-preserved c =
     let s = c.args in (
       omega arith,
-      grows-row (row s.t s.m s.aligned) c.loop-e.e c.loop-e.invariant.1
+      grows_row (row s.t s.m s.aligned) c.loop-e.e c.loop-e.invariant.1
           (elim c.if-member.branch [
-            | then-member w ↦ grows-as w.list-is w.q-is (grows_in (sym c.member.ensures ∙ w.if-member.true) w.turned.ensures w.add-q.ensures)
-            | else-member w ↦ grows-as w.list-is w.q-is (grows-out (turned c.loop-e.e s.m) (sym c.member.ensures ∙ w.if-member.false) c.loop-e.invariant.1.room c.loop-e.invariant.1.most)
+            | then-member w ↦ grows_as w.list-is w.q-is (grows_in (sym c.member.ensures ∙ w.if-member.true) w.turned.ensures w.add-q.ensures)
+            | else-member w ↦ grows_as w.list-is w.q-is (grows_out (turned c.loop-e.e s.m) (sym c.member.ensures ∙ w.if-member.false) c.loop-e.invariant.1.room c.loop-e.invariant.1.most)
           ]),
     )
 

@@ -4,7 +4,7 @@ use Prim.Native.Nat.{◌<◌}
 use native.Mathlib.Omega.{arith}
 use lib.Bits.{bit_or}
 use Rattle.sets.specs.Sets.{width}
-use Rattle.numbering.proofs.Holding.{Found, found_within, grows-full, grows-over, grows-listed, grows-new}
+use Rattle.numbering.proofs.Holding.{Found, found_within, grows_full, grows_over, grows_listed, grows_new}
 use Rattle.numbering.proofs.list.add.Goals as goal
 use Rattle.numbering.proofs.list.add.Goals.{After-number_of-k, Else-k-eq-WIDTH}
 
@@ -18,10 +18,10 @@ below : (c : Else-k-eq-WIDTH) → c.number_of-k.result < width
 below c = let f = found (goal.at.Else-k-eq-WIDTH c).After-number_of-k in omega (arith, found_within f)
 
 pub returns-then-p-gt-WIDTH : goal.returns-then-p-gt-WIDTH
-returns-then-p-gt-WIDTH c = grows-full c.args.m c.requires.list_len c.if-p-gt-WIDTH.true c.requires.count_bound
+returns-then-p-gt-WIDTH c = grows_full c.args.m c.requires.list_len c.if-p-gt-WIDTH.true c.requires.count_bound
 
 pub returns-then-k-eq-WIDTH : goal.returns-then-k-eq-WIDTH
-returns-then-k-eq-WIDTH c = grows-over (found (goal.at.returns-then-k-eq-WIDTH c).After-number_of-k) c.if-k-eq-WIDTH.true refl
+returns-then-k-eq-WIDTH c = grows_over (found (goal.at.returns-then-k-eq-WIDTH c).After-number_of-k) c.if-k-eq-WIDTH.true refl
 
 pub overflow_cast-k : goal.overflow_cast-k
 overflow_cast-k c = omega (arith, below c)
@@ -30,7 +30,7 @@ pub single-requires : goal.single-requires
 single-requires c = below c
 
 pub returns-then-k-p : goal.returns-then-k-p
-returns-then-k-p c = grows-listed (found (goal.at.returns-then-k-p c).After-number_of-k) c.if-k-p.true refl (ap (bit_or c.args.p.given) c.single.ensures)
+returns-then-k-p c = grows_listed (found (goal.at.returns-then-k-p c).After-number_of-k) c.if-k-p.true refl (ap (bit_or c.args.p.given) c.single.ensures)
 
 pub put-requires : goal.put-requires
 put-requires c =
@@ -43,4 +43,4 @@ pub overflow_add-result-2 : goal.overflow_add-result-2
 overflow_add-result-2 c = omega (arith, below (goal.at.overflow_add-result-2 c).Else-k-eq-WIDTH)
 
 pub returns : goal.returns
-returns c = grows-new (found (goal.at.returns c).After-number_of-k) c.put.ensures.list_len_2 (below (goal.at.returns c).Else-k-eq-WIDTH) c.if-k-p.false c.put.ensures.k_after refl (ap (bit_or c.args.p.given) c.single.ensures)
+returns c = grows_new (found (goal.at.returns c).After-number_of-k) c.put.ensures.list_len_2 (below (goal.at.returns c).Else-k-eq-WIDTH) c.if-k-p.false c.put.ensures.k_after refl (ap (bit_or c.args.p.given) c.single.ensures)

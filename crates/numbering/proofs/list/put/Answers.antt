@@ -1,7 +1,7 @@
 -- `put` meets its contract: two stores, which leave what stands before.
 use native.Mathlib.Omega.{arith}
 use lib.ListN.{length-set}
-use Rattle.numbering.proofs.Holding.{mappings-put}
+use Rattle.numbering.proofs.Holding.{mappings_put}
 use Rattle.numbering.proofs.list.put.Goals as goal
 
 pub bounds-list-k-2 : goal.bounds-list-k-2
@@ -11,5 +11,5 @@ pub returns : goal.returns
 returns c =
     record {
       list_len_2 = simp length-set c.requires.list_len;
-      k_after = mappings-put c.args.list.now c.args.k c.args.m (omega arith);
+      k_after = mappings_put c.args.list.now c.args.k c.args.m (omega arith);
     }

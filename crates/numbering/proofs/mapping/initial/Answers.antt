@@ -1,7 +1,7 @@
 -- `initial` meets its contract: the template of an alignment is one of the file.
 use mathlib.Core.Path.{sym, ap, subst, ◌∙◌}
 use Prim.Native.Nat.{◌<◌}
-use Rattle.directives.proofs.Limits.{read-heads}
+use Rattle.directives.proofs.Limits.{read_heads}
 use Rattle.directives.specs.Directives.{spread_at}
 use Rattle.directives.specs.Layout.{templates, template_at}
 use Rattle.directives.specs.declared.array.Alignment.{Alignment}
@@ -12,7 +12,7 @@ use Rattle.numbering.proofs.mapping.initial.Goals as goal
 pub initial_alignment-x-requires : goal.initial_alignment-x-requires
 initial_alignment-x-requires c =
     record {
-      heads = read-heads c.requires.directives_read;
+      heads = read_heads c.requires.directives_read;
       a_bound = c.requires.a_bound;
     }
 

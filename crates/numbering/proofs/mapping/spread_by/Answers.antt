@@ -1,7 +1,7 @@
 -- `spread_by` meets its contract: a redistribute has its own spread, a vertex that is none leaves the initial one.
 use mathlib.Core.Path.{◌≡◌, refl, sym, ap, ◌∙◌}
 use Prim.Native.Nat.{ℕ}
-use Rattle.directives.proofs.Limits.{read-heads}
+use Rattle.directives.proofs.Limits.{read_heads}
 use Rattle.directives.specs.Directives.{spread_at}
 use Rattle.directives.specs.Layout.{template_at}
 use Rattle.directives.specs.declared.spread.Mapping.{Mapping}
@@ -19,7 +19,7 @@ other initial (Redistribute t m) h = absurd (h t m refl)
 pub at-d-requires : goal.at-d-requires
 at-d-requires c =
     record {
-      heads = read-heads c.requires.directives_read;
+      heads = read_heads c.requires.directives_read;
       v_bound = c.requires.u_bound;
     }
 

@@ -3,11 +3,11 @@ use mathlib.Core.Path.{sym, subst, ◌∙◌}
 use Prim.Native.Nat.{◌+◌, ◌*◌, ◌<◌}
 use native.Mathlib.Omega.{arith}
 use Rattle.flow.proofs.Cells.{in_cells}
-use Rattle.directives.proofs.Limits.{read-heads}
+use Rattle.directives.proofs.Limits.{read_heads}
 use Rattle.directives.specs.Layout.{vertices}
 use Rattle.directives.specs.declared.spread.Mapping.{Mapping}
 use Rattle.numbering.specs.Lists.{Starts}
-use Rattle.numbering.proofs.Columns.{column-start, column-next, column-end}
+use Rattle.numbering.proofs.Columns.{column_start, column_next, column_end}
 use Rattle.numbering.proofs.numbers.number_with.Goals as goal
 use Rattle.numbering.proofs.numbers.number_with.Goals.{In-loop-v}
 
@@ -23,18 +23,18 @@ start-requires c = c.requires.list_len
 
 pub loop-v-init : goal.loop-v-init
 loop-v-init c =
-    column-start c.requires.given_len
+    column_start c.requires.given_len
     (subst (λ (m : Mapping). Starts m c.start.new.list) c.initial.ensures c.start.ensures)
 
 -- in the loop there is such a vertex, and its cell is in the table
-in-v : (c : In-loop-v) → c.loop-v.v < vertices c.args.file.now
-in-v c = omega (arith, (read-heads c.requires.directives_read).vertices-are)
+in_v : (c : In-loop-v) → c.loop-v.v < vertices c.args.file.now
+in_v c = omega (arith, (read_heads c.requires.directives_read).vertices_are)
 
 few : (c : In-loop-v) → 8 * c.loop-v.v + c.args.a < 8 * vertices c.args.file.now
-few c = in_cells (read-heads c.requires.directives_read).limits.few-arrays c.requires.a_bound (in-v c)
+few c = in_cells (read_heads c.requires.directives_read).limits.few_arrays c.requires.a_bound (in_v c)
 
 most : (c : In-loop-v) → 8 * c.loop-v.v + c.args.a < 2048
-most c = omega (arith, few c, (read-heads c.requires.directives_read).limits.few-vertices)
+most c = omega (arith, few c, (read_heads c.requires.directives_read).limits.few_vertices)
 
 pub add-p-requires : goal.add-p-requires
 add-p-requires c =
@@ -42,7 +42,7 @@ add-p-requires c =
     record {
       directives_read = c.requires.directives_read;
       a_bound = c.requires.a_bound;
-      v_bound = in-v (goal.at.add-p-requires c).In-loop-v;
+      v_bound = in_v (goal.at.add-p-requires c).In-loop-v;
       alignments = c.requires.alignments;
       spreads = c.requires.spreads;
       list_len = l.holds.room;
@@ -65,7 +65,7 @@ pub overflow_add-v : goal.overflow_add-v
 overflow_add-v c = omega (arith, most (goal.at.overflow_add-v c).In-loop-v)
 
 pub loop-v-preserved : goal.loop-v-preserved
-loop-v-preserved c = column-next (omega (arith, c.requires.a_bound, (read-heads c.requires.directives_read).limits.few-arrays)) (in-v (goal.at.loop-v-preserved c).In-loop-v) c.loop-v.invariant c.add-p.ensures
+loop-v-preserved c = column_next (omega (arith, c.requires.a_bound, (read_heads c.requires.directives_read).limits.few_arrays)) (in_v (goal.at.loop-v-preserved c).In-loop-v) c.loop-v.invariant c.add-p.ensures
 
 pub shape_of-given : goal.shape_of-given
 shape_of-given c = c.loop-v.invariant.size ∙ sym c.requires.given_len
@@ -74,4 +74,4 @@ pub shape_of-list : goal.shape_of-list
 shape_of-list c = c.loop-v.invariant.holds.room ∙ sym c.requires.list_len
 
 pub returns : goal.returns
-returns c = column-end (omega (arith, (read-heads c.requires.directives_read).vertices-are)) c.loop-v.invariant
+returns c = column_end (omega (arith, (read_heads c.requires.directives_read).vertices_are)) c.loop-v.invariant

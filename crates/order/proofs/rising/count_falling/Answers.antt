@@ -4,21 +4,21 @@ use Prim.Native.Nat.{◌+◌}
 use native.Mathlib.Omega.{arith}
 use Rattle.flow.specs.Paths.{edge_count}
 use Rattle.words.specs.Sums.{count_of}
-use Rattle.words.proofs.Sums.{total-none, total-more, count-few}
+use Rattle.words.proofs.Sums.{total_none, total_more, count_few}
 use Rattle.order.specs.Falling.{is_falling}
 use Rattle.order.proofs.rising.count_falling.Goals as goal
 use Rattle.order.proofs.rising.count_falling.Goals.{After-falling-count}
 
 pub loop-i-init : goal.loop-i-init
-loop-i-init c = (omega arith, total-none _)
+loop-i-init c = (omega arith, total_none _)
 
 -- with the edge of this turn
 counted : (c : After-falling-count) →
     c.loop-i.count + c.falling-count.result ≡ count_of (is_falling c.args.edges.now) (c.loop-i.i + 1)
-counted c = total-more _ _ c.loop-i.invariant.1 c.falling-count.ensures
+counted c = total_more _ _ c.loop-i.invariant.1 c.falling-count.ensures
 
 pub overflow_add-count : goal.overflow_add-count
-overflow_add-count c = omega (arith, counted c, count-few (is_falling c.args.edges.now) (c.loop-i.i + 1))
+overflow_add-count c = omega (arith, counted c, count_few (is_falling c.args.edges.now) (c.loop-i.i + 1))
 
 pub loop-i-preserved : goal.loop-i-preserved
 loop-i-preserved c = (omega arith, counted c)

@@ -6,12 +6,12 @@ use Prim.Native.Nat.{ℕ}
 use native.Mathlib.Omega.{arith}
 use lib.ListN.{length, set, length-set}
 use Rattle.passes.specs.Marks.{Marked}
-use Rattle.passes.proofs.Marks.{marks_begin, all-marked}
+use Rattle.passes.proofs.Marks.{marks_begin, all_marked}
 use Rattle.passes.proofs.entered.all.Goals as goal
 use Rattle.passes.proofs.entered.all.Goals.{After-one_unmarked-unmarked}
 
 pub bounds-marks-0 : goal.bounds-marks-0
-bounds-marks-0 c = omega (arith, c.clear.auto.sets, c.requires.marks_len, c.requires.read_as.well.laid.limits.two-vertices)
+bounds-marks-0 c = omega (arith, c.clear.auto.sets, c.requires.marks_len, c.requires.read_as.well.laid.limits.two_vertices)
 
 pub mark_all-requires : goal.mark_all-requires
 mark_all-requires c =
@@ -34,4 +34,4 @@ off true e = sym e
 off false e = refl
 
 pub returns : goal.returns
-returns c = λ e. all-marked c.requires.read_as.well c.mark_all.ensures (size c ∙ c.requires.marks_len) (sym c.one_unmarked-unmarked.ensures ∙ off c.one_unmarked-unmarked.result e)
+returns c = λ e. all_marked c.requires.read_as.well c.mark_all.ensures (size c ∙ c.requires.marks_len) (sym c.one_unmarked-unmarked.ensures ∙ off c.one_unmarked-unmarked.result e)

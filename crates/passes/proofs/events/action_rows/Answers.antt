@@ -7,7 +7,7 @@ use Rattle.labels.specs.Events.{version_set}
 use Rattle.labels.specs.Uses.{use_gives}
 use Rattle.routine.specs.Actions.{action}
 use Rattle.routine.specs.Layout.{vertices}
-use Rattle.passes.proofs.Cells.{rows-begin, rows-further, rows-filled}
+use Rattle.passes.proofs.Cells.{rows_begin, rows_further, rows_filled}
 use Rattle.passes.proofs.events.action_rows.Goals as goal
 use Rattle.passes.proofs.events.action_rows.Goals.{In-loop-v}
 
@@ -20,17 +20,17 @@ use_at file a v = use_gives (action file a v)
 
 -- what holds in a turn
 module _ (c : In-loop-v) where
-  in-v : c.loop-v.v < vertices c.args.file.now
-  in-v = omega (arith, c.requires.read_as.heads.vertices-are)
+  in_v : c.loop-v.v < vertices c.args.file.now
+  in_v = omega (arith, c.requires.read_as.heads.vertices_are)
 
 pub loop-v-init : goal.loop-v-init
-loop-v-init c = (omega arith, rows-begin c.requires.read_as.well _ _ c.requires.versions_len c.requires.none_beyond, rows-begin c.requires.read_as.well _ _ c.requires.uses_len c.requires.none_beyond_2)
+loop-v-init c = (omega arith, rows_begin c.requires.read_as.well _ _ c.requires.versions_len c.requires.none_beyond, rows_begin c.requires.read_as.well _ _ c.requires.uses_len c.requires.none_beyond_2)
 
 pub versions_row-requires : goal.versions_row-requires
 versions_row-requires c =
     record {
       read_as = c.requires.read_as;
-      v_bound = in-v (goal.at.versions_row-requires c).In-loop-v;
+      v_bound = in_v (goal.at.versions_row-requires c).In-loop-v;
       versions_len = c.loop-v.invariant.1.size;
     }
 
@@ -38,20 +38,20 @@ pub uses_row-requires : goal.uses_row-requires
 uses_row-requires c =
     record {
       read_as = c.requires.read_as;
-      v_bound = in-v (goal.at.uses_row-requires c).In-loop-v;
+      v_bound = in_v (goal.at.uses_row-requires c).In-loop-v;
       uses_len = c.loop-v.invariant.2.size;
     }
 
 pub overflow_add-v : goal.overflow_add-v
-overflow_add-v c = omega (arith, in-v (goal.at.overflow_add-v c).In-loop-v, c.requires.read_as.well.laid.limits.few-vertices)
+overflow_add-v c = omega (arith, in_v (goal.at.overflow_add-v c).In-loop-v, c.requires.read_as.well.laid.limits.few_vertices)
 
 pub loop-v-preserved : goal.loop-v-preserved
 loop-v-preserved c =
     let file = c.args.file.now in
     let well = c.requires.read_as.well in (
       omega arith,
-      rows-further well (version_at file) c.args.versions.now c.loop-v.v (in-v (goal.at.loop-v-preserved c).In-loop-v) c.loop-v.invariant.1 c.versions_row.ensures,
-      rows-further well (use_at file) c.args.uses.now c.loop-v.v (in-v (goal.at.loop-v-preserved c).In-loop-v) c.loop-v.invariant.2 c.uses_row.ensures,
+      rows_further well (version_at file) c.args.versions.now c.loop-v.v (in_v (goal.at.loop-v-preserved c).In-loop-v) c.loop-v.invariant.1 c.versions_row.ensures,
+      rows_further well (use_at file) c.args.uses.now c.loop-v.v (in_v (goal.at.loop-v-preserved c).In-loop-v) c.loop-v.invariant.2 c.uses_row.ensures,
     )
 
 pub shape_of-versions : goal.shape_of-versions
@@ -64,8 +64,8 @@ pub returns : goal.returns
 returns c =
     let file = c.args.file.now in
     let well = c.requires.read_as.well in
-    let all : vertices file ≤ c.loop-v.v = omega (arith, c.requires.read_as.heads.vertices-are) in
+    let all : vertices file ≤ c.loop-v.v = omega (arith, c.requires.read_as.heads.vertices_are) in
     record {
-      cells_alone = rows-filled well (version_at file) c.args.versions.now c.loop-v.v all c.loop-v.invariant.1;
-      cells_alone_2 = rows-filled well (use_at file) c.args.uses.now c.loop-v.v all c.loop-v.invariant.2;
+      cells_alone = rows_filled well (version_at file) c.args.versions.now c.loop-v.v all c.loop-v.invariant.1;
+      cells_alone_2 = rows_filled well (use_at file) c.args.uses.now c.loop-v.v all c.loop-v.invariant.2;
     }

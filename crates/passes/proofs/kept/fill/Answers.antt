@@ -3,18 +3,18 @@ use mathlib.Core.Path.{ap, ◌∙◌}
 use mathlib.Core.Bool.{Bool, cond, ◌||◌}
 use lib.Dec.{eqb}
 use lib.ListN.{get_or}
-use Rattle.words.proofs.Filling.{fill-begin, fill-next, fill_end}
+use Rattle.words.proofs.Filling.{fill_begin, fill_next, fill_end}
 use Rattle.sets.specs.Sets.{every_half}
 use Rattle.passes.proofs.kept.fill.Goals as goal
 
 pub loop-i-init : goal.loop-i-init
-loop-i-init c = (fill-begin _ c.requires.gives_len, fill-begin _ c.requires.passes_len)
+loop-i-init c = (fill_begin _ c.requires.gives_len, fill_begin _ c.requires.passes_len)
 
 pub loop-i-preserved : goal.loop-i-preserved
 loop-i-preserved c =
     let version = get_or c.args.versions.now c.loop-i.i 0 in (
-      fill-next c.loop-i.invariant.0 c.loop-i-test.true (c.set_if.ensures ∙ ap (λ (b : Bool). cond b version 0) c.leaves.ensures),
-      fill-next c.loop-i.invariant.1 c.loop-i-test.true (c.every_if.ensures ∙ ap (λ (b : Bool). cond (eqb version 0 || b) every_half 0) c.goes_on.ensures),
+      fill_next c.loop-i.invariant.0 c.loop-i-test.true (c.set_if.ensures ∙ ap (λ (b : Bool). cond b version 0) c.leaves.ensures),
+      fill_next c.loop-i.invariant.1 c.loop-i-test.true (c.every_if.ensures ∙ ap (λ (b : Bool). cond (eqb version 0 || b) every_half 0) c.goes_on.ensures),
     )
 
 pub returns : goal.returns

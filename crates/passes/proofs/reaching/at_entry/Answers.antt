@@ -17,7 +17,7 @@ unfolding reaching_of
 brought file a e f g h = cc
 
 pub single-requires : goal.single-requires
-single-requires c = rw c.record_of-r.ensures (proper _ c.requires.read_as.well _ c.requires.a_bound).initial-fits
+single-requires c = rw c.record_of-r.ensures (proper _ c.requires.read_as.well _ c.requires.a_bound).initial_fits
 
 pub returns : goal.returns
 returns c =

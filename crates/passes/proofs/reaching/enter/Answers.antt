@@ -1,20 +1,20 @@
 -- `reaching::enter` meets its contract: a row is replaced.
 use native.Mathlib.Omega.{arith}
-use Rattle.words.proofs.Replaced.{replacing-begin, replacing-next, replacing-end}
+use Rattle.words.proofs.Replaced.{replacing_begin, replacing_next, replacing_end}
 use Rattle.passes.proofs.reaching.enter.Goals as goal
 
 pub loop-a-init : goal.loop-a-init
-loop-a-init c = replacing-begin _ _ _ _
+loop-a-init c = replacing_begin _ _ _ _
 
 pub at_entry-requires : goal.at_entry-requires
 at_entry-requires c =
     record {
       read_as = c.requires.read_as;
-      a_bound = omega (arith, c.requires.read_as.heads.arrays-are);
+      a_bound = omega (arith, c.requires.read_as.heads.arrays_are);
     }
 
 pub loop-a-preserved : goal.loop-a-preserved
-loop-a-preserved c = replacing-next c.loop-a.invariant (omega (arith, c.requires.read_as.heads.arrays-are)) (omega arith) c.at_entry.ensures
+loop-a-preserved c = replacing_next c.loop-a.invariant (omega (arith, c.requires.read_as.heads.arrays_are)) (omega arith) c.at_entry.ensures
 
 pub returns : goal.returns
-returns c = replacing-end c.loop-a.invariant (omega (arith, c.requires.read_as.heads.arrays-are))
+returns c = replacing_end c.loop-a.invariant (omega (arith, c.requires.read_as.heads.arrays_are))

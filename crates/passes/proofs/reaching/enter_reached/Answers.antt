@@ -1,17 +1,17 @@
 -- `reaching::enter_reached` meets its contract: a row is replaced.
 use mathlib.Core.Path.{refl}
 use native.Mathlib.Omega.{arith}
-use Rattle.words.proofs.Replaced.{replacing-begin, replacing-next, replacing-end}
+use Rattle.words.proofs.Replaced.{replacing_begin, replacing_next, replacing_end}
 use Rattle.passes.proofs.reaching.enter_reached.Goals as goal
 
 pub loop-a-init : goal.loop-a-init
-loop-a-init c = replacing-begin _ _ _ _
+loop-a-init c = replacing_begin _ _ _ _
 
 pub loop-a-preserved : goal.loop-a-preserved
-loop-a-preserved c = replacing-next c.loop-a.invariant c.loop-a-test.true (omega arith) refl
+loop-a-preserved c = replacing_next c.loop-a.invariant c.loop-a-test.true (omega arith) refl
 
 pub shape_of-gives : goal.shape_of-gives
 shape_of-gives c = c.loop-a.invariant.sized
 
 pub returns : goal.returns
-returns c = replacing-end c.loop-a.invariant c.loop-a-test.false
+returns c = replacing_end c.loop-a.invariant c.loop-a-test.false

@@ -2,17 +2,17 @@
 use mathlib.Core.Path.{ap, ◌∙◌}
 use mathlib.Core.Bool.{Bool, cond}
 use lib.ListN.{get_or}
-use Rattle.words.proofs.Filling.{fill-begin, fill-next, fill_end}
+use Rattle.words.proofs.Filling.{fill_begin, fill_next, fill_end}
 use Rattle.passes.proofs.reaching.fill_brought.Goals as goal
 
 pub loop-i-init : goal.loop-i-init
-loop-i-init c = (fill-begin _ c.requires.gives_len, fill-begin _ c.requires.passes_len)
+loop-i-init c = (fill_begin _ c.requires.gives_len, fill_begin _ c.requires.passes_len)
 
 pub loop-i-preserved : goal.loop-i-preserved
 loop-i-preserved c =
     let version = get_or c.args.versions.now c.loop-i.i 0 in (
-      fill-next c.loop-i.invariant.0 c.loop-i-test.true (c.set_if.ensures ∙ ap (λ (b : Bool). cond b version 0) c.is_reached.ensures),
-      fill-next c.loop-i.invariant.1 c.loop-i-test.true c.every_if.ensures,
+      fill_next c.loop-i.invariant.0 c.loop-i-test.true (c.set_if.ensures ∙ ap (λ (b : Bool). cond b version 0) c.is_reached.ensures),
+      fill_next c.loop-i.invariant.1 c.loop-i-test.true c.every_if.ensures,
     )
 
 pub returns : goal.returns

@@ -6,21 +6,21 @@ use Prim.Native.Nat.{ℕ, ◌≤◌}
 use native.Mathlib.Omega.{arith}
 use lib.ListN.{length, take, drop}
 use lib.Seq.{length-take-le}
-use Rattle.passes.proofs.Marks.{marks-back}
+use Rattle.passes.proofs.Marks.{marks_back}
 use Rattle.passes.proofs.tables.brought.Goals as goal
 use Rattle.passes.proofs.tables.brought.Goals.{Start}
 
 -- ---- the part of `gives` that the marks take
 
 room : (s : Start) → s.args.h.vertices ≤ length s.args.gives.now
-room s = omega (arith, s.requires.read_as.heads.vertices-are, s.requires.gives_len)
+room s = omega (arith, s.requires.read_as.heads.vertices_are, s.requires.gives_len)
 
 part : (s : Start) → length (take s.args.h.vertices s.args.gives.now) ≡ s.args.h.vertices
 part s = length-take-le s.args.h.vertices s.args.gives.now (room s)
 
 left : (s : Start) (marks : List ℕ) → length marks ≡ length (take s.args.h.vertices s.args.gives.now)
     → length (marks ++ drop s.args.h.vertices s.args.gives.now) ≡ length s.args.gives.now
-left s marks e = marks-back s.args.h.vertices s.args.gives.now marks (room s) e
+left s marks e = marks_back s.args.h.vertices s.args.gives.now marks (room s) e
 
 pub slice_bounds-all-end-2 : goal.slice_bounds-all-end-2
 slice_bounds-all-end-2 c = sym (part (goal.at.slice_bounds-all-end-2 c).Start)
@@ -29,7 +29,7 @@ pub all-everywhere-requires : goal.all-everywhere-requires
 all-everywhere-requires c =
     record {
       read_as = c.requires.read_as;
-      marks_len = part (goal.at.all-everywhere-requires c).Start ∙ c.requires.read_as.heads.vertices-are;
+      marks_len = part (goal.at.all-everywhere-requires c).Start ∙ c.requires.read_as.heads.vertices_are;
     }
 
 pub brought_everywhere-rounds-requires : goal.brought_everywhere-rounds-requires

@@ -1,6 +1,6 @@
 -- `tables::brought_after_pass` meets its contract: the reached vertices are found, the edges are ordered anew, and both tables are filled and solved.
 use mathlib.Core.Path.{sym, ◌∙◌}
-use Rattle.passes.proofs.Steps.{pass-stops, brought-gives, brought-passes, brought-sets}
+use Rattle.passes.proofs.Steps.{pass_stops, brought_gives_lem, brought_passes_lem, brought_sets_lem}
 use Rattle.passes.proofs.tables.brought_after_pass.Goals as goal
 
 pub reached-reached-requires : goal.reached-reached-requires
@@ -26,13 +26,13 @@ pub solve_sets-rounds-requires : goal.solve_sets-rounds-requires
 solve_sets-rounds-requires c =
     let vs = c.requires.versions in
     let well = c.requires.read_as.well in
-    let passed = brought-passes well vs c.fill_brought.ensures.passes_after in
+    let passed = brought_passes_lem well vs c.fill_brought.ensures.passes_after in
     record {
       read_as = c.requires.read_as;
       edge_order = c.reorder.ensures;
       passes_len = passed.size;
       are_halves = passed.halves;
-      sets_len = (brought-gives well vs c.reached-reached.ensures.reached c.fill_brought.ensures.gives_after).size;
+      sets_len = (brought_gives_lem well vs c.reached-reached.ensures.reached c.fill_brought.ensures.gives_after).size;
       gives_len = c.reached-reached.auto.gives ∙ c.requires.gives_len;
       halves_len = c.reached-reached.ensures.reached.size;
     }
@@ -41,11 +41,11 @@ pub returns : goal.returns
 returns c =
     let vs = c.requires.versions in
     let well = c.requires.read_as.well in
-    let given = brought-gives well vs c.reached-reached.ensures.reached c.fill_brought.ensures.gives_after in
-    let passed = (brought-passes well vs c.fill_brought.ensures.passes_after).cells in
+    let given = brought_gives_lem well vs c.reached-reached.ensures.reached c.fill_brought.ensures.gives_after in
+    let passed = (brought_passes_lem well vs c.fill_brought.ensures.passes_after).cells in
     record {
       edge_order_2 = c.reorder.ensures;
-      cells = brought-sets well given passed c.solve_sets-rounds.ensures.pass;
+      cells = brought_sets_lem well given passed c.solve_sets-rounds.ensures.pass;
       reached_stops = c.reached-reached.ensures.reached_stops;
-      brought_stops = pass-stops well c.reorder.ensures given passed c.solve_sets-rounds.ensures.rounds;
+      brought_stops = pass_stops well c.reorder.ensures given passed c.solve_sets-rounds.ensures.rounds;
     }

@@ -1,11 +1,11 @@
 -- `tables::kept` meets its contract: both tables are filled and solved, and the leaving sets are joined.
 use mathlib.Core.Path.{sym, ◌∙◌}
-use Rattle.passes.proofs.Steps.{pass-stops, kept_gives, kept-passes, kept_sets_are}
+use Rattle.passes.proofs.Steps.{pass_stops, kept_gives, kept_passes, kept_sets_are}
 use Rattle.passes.proofs.tables.kept.Goals as goal
 
 pub solve_sets-rounds-requires : goal.solve_sets-rounds-requires
 solve_sets-rounds-requires c =
-    let passed = kept-passes c.requires.read_as.well c.requires.versions c.requires.letters c.fill.ensures.passes_after in
+    let passed = kept_passes c.requires.read_as.well c.requires.versions c.requires.letters c.fill.ensures.passes_after in
     record {
       read_as = c.requires.read_as;
       edge_order = c.requires.edge_order;
@@ -28,8 +28,8 @@ pub returns : goal.returns
 returns c =
     let well = c.requires.read_as.well in
     let given = kept_gives well c.requires.versions c.requires.letters c.fill.ensures.gives_after in
-    let passed = (kept-passes well c.requires.versions c.requires.letters c.fill.ensures.passes_after).cells in
+    let passed = (kept_passes well c.requires.versions c.requires.letters c.fill.ensures.passes_after).cells in
     record {
       cells = kept_sets_are well c.requires.versions c.requires.letters given passed c.solve_sets-rounds.ensures.pass c.join.ensures;
-      kept_stops = pass-stops well c.requires.edge_order given passed c.solve_sets-rounds.ensures.rounds;
+      kept_stops = pass_stops well c.requires.edge_order given passed c.solve_sets-rounds.ensures.rounds;
     }

@@ -2,7 +2,7 @@
 use mathlib.Core.Path.{sym, ap, ◌∙◌}
 use lib.ListN.{length}
 use Rattle.words.proofs.Tables.{table-length}
-use Rattle.passes.proofs.Steps.{pass-stops, letter-passes, letters-are}
+use Rattle.passes.proofs.Steps.{pass_stops, letter_passes, letters_are}
 use Rattle.passes.proofs.tables.letters.Goals as goal
 
 pub fill-requires : goal.fill-requires
@@ -14,7 +14,7 @@ solve-rounds-requires c =
       read_as = c.requires.read_as;
       edge_order = c.requires.edge_order;
       gives_len = c.requires.use_gives.size;
-      passes_len = (letter-passes c.requires.read_as.well c.requires.use_gives c.fill.ensures).size;
+      passes_len = (letter_passes c.requires.read_as.well c.requires.use_gives c.fill.ensures).size;
       sets_len = c.requires.sets_len;
     }
 
@@ -40,8 +40,8 @@ shape_of-passes c = c.fill.auto.passes
 pub returns : goal.returns
 returns c =
     let well = c.requires.read_as.well in
-    let passed = letter-passes well c.requires.use_gives c.fill.ensures in
+    let passed = letter_passes well c.requires.use_gives c.fill.ensures in
     record {
-      letters = letters-are well c.requires.use_gives passed c.solve-rounds.ensures.pass c.write.ensures c.leave.ensures;
-      letters_stop = pass-stops well c.requires.edge_order c.requires.use_gives passed c.solve-rounds.ensures.rounds;
+      letters = letters_are well c.requires.use_gives passed c.solve-rounds.ensures.pass c.write.ensures c.leave.ensures;
+      letters_stop = pass_stops well c.requires.edge_order c.requires.use_gives passed c.solve-rounds.ensures.rounds;
     }

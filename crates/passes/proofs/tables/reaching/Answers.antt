@@ -6,14 +6,14 @@ use Prim.Native.Nat.{◌≤◌}
 use native.Mathlib.Omega.{arith}
 use lib.ListN.{length, take, drop}
 use lib.Seq.{length-take-le}
-use Rattle.passes.proofs.Marks.{marks-back}
+use Rattle.passes.proofs.Marks.{marks_back}
 use Rattle.passes.proofs.tables.reaching.Goals as goal
 use Rattle.passes.proofs.tables.reaching.Goals.{After-all-everywhere, Start}
 
 -- ---- the part of `gives` that the marks take
 
 room : (s : Start) → s.args.h.vertices ≤ length s.args.gives.now
-room s = omega (arith, s.requires.read_as.heads.vertices-are, s.requires.gives_len)
+room s = omega (arith, s.requires.read_as.heads.vertices_are, s.requires.gives_len)
 
 part : (s : Start) → length (take s.args.h.vertices s.args.gives.now) ≡ s.args.h.vertices
 part s = length-take-le s.args.h.vertices s.args.gives.now (room s)
@@ -21,7 +21,7 @@ part s = length-take-le s.args.h.vertices s.args.gives.now (room s)
 left : (m : After-all-everywhere) → length (m.all-everywhere.new.marks ++ drop m.args.h.vertices m.args.gives.now) ≡ length m.args.gives.now
 left m =
     let a = m.args in
-    marks-back a.h.vertices a.gives.now m.all-everywhere.new.marks (room (goal.at.After-all-everywhere m).Start) m.all-everywhere.auto.marks
+    marks_back a.h.vertices a.gives.now m.all-everywhere.new.marks (room (goal.at.After-all-everywhere m).Start) m.all-everywhere.auto.marks
 
 pub slice_bounds-all-end-2 : goal.slice_bounds-all-end-2
 slice_bounds-all-end-2 c = sym (part (goal.at.slice_bounds-all-end-2 c).Start)
@@ -30,7 +30,7 @@ pub all-everywhere-requires : goal.all-everywhere-requires
 all-everywhere-requires c =
     record {
       read_as = c.requires.read_as;
-      marks_len = part (goal.at.all-everywhere-requires c).Start ∙ c.requires.read_as.heads.vertices-are;
+      marks_len = part (goal.at.all-everywhere-requires c).Start ∙ c.requires.read_as.heads.vertices_are;
     }
 
 pub reaching_everywhere-rounds-requires : goal.reaching_everywhere-rounds-requires

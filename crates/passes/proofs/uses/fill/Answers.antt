@@ -1,12 +1,12 @@
 -- `uses::fill` meets its contract: a table is filled.
-use Rattle.words.proofs.Filling.{fill-begin, fill-next, fill_end}
+use Rattle.words.proofs.Filling.{fill_begin, fill_next, fill_end}
 use Rattle.passes.proofs.uses.fill.Goals as goal
 
 pub loop-i-init : goal.loop-i-init
-loop-i-init c = fill-begin _ c.requires
+loop-i-init c = fill_begin _ c.requires
 
 pub loop-i-preserved : goal.loop-i-preserved
-loop-i-preserved c = fill-next c.loop-i.invariant c.loop-i-test.true c.passes_by.ensures
+loop-i-preserved c = fill_next c.loop-i.invariant c.loop-i-test.true c.passes_by.ensures
 
 pub returns : goal.returns
 returns c = fill_end c.loop-i.invariant c.loop-i-test.false

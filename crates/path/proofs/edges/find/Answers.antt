@@ -6,25 +6,25 @@ use native.Mathlib.Omega.{arith}
 use lib.ListN.{get_or}
 use Rattle.routine.specs.declared.edge.Edge.{Edge}
 use Rattle.routine.specs.Layout.{vertices}
-use Rattle.path.proofs.Places.{starts-rise, Among, among-row, among-half, none_left, other-left, one_left, outside}
+use Rattle.path.proofs.Places.{starts_rise, Among, among_row, among_half, none_left, other_left, one_left, outside}
 use Rattle.path.proofs.edges.find.Goals as goal
 use Rattle.path.proofs.edges.find.Goals.{Else-v-h}
 
 pub returns-then-v-h : goal.returns-then-v-h
-returns-then-v-h c = outside c.requires.read_as.well c.args.v c.args.w (omega (arith, c.requires.read_as.heads.vertices-are))
+returns-then-v-h c = outside c.requires.read_as.well c.args.v c.args.w (omega (arith, c.requires.read_as.heads.vertices_are))
 
 -- ---- the edges from v
 -- v is a vertex
 
 within : (c : Else-v-h) → c.args.v < vertices c.args.file.now
-within c = omega (arith, c.requires.read_as.heads.vertices-are)
+within c = omega (arith, c.requires.read_as.heads.vertices_are)
 
 small : (c : Else-v-h) → c.args.v < 256
-small c = omega (arith, within c, c.requires.read_as.well.laid.limits.few-vertices)
+small c = omega (arith, within c, c.requires.read_as.well.laid.limits.few_vertices)
 
 -- its edges start at a small number
 row : (c : Else-v-h) (v : ℕ) → v ≤ vertices c.args.file.now → get_or c.args.starts.now v 0 ≤ 1192
-row c v h = omega (arith, (c.requires.starts.are v h).within, c.requires.read_as.well.laid.limits.few-edges)
+row c v h = omega (arith, (c.requires.starts.are v h).within, c.requires.read_as.well.laid.limits.few_edges)
 
 pub offset_bounds-starts-v : goal.offset_bounds-starts-v
 offset_bounds-starts-v c = omega (arith, small c)
@@ -50,10 +50,10 @@ overflow_cast-size c = omega (arith, row (goal.at.overflow_cast-size c).Else-v-h
 pub overflow_sub-size : goal.overflow_sub-size
 overflow_sub-size c =
     let s = c.requires.starts in
-    starts-rise (s.are c.args.v (omega (arith, within (goal.at.overflow_sub-size c).Else-v-h))) (s.are (c.args.v + 1) (omega (arith, within (goal.at.overflow_sub-size c).Else-v-h)))
+    starts_rise (s.are c.args.v (omega (arith, within (goal.at.overflow_sub-size c).Else-v-h))) (s.are (c.args.v + 1) (omega (arith, within (goal.at.overflow_sub-size c).Else-v-h)))
 
 pub loop-size-init : goal.loop-size-init
-loop-size-init c = among-row c.args.w c.requires.starts (within (goal.at.loop-size-init c).Else-v-h)
+loop-size-init c = among_row c.args.w c.requires.starts (within (goal.at.loop-size-init c).Else-v-h)
 
 -- ---- the search
 pub onward-low-requires : goal.onward-low-requires
@@ -67,7 +67,7 @@ pub loop-size-preserved : goal.loop-size-preserved
 loop-size-preserved c =
     let half = c.loop-size.size / 2 in
     subst (λ (low : ℕ). Among c.args.file.now c.args.v c.args.w low (c.loop-size.size - half)) (sym c.onward-low.ensures)
-    (among-half c.loop-size.invariant c.requires.read_as.well (omega arith))
+    (among_half c.loop-size.invariant c.requires.read_as.well (omega arith))
 
 pub returns-then-size-eq0 : goal.returns-then-size-eq0
 returns-then-size-eq0 c = none_left c.loop-size.invariant (omega arith)
@@ -80,7 +80,7 @@ at-e-requires c =
     }
 
 pub returns-then-e-w : goal.returns-then-e-w
-returns-then-e-w c = other-left c.loop-size.invariant (omega arith) (λ e. omega (arith, ap (λ (e : Edge). e.to) c.at-e.ensures))
+returns-then-e-w c = other_left c.loop-size.invariant (omega arith) (λ e. omega (arith, ap (λ (e : Edge). e.to) c.at-e.ensures))
 
 pub returns : goal.returns
 returns c = one_left c.loop-size.invariant (omega arith) (omega (arith, ap (λ (e : Edge). e.to) c.at-e.ensures))

@@ -5,8 +5,8 @@ use Prim.Native.Nat.{◌≤◌}
 use native.Mathlib.Omega.{arith}
 use lib.ListN.{length, set, length-set}
 use Rattle.planbytes.specs.Plan.{labels_before, label_count}
-use Rattle.planbytes.proofs.Sizes.{before_more, before-few, firsts-done}
-use Rattle.words.proofs.Filling.{fill-begin, fill-length, fill-next}
+use Rattle.planbytes.proofs.Sizes.{before_more, before_few, firsts_done}
+use Rattle.words.proofs.Filling.{fill_begin, fill_length, fill_next}
 use Rattle.planbytes.proofs.contents.label_count.Goals as goal
 use Rattle.planbytes.proofs.contents.label_count.Goals.{At-loop-v}
 
@@ -14,24 +14,24 @@ use Rattle.planbytes.proofs.contents.label_count.Goals.{At-loop-v}
 
 few : (c : At-loop-v) → c.loop-v.count ≤ 2048
 few c =
-    omega (arith, before-few c.args.file.now c.requires.read_as.heads.laid c.loop-v.v, c.loop-v.invariant.0, c.loop-v.invariant.1, c.requires.read_as.heads.vertices-are, c.requires.read_as.heads.laid.limits.few-vertices)
+    omega (arith, before_few c.args.file.now c.requires.read_as.heads.laid c.loop-v.v, c.loop-v.invariant.0, c.loop-v.invariant.1, c.requires.read_as.heads.vertices_are, c.requires.read_as.heads.laid.limits.few_vertices)
 
 pub loop-v-init : goal.loop-v-init
 unfolding labels_before
-loop-v-init c = (omega arith, refl, fill-begin _ refl)
+loop-v-init c = (omega arith, refl, fill_begin _ refl)
 
 pub overflow_cast-firsts : goal.overflow_cast-firsts
 overflow_cast-firsts c = omega (arith, few (goal.at.overflow_cast-firsts c).At-loop-v)
 
 pub bounds-firsts-v : goal.bounds-firsts-v
-bounds-firsts-v c = omega (arith, fill-length c.loop-v.invariant.2, c.loop-v-test.true, c.requires.read_as.heads.vertices-are, c.requires.file_in_bounds)
+bounds-firsts-v c = omega (arith, fill_length c.loop-v.invariant.2, c.loop-v-test.true, c.requires.read_as.heads.vertices_are, c.requires.file_in_bounds)
 
 pub labels_at-count-requires : goal.labels_at-count-requires
 labels_at-count-requires c =
     record {
       read_as = c.requires.read_as;
       versions = c.requires.versions;
-      v_bound = omega (arith, c.loop-v-test.true, c.requires.read_as.heads.vertices-are);
+      v_bound = omega (arith, c.loop-v-test.true, c.requires.read_as.heads.vertices_are);
     }
 
 pub overflow_add-count : goal.overflow_add-count
@@ -42,7 +42,7 @@ loop-v-preserved c =
     let t = c.loop-v.invariant in (
       omega arith,
       before_more c.args.file.now c.loop-v.v t.1 c.labels_at-count.ensures.value,
-      fill-next t.2 (omega (arith, c.loop-v-test.true, c.requires.read_as.heads.vertices-are, c.requires.file_in_bounds)) t.1,
+      fill_next t.2 (omega (arith, c.loop-v-test.true, c.requires.read_as.heads.vertices_are, c.requires.file_in_bounds)) t.1,
     )
 
 -- ---- at the end
@@ -50,7 +50,7 @@ pub overflow_cast-firsts-2 : goal.overflow_cast-firsts-2
 overflow_cast-firsts-2 c = omega (arith, few (goal.at.overflow_cast-firsts-2 c).At-loop-v)
 
 pub bounds-firsts-n : goal.bounds-firsts-n
-bounds-firsts-n c = omega (arith, fill-length c.loop-v.invariant.2, c.requires.read_as.heads.vertices-are, c.requires.file_in_bounds)
+bounds-firsts-n c = omega (arith, fill_length c.loop-v.invariant.2, c.requires.read_as.heads.vertices_are, c.requires.file_in_bounds)
 
 pub shape_of-firsts : goal.shape_of-firsts
 shape_of-firsts c =
@@ -60,10 +60,10 @@ shape_of-firsts c =
 pub returns : goal.returns
 unfolding label_count
 returns c =
-    let is = c.requires.read_as.heads.vertices-are in
+    let is = c.requires.read_as.heads.vertices_are in
     let end : c.loop-v.v ≡ c.args.h.vertices = omega (arith, c.loop-v.invariant.0, c.loop-v-test.false) in
     record {
-      firsts = firsts-done c.args.file.now c.loop-v.invariant.2 end is c.requires.file_in_bounds c.loop-v.invariant.1;
+      firsts = firsts_done c.args.file.now c.loop-v.invariant.2 end is c.requires.file_in_bounds c.loop-v.invariant.1;
       value = c.loop-v.invariant.1 ∙ ap (labels_before c.args.file.now) (end ∙ is);
       upper_bound = few (goal.at.returns c).At-loop-v;
     }

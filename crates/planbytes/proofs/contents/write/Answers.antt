@@ -2,7 +2,7 @@
 use native.Mathlib.Omega.{arith}
 use Rattle.planbytes.specs.Plan.{contents_entry, contents}
 use Rattle.routine.specs.Layout.{vertices}
-use Rattle.words.proofs.Buffers.{begin, buffer-length, end, lies, lent, next_row}
+use Rattle.words.proofs.Buffers.{begin, buffer_length, end, lies, lent, next_row}
 use Rattle.planbytes.proofs.Sizes.{IndexEntry, entry-holds, entry_at}
 use Rattle.planbytes.proofs.contents.write.Goals as goal
 use Rattle.planbytes.proofs.contents.write.Goals.{In-loop-v}
@@ -13,7 +13,7 @@ loop-v-init c = begin _ _ _ (omega (arith, c.requires.file_in_bounds, entry_at c
 -- what the table of indices says of vertex v
 here : (c : In-loop-v) → IndexEntry c.args.file.now c.args.firsts.now c.loop-v.v
 here c =
-    entry-holds c.args.file.now c.requires.read_as.heads.laid c.requires.firsts (omega (arith, c.loop-v-test.true, c.requires.read_as.heads.vertices-are))
+    entry-holds c.args.file.now c.requires.read_as.heads.laid c.requires.firsts (omega (arith, c.loop-v-test.true, c.requires.read_as.heads.vertices_are))
 
 pub bounds-firsts-v : goal.bounds-firsts-v
 bounds-firsts-v c = omega (arith, (here (goal.at.bounds-firsts-v c).In-loop-v).inside)
@@ -50,10 +50,10 @@ loop-v-preserved c =
     let file = c.args.file.now in
     let e = here (goal.at.loop-v-preserved c).In-loop-v in
     next_row c.loop-v.invariant (entry_at file c.loop-v.v) (omega arith) {ys = c.write_entry.new.out}
-    (rw (← e.count-is, ← e.first-is) c.write_entry.ensures)
+    (rw (← e.count_is, ← e.first_is) c.write_entry.ensures)
 
 pub shape_of-out : goal.shape_of-out
-shape_of-out c = buffer-length c.loop-v.invariant
+shape_of-out c = buffer_length c.loop-v.invariant
 
 pub returns : goal.returns
 unfolding contents

@@ -6,7 +6,7 @@ use native.Mathlib.Nat.{eq-or-lt_of_le}
 use native.Mathlib.Omega.{arith}
 use borrow.Author.Tests.{eqb-true}
 use lib.ListN.{get_or}
-use Rattle.sets.proofs.Laws.{or-none}
+use Rattle.sets.proofs.Laws.{or_none}
 use Rattle.planbytes.proofs.writer.is_unlabelled.Goals as goal
 
 pub loop-a-init : goal.loop-a-init
@@ -16,7 +16,7 @@ pub loop-a-preserved : goal.loop-a-preserved
 loop-a-preserved c = (
   omega arith,
   λ e b h.
-      let parts = or-none c.loop-a.all (get_or c.args.versions.now (8 * c.args.v + c.loop-a.a) 0) e in
+      let parts = or_none c.loop-a.all (get_or c.args.versions.now (8 * c.args.v + c.loop-a.a) 0) e in
       ⊎_elim
       (λ (q : b ≡ c.loop-a.a). ap (λ (i : ℕ). get_or c.args.versions.now (8 * c.args.v + i) 0) q ∙ parts.1)
       (λ (k : b < c.loop-a.a). c.loop-a.invariant.1 parts.0 b k)

@@ -1,7 +1,7 @@
 -- `writer::leaving` meets its contract: N leaves with none, any other letter with the label's version.
 use mathlib.Core.Path.{refl, sym, ap, ◌∙◌}
 use mathlib.Core.Bool.{not, true≢false}
-use Rattle.sets.proofs.Laws.{lowest-has}
+use Rattle.sets.proofs.Laws.{lowest_has}
 use Rattle.sets.specs.Sets.{width}
 use Rattle.planbytes.proofs.writer.leaving.Goals as goal
 
@@ -12,5 +12,5 @@ pub returns : goal.returns
 returns c =
     record {
       none = λ e. absurd (true≢false (sym (c.if-not-leaves.false) ∙ c.leaves-leaves.ensures ∙ ap not e));
-      some = λ e. rw c.lowest.ensures (lowest-has width c.args.version c.requires c.ranges.version.fits);
+      some = λ e. rw c.lowest.ensures (lowest_has width c.args.version c.requires c.ranges.version.fits);
     }

@@ -8,7 +8,7 @@ use Rattle.planbytes.specs.Plan.{label_count, contents, labels, plan_head, plan_
 use Rattle.routine.specs.Layout.{vertices}
 use Rattle.words.specs.Tables.{wrote}
 use Rattle.words.proofs.Buffers.{Front, starts, lends, more}
-use Rattle.planbytes.proofs.Sizes.{labels-few, labels_length, labels_at_is, plan-length}
+use Rattle.planbytes.proofs.Sizes.{labels_few, labels_length, labels_at_is, plan_length_lem}
 use Rattle.planbytes.proofs.writer.write.Goals as goal
 use Rattle.planbytes.proofs.writer.write.Goals.{After-write, After-write_head, Start}
 
@@ -22,10 +22,10 @@ first s = plan_head (vertices s.args.file.now) (label_count s.args.file.now)
 
 room : (s : Start) → 8 + 4 * s.args.h.vertices + length (labels s.args.file.now) ≤ length (old s)
 unfolding plan_length
-room s = omega (arith, plan-length s.args.file.now, labels_length s.args.file.now)
+room s = omega (arith, plan_length_lem s.args.file.now, labels_length s.args.file.now)
 
 few : (s : Start) → label_count s.args.file.now ≤ 2048
-few s = labels-few s.args.file.now s.requires.read_as.heads.laid
+few s = labels_few s.args.file.now s.requires.read_as.heads.laid
 
 place : (s : Start) → 8 + 4 * s.args.h.vertices ≡ length (first s ++ contents s.args.file.now)
 place s = omega (arith, labels_at_is s.args.file.now)
@@ -42,13 +42,13 @@ pub write_head-requires : goal.write_head-requires
 write_head-requires c =
     record {
       in_bounds = omega (arith, room (goal.at.write_head-requires c).Start);
-      vertices_bound = omega (arith, c.total.ensures, few (goal.at.write_head-requires c).Start, c.requires.read_as.heads.vertices-are, c.requires.read_as.well.laid.limits.few-vertices);
+      vertices_bound = omega (arith, c.total.ensures, few (goal.at.write_head-requires c).Start, c.requires.read_as.heads.vertices_are, c.requires.read_as.well.laid.limits.few_vertices);
     }
 
 head : (c : After-write_head) → Front (old (goal.at.After-write_head c).Start) (first (goal.at.After-write_head c).Start) c.write_head.new.out
 head c =
     record {
-      is = c.write_head.ensures ∙ ap₂ (λ (n k : ℕ). wrote (old (goal.at.After-write_head c).Start) (plan_head n k)) c.requires.read_as.heads.vertices-are c.total.ensures;
+      is = c.write_head.ensures ∙ ap₂ (λ (n k : ℕ). wrote (old (goal.at.After-write_head c).Start) (plan_head n k)) c.requires.read_as.heads.vertices_are c.total.ensures;
     }
 
 -- ---- the contents

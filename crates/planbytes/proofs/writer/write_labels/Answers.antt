@@ -4,7 +4,7 @@ use mathlib.Core.Path.{refl}
 use native.Mathlib.Omega.{arith}
 use Rattle.planbytes.specs.Plan.{labels}
 use Rattle.words.specs.Tables.{rows}
-use Rattle.words.proofs.Buffers.{begin, buffer-length, end, row_room, lies, lent, next_row, onward}
+use Rattle.words.proofs.Buffers.{begin, buffer_length, end, row_room, lies, lent, next_row, onward}
 use Rattle.planbytes.proofs.writer.write_labels.Goals as goal
 
 pub loop-v-init : goal.loop-v-init
@@ -36,7 +36,7 @@ loop-v-preserved c = (
 )
 
 pub shape_of-out : goal.shape_of-out
-shape_of-out c = buffer-length c.loop-v.invariant.0
+shape_of-out c = buffer_length c.loop-v.invariant.0
 
 pub returns : goal.returns
 unfolding labels

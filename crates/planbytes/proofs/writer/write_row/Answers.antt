@@ -5,19 +5,19 @@ use native.Mathlib.Omega.{arith}
 use lib.ListN.{length}
 use Rattle.planbytes.specs.Plan.{label_row}
 use Rattle.words.specs.Tables.{rows, wrote}
-use Rattle.words.proofs.Buffers.{begin, buffer-length, end, row_room, lies, lent, next_row, onward, all}
-use Rattle.planbytes.proofs.Cells.{no-version}
-use Rattle.planbytes.proofs.Sizes.{row-none}
+use Rattle.words.proofs.Buffers.{begin, buffer_length, end, row_room, lies, lent, next_row, onward, all}
+use Rattle.planbytes.proofs.Cells.{no_version}
+use Rattle.planbytes.proofs.Sizes.{row_none}
 use Rattle.planbytes.proofs.writer.write_row.Goals as goal
 
 pub is_unlabelled-requires : goal.is_unlabelled-requires
-is_unlabelled-requires c = omega (arith, c.requires.v_bound, c.requires.tabled.versions-are.size)
+is_unlabelled-requires c = omega (arith, c.requires.v_bound, c.requires.tabled.versions_are.size)
 
 pub returns-then-is_unlabelled : goal.returns-then-is_unlabelled
 returns-then-is_unlabelled c =
-    let t = c.requires.tabled.versions-are in
+    let t = c.requires.tabled.versions_are in
     let none = c.is_unlabelled.ensures c.if-is_unlabelled.true in
-    let e = row-none c.args.file.now c.args.v (λ a l. no-version c.args.file.now a c.args.v (t.cells a c.args.v l c.requires.v_bound) (none a (omega (arith, c.requires.read_as.well.laid.limits.few-arrays)))) in
+    let e = row_none c.args.file.now c.args.v (λ a l. no_version c.args.file.now a c.args.v (t.cells a c.args.v l c.requires.v_bound) (none a (omega (arith, c.requires.read_as.well.laid.limits.few_arrays)))) in
     record {
       value = sym (ap length e);
       out_after = sym (ap (wrote c.args.out.now) e);
@@ -53,7 +53,7 @@ loop-a-preserved c = (
 )
 
 pub shape_of-out : goal.shape_of-out
-shape_of-out c = buffer-length c.loop-a.invariant.0
+shape_of-out c = buffer_length c.loop-a.invariant.0
 
 pub returns : goal.returns
 unfolding label_row

@@ -9,15 +9,15 @@ use Rattle.routine.specs.Actions.{action_check, row_check}
 use Rattle.routine.specs.Layout.{action_at}
 use Rattle.routine.specs.Rows.{reason_of}
 use Rattle.refusal.specs.Checks.{holds}
-use Rattle.refusal.proofs.Checks.{scan-start, scan-stop, scan-next, scan-done}
-use Rattle.routine.proofs.Rows.{first-family, next-family, one-test}
+use Rattle.refusal.proofs.Checks.{scan_start, scan_stop, scan_next, scan_done}
+use Rattle.routine.proofs.Rows.{first_family, next_family, one_test}
 use Rattle.routine.proofs.action.check_row.Goals as goal
 use Rattle.routine.proofs.action.check_row.Goals.{After-is_wrong-wrong}
 
 pub loop-a-init : goal.loop-a-init
 loop-a-init c =
     let a = c.args in
-    (scan-start _ _, first-family a.file.now a.v)
+    (scan_start _ _, first_family a.file.now a.v)
 
 -- the check of a turn's byte
 turn : (c : After-is_wrong-wrong) →
@@ -25,24 +25,24 @@ turn : (c : After-is_wrong-wrong) →
     ≡ holds (not c.is_wrong-wrong.result)
     (reason_of c.byte_at-b.result c.record_of-versions.result.versions c.is_terminal-terminal.result (action_at c.args.file.now c.loop-a.a c.args.v))
 turn c =
-    one-test c.args.file.now c.loop-a.a c.args.v _ _ _ _
+    one_test c.args.file.now c.loop-a.a c.args.v _ _ _ _
     c.is_wrong-wrong.ensures
     c.byte_at-b.ensures
     (ap (λ (r : ArrayRecord). r.versions) c.record_of-versions.ensures)
-    (c.is_terminal-terminal.ensures ∙ ap (λ (n : ℕ). eqb c.args.v 0 || eqb c.args.v (n - 1)) c.requires.heads.vertices-are)
+    (c.is_terminal-terminal.ensures ∙ ap (λ (n : ℕ). eqb c.args.v 0 || eqb c.args.v (n - 1)) c.requires.heads.vertices_are)
     c.loop-a.invariant.1
 
 pub returns-then-wrong : goal.returns-then-wrong
 unfolding row_check
-returns-then-wrong c = scan-stop c.loop-a.invariant.0 (omega (arith, c.loop-a-test.true, c.requires.heads.arrays-are)) (rw (c.reason.ensures, c.place.ensures.value, turn (goal.at.returns-then-wrong c).After-is_wrong-wrong, c.if-wrong.true)) refl
+returns-then-wrong c = scan_stop c.loop-a.invariant.0 (omega (arith, c.loop-a-test.true, c.requires.heads.arrays_are)) (rw (c.reason.ensures, c.place.ensures.value, turn (goal.at.returns-then-wrong c).After-is_wrong-wrong, c.if-wrong.true)) refl
 
 pub loop-a-preserved : goal.loop-a-preserved
 loop-a-preserved c = (
-  scan-next c.loop-a.invariant.0 (omega arith) (rw (turn (goal.at.loop-a-preserved c).After-is_wrong-wrong, c.if-wrong.false)) refl,
+  scan_next c.loop-a.invariant.0 (omega arith) (rw (turn (goal.at.loop-a-preserved c).After-is_wrong-wrong, c.if-wrong.false)) refl,
   rw (c.family_after-family.ensures, c.of-x.ensures)
-      (next-family _ _ _ _ (sym c.is_wrong-wrong.ensures ∙ c.if-wrong.false) c.args.file.now c.args.v c.loop-a.a c.byte_at-b.ensures c.loop-a.invariant.1),
+      (next_family _ _ _ _ (sym c.is_wrong-wrong.ensures ∙ c.if-wrong.false) c.args.file.now c.args.v c.loop-a.a c.byte_at-b.ensures c.loop-a.invariant.1),
 )
 
 pub returns : goal.returns
 unfolding row_check
-returns c = scan-done c.loop-a.invariant.0 (omega arith)
+returns c = scan_done c.loop-a.invariant.0 (omega arith)

@@ -9,7 +9,7 @@ use Rattle.routine.proofs.edge.check.Goals.{After-has_ends-ends}
 ends : (c : After-has_ends-ends) →
     let a = c.args in
     c.has_ends-ends.result ≡ ends_within (edge_of a.file.now a.i) (vertices a.file.now)
-ends c = c.has_ends-ends.ensures ∙ ap₂ ends_within c.at.ensures c.requires.heads.vertices-are
+ends c = c.has_ends-ends.ensures ∙ ap₂ ends_within c.at.ensures c.requires.heads.vertices_are
 
 pub returns-then-not-ends : goal.returns-then-not-ends
 unfolding edge_check

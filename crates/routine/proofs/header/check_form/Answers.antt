@@ -3,7 +3,7 @@ use mathlib.Core.Path.{sym, ◌∙◌}
 use Prim.Native.Nat.{◌≤◌}
 use lib.ListN.{length}
 use Rattle.routine.specs.Reader.{form_check}
-use Rattle.routine.proofs.Form.{long-enough, in-limits}
+use Rattle.routine.proofs.Form.{long_enough, in_limits}
 use Rattle.refusal.proofs.Checks.{fails, passes}
 use Rattle.routine.proofs.header.check_form.Goals as goal
 use Rattle.routine.proofs.header.check_form.Goals.{In_default}
@@ -14,7 +14,7 @@ returns-in-Failed c = search (fails, passes)
 
 -- check 10 passed
 long : (c : In_default) → 18 ≤ length c.args.file.now
-long c = long-enough _ (sym c.check_mark-mark.ensures ∙ c.in_default.is)
+long c = long_enough _ (sym c.check_mark-mark.ensures ∙ c.in_default.is)
 
 pub check_edition-edition-requires : goal.check_edition-edition-requires
 check_edition-edition-requires c = long (goal.at.check_edition-edition-requires c).In_default
@@ -34,7 +34,7 @@ pub check_layout-requires : goal.check_layout-requires
 check_layout-requires c =
     record {
       in_bounds = long (goal.at.check_layout-requires c).In_default;
-      limits = in-limits _ (sym c.check_counts-counts.ensures ∙ c.in_default-counts.is);
+      limits = in_limits _ (sym c.check_counts-counts.ensures ∙ c.in_default-counts.is);
     }
 
 pub returns : goal.returns

@@ -11,14 +11,14 @@ unfolding read_of
 returns-in-Failed c = rw (← c.check_form-form.ensures, c.in-Failed.is)
 
 -- checks 10 to 13 passed
-laid-file : (c : In_default) → Laid c.args.file.now
-laid-file c = laid _ (sym c.check_form-form.ensures ∙ c.in_default.is)
+laid_file : (c : In_default) → Laid c.args.file.now
+laid_file c = laid _ (sym c.check_form-form.ensures ∙ c.in_default.is)
 
 pub of-h-requires : goal.of-h-requires
-of-h-requires c = omega (arith, laid-file (goal.at.of-h-requires c).In_default)
+of-h-requires c = omega (arith, laid_file (goal.at.of-h-requires c).In_default)
 
 pub check_bodies-bodies-requires : goal.check_bodies-bodies-requires
-check_bodies-bodies-requires c = rw c.of-h.ensures (heads _ (laid-file (goal.at.check_bodies-bodies-requires c).In_default))
+check_bodies-bodies-requires c = rw c.of-h.ensures (heads _ (laid_file (goal.at.check_bodies-bodies-requires c).In_default))
 
 pub returns-in-Failed-bodies : goal.returns-in-Failed-bodies
 unfolding read_of

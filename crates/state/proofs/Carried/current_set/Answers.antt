@@ -2,11 +2,11 @@
 use mathlib.Core.Path.{sym, ◌∙◌}
 use Rattle.state.specs.Carrying.{bare}
 use Rattle.state.specs.Cleaning.{current_set}
-use Rattle.state.proofs.States.{current-below}
+use Rattle.state.proofs.States.{current_below}
 use Rattle.state.proofs.Carried.current_set.Goals as goal
 
 pub single-requires : goal.single-requires
-single-requires c = current-below (bare c.args.self) c.requires (sym c.has_current-current.ensures ∙ c.if-current.true)
+single-requires c = current_below (bare c.args.self) c.requires (sym c.has_current-current.ensures ∙ c.if-current.true)
 
 pub returns-then-current : goal.returns-then-current
 returns-then-current c = c.single.ensures ∙ simp (current_set, sym c.has_current-current.ensures ∙ c.if-current.true)

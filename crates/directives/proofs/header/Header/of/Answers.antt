@@ -5,5 +5,5 @@ pub returns : goal.returns
 returns c =
     record {
       value = rw (c.word_at.ensures.value, c.word_at-2.ensures.value, c.word_at-3.ensures.value, c.word_at-4.ensures.value);
-      counts = record { templates-fit = c.word_at.ensures.upper_bound; arrays-fit = c.word_at-2.ensures.upper_bound; vertices-fit = c.word_at-3.ensures.upper_bound; edges_fit = c.word_at-4.ensures.upper_bound };
+      counts = record { templates_fit = c.word_at.ensures.upper_bound; arrays_fit = c.word_at-2.ensures.upper_bound; vertices_fit = c.word_at-3.ensures.upper_bound; edges_fit = c.word_at-4.ensures.upper_bound };
     }

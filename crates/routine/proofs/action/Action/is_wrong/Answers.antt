@@ -3,31 +3,31 @@ use mathlib.Core.Path.{sym, ap, ap₂, ◌∙◌}
 use mathlib.Core.Bool.{Bool, not, ◌&&◌, ◌||◌}
 use lib.Dec.{eqb, leb}
 use Rattle.routine.specs.Actions.{is_call, called_version}
-use Rattle.words.proofs.Tests.{not-below}
-use Rattle.routine.proofs.Rows.{nothing-wrong, reference-wrong, remap-wrong, unknown-wrong}
+use Rattle.words.proofs.Tests.{not_below}
+use Rattle.routine.proofs.Rows.{nothing_wrong, reference_wrong, remap_wrong, unknown_wrong}
 use Rattle.routine.proofs.action.Action.is_wrong.Goals as goal
 
 pub returns-in-Nothing : goal.returns-in-Nothing
 returns-in-Nothing c =
     let a = c.args in
-    sym (nothing-wrong a.b a.versions a.terminal a.family (sym c.requires ∙ c.in-Nothing.is))
+    sym (nothing_wrong a.b a.versions a.terminal a.family (sym c.requires ∙ c.in-Nothing.is))
 
 pub returns-in-Reference : goal.returns-in-Reference
 returns-in-Reference c =
     let a = c.args in
     ap (λ (mixed : Bool). a.terminal || mixed) c.is_other.ensures
-    ∙ sym (reference-wrong a.b a.versions a.terminal a.family (sym c.requires ∙ c.in-Reference.is))
+    ∙ sym (reference_wrong a.b a.versions a.terminal a.family (sym c.requires ∙ c.in-Reference.is))
 
 pub returns-in-Remap : goal.returns-in-Remap
 returns-in-Remap c =
     let a = c.args in
-    ap₂ (λ (large mixed : Bool). large || (a.terminal || mixed)) (not-below c.in-Remap.k a.versions) c.is_other-in-Remap.ensures
-    ∙ sym (remap-wrong a.b a.versions a.terminal a.family (sym c.requires ∙ c.in-Remap.is))
+    ap₂ (λ (large mixed : Bool). large || (a.terminal || mixed)) (not_below c.in-Remap.k a.versions) c.is_other-in-Remap.ensures
+    ∙ sym (remap_wrong a.b a.versions a.terminal a.family (sym c.requires ∙ c.in-Remap.is))
 
 pub returns-in-Unknown : goal.returns-in-Unknown
 returns-in-Unknown c =
     let a = c.args in
     ap₂ (λ (call mixed : Bool). not call || (leb a.versions c.called_version.result || (a.terminal || mixed))) c.is_call.ensures c.is_other-in-Unknown.ensures
     ∙ ap (λ (large : Bool). not (is_call a.b) || (large || (a.terminal || (not (eqb a.family 0) && not (eqb a.family 3)))))
-    (ap (leb a.versions) c.called_version.ensures ∙ not-below (called_version a.b) a.versions)
-    ∙ sym (unknown-wrong a.b a.versions a.terminal a.family (sym c.requires ∙ c.in-Unknown.is))
+    (ap (leb a.versions) c.called_version.ensures ∙ not_below (called_version a.b) a.versions)
+    ∙ sym (unknown_wrong a.b a.versions a.terminal a.family (sym c.requires ∙ c.in-Unknown.is))
