@@ -1,7 +1,7 @@
 # What a linker expects: make install PREFIX=/usr/local
 #
 # Header, static library, shared library, pkg-config file, Fortran module source, hpf and the programs. The proved
-# archive and the programs are made by the kit: rt staticlib remap; rt check planner runner converter.
+# archive and the programs are made by tools/build.sh.
 
 PREFIX ?= /usr/local
 DESTDIR ?=
@@ -26,7 +26,7 @@ into := $(DESTDIR)$(PREFIX)
 all: $(built)/libremap.a $(built)/$(soname) $(built)/hpf-remap.pc hpf
 
 $(proved) $(programs:%=$(HPF_BIN_DIR)/%):
-	@echo '$@ is missing: rt staticlib remap; rt check $(programs)' >&2
+	@echo '$@ is missing: tools/build.sh makes it' >&2
 	@false
 
 $(built)/words.o: bindings/c/words.c $(header)

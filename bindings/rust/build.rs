@@ -16,7 +16,7 @@ fn main() {
         println!("cargo::rustc-link-lib=static=remap");
     } else {
         println!(
-            "cargo::error={} is missing: make it with `rt staticlib remap` in the root of the \
+            "cargo::error={} is missing: make it with `tools/build.sh` in the root of the \
              repository, or let HPF_LIB_DIR name the folder that has it",
             archive.display()
         );
