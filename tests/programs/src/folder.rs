@@ -60,9 +60,9 @@ pub enum Sink {
     Full,
     /// None: the descriptor is closed.
     Closed,
-    /// A pipe that nobody reads; the program ignores the signal.
+    /// A pipe that nobody reads; the signal that it sends is ignored.
     Unread,
-    /// A pipe that nobody reads; the signal ends the program.
+    /// The same, with the signal as the system has it: a program's start sets it aside.
     Signalled,
     /// A file that may not grow beyond some 512 bytes.
     Limited,

@@ -8,10 +8,6 @@ use oracle::builder::{self, path_bytes};
 use oracle::directives::figures::{FIGURE_10, FIGURE_21};
 use oracle::generate::{directives, limits};
 use std::io::Result;
-use std::os::unix::process::ExitStatusExt;
-
-/// The signal of a pipe that nobody reads, on Linux.
-const SIGPIPE: i32 = 13;
 
 /// The unit of a file's limit in a shell, 512 bytes or 1,024.
 const LIMITS: [usize; 2] = [512, 1024];
@@ -47,10 +43,7 @@ fn fault(
     writes: Option<u64>,
 ) -> Option<String> {
     let Printed { output, mut errors } = expected::printed(input, Met::End, Met::End);
-    let signal = (sink == Sink::Signalled).then_some(SIGPIPE);
-    if signal.is_none() {
-        errors += &expected::unwritten(input);
-    }
+    errors += &expected::unwritten(input);
     // One write a line, or for a whole routine; what is cut takes another. The last one fails.
     let taken = &output[..size];
     let whole = match input {
@@ -63,7 +56,7 @@ fn fault(
         format!("{} bytes of output, {size} are due", left.output.len())
     } else if found != errors {
         format!("errors:\n{found}due:\n{errors}")
-    } else if left.status.signal() != signal || left.status.code().unwrap_or(0) != 0 {
+    } else if left.status.code() != Some(0) {
         format!("{}", left.status)
     } else if writes.is_some_and(|writes| writes != due) {
         format!("{} writes, {due} are due", writes.unwrap_or(0))
