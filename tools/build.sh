@@ -10,7 +10,7 @@ mkdir -p target/staticlib target/bin
 (cd crates/remap && rt lib)
 cp crates/remap/out/libremap.a target/staticlib/
 for program in planner runner converter; do
-  # A run builds the program; it is run on the crate's own input.
-  (cd "crates/$program" && rt run >/dev/null)
+  # A run builds the program. It is given no input, and what it prints is of no use here.
+  (cd "crates/$program" && rt run </dev/null >/dev/null 2>&1)
   cp "crates/$program/out/$program" target/bin/
 done

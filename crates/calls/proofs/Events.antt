@@ -76,7 +76,7 @@ module _ (file : List ℕ) (w : WellFormed file) where
       pub passing_does : part_at file x ≡ passing v → action (expanded file) a x ≡ cond (passes file a v) (Remap (called_version (action_byte file a v))) Nothing
       passing_does e =
           action_is file w.laid a x in_a in-x e
-          ∙ remap_if (passes file a v) (called_version (action_byte file a v)) (λ p. omega (arith, interfaces.called-below a v in_a in_v p, (w.array_limits in_a).few_versions))
+          ∙ remap_if (passes file a v) (called_version (action_byte file a v)) (λ p. omega (arith, interfaces.called_below a v in_a in_v p, (w.array_limits in_a).few_versions))
 
       pub returning_does : part_at file x ≡ returning v → action (expanded file) a x ≡ cond (passes file a v) (Remap (return_version file a v)) Nothing
       returning_does e = action_is file w.laid a x in_a in-x e ∙ remap_if (passes file a v) (return_version file a v) (λ _. return_below file w interfaces in_a v)

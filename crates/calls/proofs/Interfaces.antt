@@ -32,7 +32,7 @@ module _ (file : List ℕ) (read : read_check file ≡ Passed) where
   pub interfaces_read : Interfaces file
   interfaces_read = record {
     calls_only = calls_only;
-    called-below = λ a v in_a in_v. call_below (passed_checks file read) in_v in_a;
+    called_below = λ a v in_a in_v. call_below (passed_checks file read) in_v in_a;
   }
 
   pub expandable : check22 file ≡ Passed → Expandable file

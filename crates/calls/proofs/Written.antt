@@ -187,7 +187,7 @@ module _ {file : List ℕ} (w : WellFormed file) where
         (eq-or-lt_of_le here.in_edges) in
         ap (edges_up_to file p.vertex) all ∙ ap (rows (edges_from file)) last
 
-    -- edge.edge leaves this vertex
+    -- edge .edge leaves this vertex
     module _ (listed : p.edge < edges file) (leaves : (edge_of file p.edge).from ≡ p.vertex) where
       abbrev past_edge : Place
       past_edge = record { vertex = p.vertex; edge = p.edge + 1; count = p.count + 1 }
@@ -219,7 +219,7 @@ module _ {file : List ℕ} (w : WellFormed file) where
         is = w;
       }
 
-    -- none from edge.edge on does
+    -- none from edge .edge on does
     module _ (next : p.vertex + 1 < vertices file) (none : p.edge < edges file → (edge_of file p.edge).from ≡ p.vertex → ⊥) where
       abbrev in_next : ℕ → Place
       in_next k = record { vertex = p.vertex + 1; edge = p.edge; count = p.count + k }

@@ -14,7 +14,7 @@ pub record Interfaces (file : List ℕ) : Type 0 where
   pub calls_only :
       (a v : ℕ) → a < arrays file → v < vertices file → is_call_row file v ≡ true → passes file a v ≡ false → action_byte file a v ≡ 0x00
   -- the version in which an array is passed is below its number
-  pub called-below :
+  pub called_below :
       (a v : ℕ) → a < arrays file → v < vertices file → passes file a v ≡ true
       → called_version (action_byte file a v) < (array_of file a).versions
 

@@ -72,9 +72,9 @@ demanded_2 = demanded P path2 refl refl refl
 -- Q to its exit, path 0 1 3 4 5: the inout argument is home
 pub home_at_exit : IsHome Q (path4 ++ (5 ∷ 0 ∷ [])) 0
 unfolding read_of path_check check20 array_of word
-home_at_exit = (demanded Q (path4 ++ (5 ∷ 0 ∷ [])) refl refl refl).ends-home 0 (search rules) refl tt
+home_at_exit = (demanded Q (path4 ++ (5 ∷ 0 ∷ [])) refl refl refl).ends_home 0 (search rules) refl tt
 
 -- X to its exit: the caller's copy of the in argument has stamp 65,535
 pub callers_at_exit : IsCallers X full_x 0
 unfolding read_of path_check check20 array_of word
-callers_at_exit = (demanded X full_x refl refl refl).ends-callers 0 (search rules) refl tt
+callers_at_exit = (demanded X full_x refl refl refl).ends_callers 0 (search rules) refl tt

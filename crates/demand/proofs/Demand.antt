@@ -143,8 +143,8 @@ module _ (file path : List ℕ) (w : WellFormed file) (accepted : path_check fil
       record {
         reads_alike = rows_same _ _ (steps path) (λ i h. rows_same _ _ (arrays file) (λ a l. alike_at (plans a l) (follows walks a) i a h));
         source_names = λ i a h l. names walks a (plans a l) i h;
-        ends-home = λ a l e k. home walks a (plans a l) e (is_true _ k);
-        ends-callers = λ a l. callers unwritten a l;
+        ends_home = λ a l e k. home walks a (plans a l) e (is_true _ k);
+        ends_callers = λ a l. callers unwritten a l;
         copies_counted = λ a l. counted walks a (steps path);
         copies_fewer = λ a l. few_at (plans a l) (follows walks a) (steps path) (omega arith);
       }
@@ -154,6 +154,6 @@ module _ (file path : List ℕ) (w : WellFormed file) (accepted : path_check fil
   state_fits a n l = fits_at (plans a l) (follows walks a) n
 
   -- and at a reference a version is current
-  pub reference-below :
+  pub reference_below :
       (i a : ℕ) → i < steps path → a < arrays file → T (is_reference (event file a (vertex_at path i))) → (state_after file path a i).current < width
-  reference-below i a h l = below_at (plans a l) (follows walks a) i h
+  reference_below i a h l = below_at (plans a l) (follows walks a) i h

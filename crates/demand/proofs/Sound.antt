@@ -1,4 +1,4 @@
--- The computed plan of each array of a well_formed file is sound.
+-- The computed plan of each array of a well-formed file is sound.
 -- Assumes nothing.
 use mathlib.Core.Path.{◌≡◌, refl, sym, ap, ◌∙◌}
 use mathlib.Core.Bool.{true, false, or-true, and-false}

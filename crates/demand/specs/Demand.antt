@@ -38,10 +38,10 @@ pub record Demand3 (file path : List ℕ) : Type 0 where
       (i a : ℕ) → i < steps path → a < arrays file → T (is_reference (event file a (vertex_at path i)))
       → last_version (is_label file a) (version file a) (table (vertex_at path) i) ≡ some (state_after file path a i).current
   -- where the path ends at the exit, out and inout are current in their initial version, with the machine's last stamp
-  pub ends-home :
+  pub ends_home :
       (a : ℕ) → a < arrays file → vertex_at path (steps path - 1) ≡ exit file → T (is_out_or_inout (kind file a)) → IsHome file path a
   -- there the caller's copy of an in argument is live and current, and has stamp 65,535
-  pub ends-callers :
+  pub ends_callers :
       (a : ℕ) → a < arrays file → vertex_at path (steps path - 1) ≡ exit file → T (is_in (kind file a)) → IsCallers file path a
   -- the copies in the report are the stamps copied
   pub copies_counted : (a : ℕ) → a < arrays file → (state_after file path a (steps path)).copies ≡ stamps_copied file path a (steps path)

@@ -64,6 +64,6 @@ module _ (file : List ℕ) (formed-well : check40 file ≡ Passed) (limited : ch
     array_is = array_is file (given_to file);
     numbered = numbering accepted.formed;
     remapped = remapped;
-    bytes-kept = kept;
+    bytes_kept = kept;
     mappings_kept = keeps_mappings accepted;
   }

@@ -50,7 +50,7 @@ pub record Demand4 (file : List ℕ) : Type 0 where
       (a v : ℕ) (m : Mapping) → a < arrays file → v < vertices file → Gives file a v m
       → (k : ℕ) × (action_byte (converted file) a v ≡ 0x40 + k) × ((d : Mapping) → get_or (versions_of file a) k d ≡ m)
   -- rows keep their references; an array that a directive does not remap gets 00, the byte that stands there
-  pub bytes-kept :
+  pub bytes_kept :
       (a v : ℕ) → a < arrays file → v < vertices file → (Remaps file a v → ⊥) → action_byte (converted file) a v ≡ get_or file (reference_at file v a) 0
   -- at each reference on a path from the entry the mapping that the directives give is that of the version which the routine names
   pub mappings_kept : KeepsMappings file (given_to file)

@@ -28,11 +28,11 @@ use Rattle.words.proofs.Tables.{rows_same, table-length, table_at}
 
 -- ---- entries
 
-pub entries-of :
+pub entries_of_lem :
     (file path : List ℕ) (states : List Carried) → ((a : ℕ) → a < arrays file → Reported (state_after file path a (steps path)) (carried_of states a))
     → entries_of states (arrays file) ≡ entries file path
 unfolding entries
-entries-of file path states is =
+entries_of_lem file path states is =
     rows_same (λ a. entry_bytes (bare (carried_of states a))) (λ a. entry_bytes (state_after file path a (steps path))) (arrays file)
     (λ a h. sym (ap entry_bytes (is a h).is))
 

@@ -42,7 +42,7 @@ use Rattle.demand.specs.Run.{state_after, run_records}
 use Rattle.walk.specs.Walks.{Held, Reported, row_bytes, Referred, Unlabelled, relabelled_at, RelabelledAt}
 use Rattle.walk.proofs.Bytes.{record_bytes_at, step_bytes, records_bytes_lem}
 use Rattle.walk.proofs.Held.{after-length, after_at}
-use Rattle.demand.proofs.Demand.{state_fits, reference-below}
+use Rattle.demand.proofs.Demand.{state_fits, reference_below}
 use Rattle.words.specs.Tables.{rows, wrote}
 use Rattle.words.proofs.Buffers.{Filled, begin, next_row, onward, end}
 use Rattle.words.proofs.Tables.{rows_same}
@@ -116,7 +116,7 @@ module _ (file path : List ℕ) (well : WellFormed file) (accepted : path_check 
     is = (held.stand b in_b).is
 
     below : T (is_reference x) → s.current < width
-    below r = reference-below file path well accepted i b in_i in_b r
+    below r = reference_below file path well accepted i b in_i in_b r
 
     record_is : records_bytes (records_at x (i + 1) b (get_or versions b 0) (get_or stamps b 0)) ≡ record_bytes_at file path i b
     record_is =

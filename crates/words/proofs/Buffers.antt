@@ -9,7 +9,7 @@ use native.Mathlib.Omega.{arith}
 use lib.ListN.{length, set, take, drop, length-append, length-take, length-drop}
 use Rattle.words.specs.Tables.{rows, wrote}
 use Rattle.words.proofs.Tables.{rows_fit, rows_more, table-length}
-use Rattle.words.proofs.Written.{wrote-length, part_from, write-more, write_one}
+use Rattle.words.proofs.Written.{wrote-length, part_from, write_more, write_one}
 
 -- `done` stands at the front of `out`, which held `old`
 pub record Front (old done out : List ℕ) : Type 0 where
@@ -26,7 +26,7 @@ module _ {old done out : List ℕ} (f : Front old done out) where
 
     pub more : (r : List ℕ) {ys : List ℕ} → ys ≡ wrote (part_from out at) r
         → Front old (done ++ r) (take at out ++ (ys ++ drop (length out - at) (drop at out)))
-    more r {ys} e = record { is = write-more old done out r ys at here f.is e }
+    more r {ys} e = record { is = write_more old done out r ys at here f.is e }
 
 -- a loop that writes n rows: i of them stand at the front
 pub record Filled (row : ℕ → List ℕ) (n : ℕ) (old : List ℕ) (i : ℕ) (out : List ℕ) : Type 0 where

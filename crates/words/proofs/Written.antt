@@ -47,10 +47,10 @@ lent_back xs r ys at e =
     ∙ ap (λ (l : List ℕ). r ++ drop (length r) l) (part_is xs at)
 
 -- a callee that is lent the part behind what has been written, and writes r at its front
-pub write-more :
+pub write_more :
     (old done out r ys : List ℕ) (at : ℕ) → at ≡ length done → out ≡ wrote old done
     → ys ≡ r ++ drop (length r) (part_from out at) → take at out ++ (ys ++ drop (length out - at) (drop at out)) ≡ wrote old (done ++ r)
-write-more old done out r ys at e is wrote-r =
+write_more old done out r ys at e is wrote-r =
     ap₂ (λ (x y : List ℕ). x ++ y) front behind ∙ sym (append_assoc done r (drop (length (done ++ r)) old))
   where
     front : take at out ≡ done

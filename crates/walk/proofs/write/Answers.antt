@@ -9,7 +9,7 @@ use Rattle.state.specs.Carrying.{bare}
 use Rattle.walk.specs.Report.{counts, report_bytes}
 use Rattle.demand.specs.Run.{run_records}
 use Rattle.report.proofs.Bytes.{entries-length}
-use Rattle.walk.proofs.Bytes.{entries-of, report_parts}
+use Rattle.walk.proofs.Bytes.{entries_of_lem, report_parts}
 use Rattle.words.specs.Tables.{wrote}
 use Rattle.words.proofs.Written.{part_length, lent_length, write_front}
 use Rattle.walk.proofs.write.Goals as goal
@@ -62,7 +62,7 @@ returns c =
     let path = c.args.path.now in
     let states = c.write_behind-states.result in
     let rest = records_bytes (run_records file path) ++ counts file path in
-    let front = ap (entries_of states) c.requires.read_as.heads.arrays_are ∙ entries-of file path states c.write_behind-states.ensures.by_index in
+    let front = ap (entries_of states) c.requires.read_as.heads.arrays_are ∙ entries_of_lem file path states c.write_behind-states.ensures.by_index in
     let long : 8 * c.args.h.arrays ≡ length (entries_of states c.args.h.arrays) = sym (entries-length (λ b. bare (carried_of states b)) c.args.h.arrays) in
     c.write_entries.ensures
     ∙ write_front c.args.out.now (entries_of states c.args.h.arrays) rest _ (8 * c.args.h.arrays) long (omega (arith, parts (goal.at.returns c).Start, fits (goal.at.returns c).Start)) c.write_behind-states.ensures.out_after
