@@ -7,8 +7,8 @@ cd "$(dirname "$0")/.."
 rt all check --jobs 4
 
 mkdir -p target/staticlib target/bin
-(cd crates/remap && rt lib)
-cp crates/remap/out/libremap.a target/staticlib/
+(cd crates/remap_c && rt lib)
+cp crates/remap_c/out/libremap_c.a target/staticlib/libremap.a
 for program in planner runner converter; do
   # A run builds the program. It is given no input, and what it prints is of no use here.
   (cd "crates/$program" && rt run </dev/null >/dev/null 2>&1)
