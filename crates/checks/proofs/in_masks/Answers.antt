@@ -5,15 +5,12 @@ use Prim.Native.Nat.{ℕ}
 use native.Mathlib.Omega.{arith}
 use mathlib.Core.List.{List}
 use lib.ListN.{get_or}
-use Rattle.routine.specs.Arrays.{kind, is_in}
+use Rattle.routine.specs.Arrays.{is_in}
 use Rattle.routine.specs.Layout.{arrays}
 use Rattle.routine.specs.declared.array.ArrayRecord.{ArrayRecord}
 use Rattle.words.proofs.Replaced.{replaced_at, replacing_begin, replacing_next, replacing_end}
 use Rattle.checks.proofs.in_masks.Goals as goal
-
--- the mask of array b
-abbrev mask : List ℕ → ℕ → ℕ
-mask file b = cond (is_in (kind file b)) 0b1000 0
+use Rattle.checks.proofs.in_masks.Invariants.{mask}
 
 pub loop-a-init : goal.loop-a-init
 loop-a-init c = replacing_begin _ _ _ _

@@ -8,7 +8,7 @@ use Rattle.words.proofs.Replaced.{Replacing}
 use Rattle.checks.proofs.in_masks.Given as goal
 
 -- the mask of array b
-abbrev mask : List ℕ → ℕ → ℕ
+abbrev pub mask : List ℕ → ℕ → ℕ
 mask file b = cond (is_in (kind file b)) 0b1000 0
 
 abbrev pub invariant-loop-a : goal.invariant-loop-a

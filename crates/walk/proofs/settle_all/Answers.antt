@@ -1,19 +1,11 @@
 -- `walk::settle_all` meets its contract: one array after the other.
 use mathlib.Core.Path.{◌≡◌, ap, ◌∙◌}
-use mathlib.Core.List.{List}
-use Prim.Native.Nat.{ℕ}
 use native.Mathlib.Omega.{arith}
-use lib.ListN.{get_or}
 use Rattle.report.specs.Bytes.{carried_of}
 use Rattle.state.specs.Carrying.{carrying}
-use Rattle.state.specs.declared.Carried.{Carried}
 use Rattle.words.proofs.Replaced.{replacing_begin, replacing_behind, replacing_next, replacing_end}
 use Rattle.walk.proofs.settle_all.Goals as goal
 use Rattle.walk.proofs.settle_all.Goals.{At-loop-a}
-
--- an array's state with its stamp in it
-abbrev settled_at : List ℕ → List Carried → ℕ → Carried
-settled_at stamps states b = carrying (get_or stamps b 0) (carried_of states b)
 
 -- the state that comes next is as it was
 same : (c : At-loop-a) → carried_of c.loop-a.new c.loop-a.a ≡ carried_of c.args.states c.loop-a.a

@@ -9,7 +9,7 @@ use Rattle.words.proofs.Replaced.{Replacing}
 use Rattle.walk.proofs.settle_all.Given as goal
 
 -- an array's state with its stamp in it
-abbrev settled_at : List ℕ → List Carried → ℕ → Carried
+abbrev pub settled_at : List ℕ → List Carried → ℕ → Carried
 settled_at stamps states b = carrying (get_or stamps b 0) (carried_of states b)
 
 abbrev pub invariant-loop-a : goal.invariant-loop-a

@@ -1,22 +1,14 @@
 -- `spreads::fill` meets its contract: row after row both tables are filled.
 use mathlib.Core.Path.{sym, ◌∙◌}
-use mathlib.Core.List.{List}
-use Prim.Native.Nat.{ℕ, ◌≤◌, ◌<◌}
+use Prim.Native.Nat.{◌≤◌, ◌<◌}
 use native.Mathlib.Nat.{le_refl}
 use native.Mathlib.Omega.{arith}
 use Rattle.flow.proofs.Cells.{rows_none, rows_next, rows_all}
 use Rattle.directives.specs.Layout.{vertices}
 use Rattle.directives.proofs.Limits.{read_heads}
-use Rattle.brought.specs.Cells.{spread_gives, spread_halves}
 use Rattle.brought.proofs.spreads.fill.Goals as goal
+use Rattle.brought.proofs.spreads.fill.Invariants.{gives_at, passes_at}
 use Rattle.brought.proofs.spreads.fill.Goals.{In-loop-v}
-
--- what the cell of column c and vertex v is to hold
-abbrev gives_at : List ℕ → ℕ → ℕ → ℕ → ℕ
-gives_at file t c v = spread_gives file t c v
-
-abbrev passes_at : List ℕ → ℕ → ℕ → ℕ → ℕ
-passes_at file t c v = spread_halves file t v
 
 -- what holds in a turn
 module _ (c : In-loop-v) where

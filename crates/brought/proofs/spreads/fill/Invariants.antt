@@ -8,10 +8,10 @@ use Rattle.brought.specs.Cells.{spread_gives, spread_halves}
 use Rattle.brought.proofs.spreads.fill.Given as goal
 
 -- what the cell of column c and vertex v is to hold
-abbrev gives_at : List ℕ → ℕ → ℕ → ℕ → ℕ
+abbrev pub gives_at : List ℕ → ℕ → ℕ → ℕ → ℕ
 gives_at file t c v = spread_gives file t c v
 
-abbrev passes_at : List ℕ → ℕ → ℕ → ℕ → ℕ
+abbrev pub passes_at : List ℕ → ℕ → ℕ → ℕ → ℕ
 passes_at file t c v = spread_halves file t v
 
 abbrev pub invariant-loop-v : goal.invariant-loop-v

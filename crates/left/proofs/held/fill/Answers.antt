@@ -1,21 +1,16 @@
 -- `held::fill` meets its contract: row after row both tables are filled.
 use mathlib.Core.Path.{sym, ◌∙◌}
-use mathlib.Core.List.{List}
-use Prim.Native.Nat.{ℕ, ◌+◌, ◌*◌, ◌≤◌, ◌<◌}
+use Prim.Native.Nat.{◌≤◌, ◌<◌}
 use native.Mathlib.Omega.{arith}
-use lib.ListN.{get_or}
 use Rattle.flow.proofs.Cells.{rows_none, rows_next, rows_all}
 use Rattle.directives.proofs.Limits.{read_heads}
 use Rattle.directives.specs.Layout.{vertices}
 use Rattle.facts.proofs.Rounds.{none_next}
-use Rattle.left.specs.Cells.{held_gives, held_halves}
+use Rattle.left.specs.Cells.{held_halves}
 use Rattle.left.proofs.Cells.{few_columns}
 use Rattle.left.proofs.held.fill.Goals as goal
+use Rattle.left.proofs.held.fill.Invariants.{gives_at}
 use Rattle.left.proofs.held.fill.Goals.{In-loop-v}
-
--- what the cell of array a and vertex v gives
-abbrev gives_at : List ℕ → ℕ → List ℕ → ℕ → ℕ → ℕ
-gives_at file t given a v = held_gives file t a v (get_or given (8 * v + a) 0)
 
 -- what holds in a turn
 module _ (c : In-loop-v) where

@@ -10,7 +10,7 @@ use Rattle.left.specs.Cells.{held_gives, held_halves}
 use Rattle.left.proofs.held.fill.Given as goal
 
 -- what the cell of array a and vertex v gives
-abbrev gives_at : List ℕ → ℕ → List ℕ → ℕ → ℕ → ℕ
+abbrev pub gives_at : List ℕ → ℕ → List ℕ → ℕ → ℕ → ℕ
 gives_at file t given a v = held_gives file t a v (get_or given (8 * v + a) 0)
 
 abbrev pub invariant-loop-v : goal.invariant-loop-v

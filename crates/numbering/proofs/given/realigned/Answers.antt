@@ -1,28 +1,19 @@
 -- `given::realigned` meets its contract: the list grows by what each vertex gave.
 use mathlib.Core.Path.{◌≡◌, refl, sym, ap, subst, ◌∙◌}
-use mathlib.Core.Bool.{cond}
-use mathlib.Core.List.{List, [], ◌∷◌}
 use Prim.Native.Nat.{ℕ, ◌<◌}
 use native.Mathlib.Omega.{arith}
 use borrow.Author.Tests.{eq-eqb}
-use lib.ListN.{get_or}
 use Rattle.words.specs.Tables.{rows}
 use Rattle.directives.proofs.Limits.{read_heads}
 use Rattle.directives.specs.Layout.{vertices}
-use Rattle.directives.specs.declared.array.Alignment.{Alignment}
-use Rattle.directives.specs.declared.spread.Mapping.{Mapping}
 use Rattle.mappings.proofs.Formed.{formed}
 use Rattle.mappings.specs.Along.{turned}
-use Rattle.mappings.specs.Computed.{spread_sets, spread_by}
+use Rattle.mappings.specs.Computed.{spread_by}
 use Rattle.numbering.specs.Lists.{Grows}
 use Rattle.numbering.proofs.Growth.{grows_none, grows_in, grows_out, grows_as, grows_row}
-use Rattle.sets.specs.Sets.{has}
 use Rattle.numbering.proofs.given.realigned.Goals as goal
+use Rattle.numbering.proofs.given.realigned.Invariants.{row}
 use Rattle.numbering.proofs.given.realigned.Goals.{In-loop-u, then-is_brought, else-is_brought}
-
--- what the spread that vertex u gave is to the array
-abbrev row : List ℕ → ℕ → Alignment → ℕ → List Mapping
-row file v x u = cond (has (get_or (spread_sets file x.template) v 0) u) (turned x.exchanged (spread_by file x.template u) ∷ []) []
 
 pub loop-u-init : goal.loop-u-init
 unfolding rows

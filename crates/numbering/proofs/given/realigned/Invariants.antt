@@ -14,7 +14,7 @@ use Rattle.sets.specs.Sets.{has}
 use Rattle.numbering.proofs.given.realigned.Given as goal
 
 -- what the spread that vertex u gave is to the array
-abbrev row : List ℕ → ℕ → Alignment → ℕ → List Mapping
+abbrev pub row : List ℕ → ℕ → Alignment → ℕ → List Mapping
 row file v x u = cond (has (get_or (spread_sets file x.template) v 0) u) (turned x.exchanged (spread_by file x.template u) ∷ []) []
 
 abbrev pub invariant-loop-u : goal.invariant-loop-u

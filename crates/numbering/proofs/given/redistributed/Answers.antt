@@ -1,21 +1,14 @@
 -- `given::redistributed` meets its contract: the list grows by the spread straight, then exchanged.
 use mathlib.Core.Path.{◌≡◌, sym, subst, ◌∙◌}
-use mathlib.Core.Bool.{cond}
-use mathlib.Core.List.{List, [], ◌∷◌}
-use Prim.Native.Nat.{ℕ, ◌+◌, ◌*◌}
+use Prim.Native.Nat.{ℕ}
 use native.Mathlib.Omega.{arith}
 use Rattle.words.specs.Tables.{rows}
-use Rattle.directives.specs.declared.spread.Mapping.{Mapping}
 use Rattle.mappings.specs.Along.{turned}
 use Rattle.numbering.specs.Lists.{Grows}
 use Rattle.numbering.proofs.Growth.{grows_none, grows_in, grows_out, grows_as, grows_row}
-use Rattle.sets.specs.Sets.{has}
 use Rattle.numbering.proofs.given.redistributed.Goals as goal
+use Rattle.numbering.proofs.given.redistributed.Invariants.{row}
 use Rattle.numbering.proofs.given.redistributed.Goals.{then-member, else-member}
-
--- the spread, exchanged e, if an alignment makes it so
-abbrev row : ℕ → Mapping → ℕ → ℕ → List Mapping
-row t m aligned e = cond (has aligned (2 * t + e)) (turned e m ∷ []) []
 
 pub loop-e-init : goal.loop-e-init
 unfolding rows

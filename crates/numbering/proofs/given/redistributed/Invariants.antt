@@ -10,7 +10,7 @@ use Rattle.sets.specs.Sets.{has}
 use Rattle.numbering.proofs.given.redistributed.Given as goal
 
 -- the spread, exchanged e, if an alignment makes it so
-abbrev row : ℕ → Mapping → ℕ → ℕ → List Mapping
+abbrev pub row : ℕ → Mapping → ℕ → ℕ → List Mapping
 row t m aligned e = cond (has aligned (2 * t + e)) (turned e m ∷ []) []
 
 abbrev pub invariant-loop-e : goal.invariant-loop-e

@@ -1,22 +1,12 @@
 -- `events::action_rows` meets its contract: row after row both tables are filled.
 use mathlib.Core.Path.{sym, ◌∙◌}
-use mathlib.Core.List.{List}
-use Prim.Native.Nat.{ℕ, ◌≤◌, ◌<◌}
+use Prim.Native.Nat.{◌≤◌, ◌<◌}
 use native.Mathlib.Omega.{arith}
-use Rattle.labels.specs.Events.{version_set}
-use Rattle.labels.specs.Uses.{use_gives}
-use Rattle.routine.specs.Actions.{action}
 use Rattle.routine.specs.Layout.{vertices}
 use Rattle.passes.proofs.Cells.{rows_begin, rows_further, rows_filled}
 use Rattle.passes.proofs.events.action_rows.Goals as goal
+use Rattle.passes.proofs.events.action_rows.Invariants.{version_at, use_at}
 use Rattle.passes.proofs.events.action_rows.Goals.{In-loop-v}
-
--- what the cell of array a and vertex v is to hold
-abbrev version_at : List ℕ → ℕ → ℕ → ℕ
-version_at file a v = version_set (action file a v)
-
-abbrev use_at : List ℕ → ℕ → ℕ → ℕ
-use_at file a v = use_gives (action file a v)
 
 -- what holds in a turn
 module _ (c : In-loop-v) where

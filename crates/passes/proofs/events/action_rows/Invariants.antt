@@ -9,10 +9,10 @@ use Rattle.passes.specs.Tables.{CellsAlone}
 use Rattle.passes.proofs.events.action_rows.Given as goal
 
 -- what the cell of array a and vertex v is to hold
-abbrev version_at : List ℕ → ℕ → ℕ → ℕ
+abbrev pub version_at : List ℕ → ℕ → ℕ → ℕ
 version_at file a v = version_set (action file a v)
 
-abbrev use_at : List ℕ → ℕ → ℕ → ℕ
+abbrev pub use_at : List ℕ → ℕ → ℕ → ℕ
 use_at file a v = use_gives (action file a v)
 
 abbrev pub invariant-loop-v : goal.invariant-loop-v
