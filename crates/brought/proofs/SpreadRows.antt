@@ -20,10 +20,9 @@ use Rattle.flow.proofs.Cells.{cells_solved}
 use Rattle.sets.specs.Sets.{width, every_half}
 use Rattle.labels.specs.Reaching.{is_reached_over}
 use Rattle.directives.specs.Directives.{directive}
-use Rattle.directives.specs.Fields.{DirectivesRead}
 use Rattle.directives.specs.Layout.{templates, vertices, entry, edge_bytes}
+use Rattle.directives.specs.Read.{ReadFile}
 use Rattle.directives.specs.declared.array.Alignment.{Alignment}
-use Rattle.directives.specs.declared.header.Header.{Header}
 use Rattle.directives.specs.declared.vertex.Directive.{Directive}
 use Rattle.directives.specs.declared.vertex.Directive.TheVariants.{Realign}
 use Rattle.mappings.specs.Computed.{redistributes, last_column}
@@ -151,8 +150,8 @@ module _ {file s : List ℕ} where
         ];
   }
 
-  pub spreads_end : {h : Header} {t : ℕ} → DirectivesRead file h → templates file ≤ t → SpreadsTo file t s → Spreads file s
-  spreads_end read all h = record {
-    size = h.size;
-    cells = λ v b c x in_v in_c d. h.cells v b c x in_v in_c d (omega (arith, ((formed file read.passed).realigned v b x in_v d).0));
-  }
+pub spreads_end : (d : ReadFile) {t : ℕ} {s : List ℕ} → templates d.bytes ≤ t → SpreadsTo d.bytes t s → Spreads d.bytes s
+spreads_end d all h = record {
+  size = h.size;
+  cells = λ v b c x in_v in_c q. h.cells v b c x in_v in_c q (omega (arith, (formed d.bytes d.passed).realigned v b x in_v q));
+}

@@ -1,8 +1,7 @@
-// The alignments that paths bring each array in: bit 2 t + e for template t, exchanged e.
+// The alignments that paths bring each array in: bit 2 t for template t straight, 2 t + 1 for it exchanged.
 ghost use Rattle.std.specs.Prelude.{◌≡◌, cond, ◌*◌, ◌^◌, ◌<◌, length};
 ghost use Rattle.flow.specs.Cells.{Cells, NoneBeyond};
 ghost use Rattle.words.specs.Tables.{with_row};
-ghost use Rattle.directives.specs.Fields.{DirectivesRead};
 ghost use Rattle.directives.specs.Layout.{arrays, vertices};
 ghost use Rattle.mappings.specs.Along.{initial_state};
 ghost use Rattle.mappings.specs.Computed.{alignment_of, code};
@@ -12,9 +11,8 @@ ghost use Rattle.brought.specs.Cells.{align_gives, align_passes};
 ghost use Rattle.brought.specs.Counted.{AlignmentsStop};
 
 use directives::array::Alignment;
-use directives::header::Header;
+use directives::read::Directives;
 use directives::vertex::Directive;
-use directives::{array, vertex};
 use facts::{directive, pass, reached};
 use labels::event;
 use sets::Half;
@@ -27,103 +25,91 @@ fn alignment_of(initial: Alignment, d: Directive) -> Alignment
     ensures { result ≡ alignment_of initial d }
 {
     match d {
-        Directive::Nothing => initial,
         Directive::Realign(_, x) => x,
-        Directive::Redistribute(_, _) => initial,
+        _ => initial,
     }
 }
 
 // An alignment as a set.
 fn single(x: Alignment) -> Half
-    requires { (x.template < 8) × (x.exchanged < 2) }
+    requires { x.template < 8 }
     ensures { result ≡ 2 ^ code x }
 {
-    let k = 2 * x.template + x.exchanged;
+    let k = 2 * x.template + usize::from(x.exchanged);
     sets::single(k as u8) as Half
 }
 
 // What a vertex whose directive is d gives array a, if it is to give an alignment.
-fn given(file: &[u8], h: Header, a: usize, d: Directive, aligns: bool) -> Half
-    requires directives_read { DirectivesRead file.now h }
-    requires a_bound { a < arrays file.now }
-    requires right { Right file.now (alignment_of ((initial_state file.now).aligned a) d) }
-    ensures { result ≡ cond aligns (2 ^ code (alignment_of ((initial_state file.now).aligned a) d)) 0 }
+fn given(directives: &Directives, a: usize, d: Directive, aligns: bool) -> Half
+    requires a_bound { a < arrays directives.now.bytes }
+    requires right { Right directives.now.bytes (alignment_of ((initial_state directives.now.bytes).aligned a) d) }
+    ensures { result ≡ cond aligns (2 ^ code (alignment_of ((initial_state directives.now.bytes).aligned a) d)) 0 }
 {
     if aligns {
-        return single(alignment_of(array::initial_alignment(file, h, a), d));
+        single(alignment_of(directives.alignment(a), d))
+    } else {
+        0
     }
-    0
 }
 
 // Both rows of vertex v.
 fn fill_row(
-    file: &[u8],
-    h: Header,
+    directives: &Directives,
     v: usize,
     reached: &[Half],
     gives: &mut [Half],
     passes: &mut [Half],
 )
-    requires directives_read { DirectivesRead file.now h }
-    requires v_bound { v < vertices file.now }
-    requires reached { Reached file.now reached.now }
-    requires gives_len { length gives.old ≡ 8 * vertices file.now }
-    requires passes_len { length passes.old ≡ 8 * vertices file.now }
-    ensures gives_after { gives.new ≡ with_row gives.old v (λ a. align_gives file.now a v) (arrays file.now) }
-    ensures passes_after { passes.new ≡ with_row passes.old v (λ a. align_passes file.now a v) (arrays file.now) }
+    requires v_bound { v < vertices directives.now.bytes }
+    requires reached { Reached directives.now.bytes reached.now }
+    requires gives_len { length gives.old ≡ 8 * vertices directives.now.bytes }
+    requires passes_len { length passes.old ≡ 8 * vertices directives.now.bytes }
+    ensures gives_after { gives.new ≡ with_row gives.old v (λ a. align_gives directives.now.bytes a v) (arrays directives.now.bytes) }
+    ensures passes_after { passes.new ≡ with_row passes.old v (λ a. align_passes directives.now.bytes a v) (arrays directives.now.bytes) }
 {
-    let d = vertex::at(file, h, v);
-    let is_reached = reached::is_reached(file, reached, v);
-    let m = h.arrays;
-    let mut a = 0;
-    while a < m {
+    let d = directives.directive(v);
+    let is_reached = reached::is_reached(directives, reached, v);
+    for a in 0..directives.arrays() {
         let at = flow::COLUMNS * v + a;
         let aligns = (v == 0) | directive::realigns(a, d);
-        gives[at] = given(file, h, a, d, is_reached & aligns);
-        passes[at] = event::half_if(!aligns, EVERY);
-        a += 1;
+        gives[at] = given(directives, a, d, is_reached & aligns);
+        passes[at] = event::only_if(!aligns, EVERY);
     }
 }
 
 // The tables of the pass, where nothing stands in the columns of `gives` beyond the arrays.
-fn fill(file: &[u8], h: Header, reached: &[Half], gives: &mut [Half], passes: &mut [Half])
-    requires directives_read { DirectivesRead file.now h }
-    requires reached { Reached file.now reached.now }
-    requires gives_len { length gives.old ≡ 8 * vertices file.now }
-    requires passes_len { length passes.old ≡ 8 * vertices file.now }
-    requires none_beyond { NoneBeyond (arrays file.now) (vertices file.now) gives.old }
-    ensures cells { Cells (arrays file.now) (vertices file.now) (align_gives file.now) gives.new }
-    ensures cells_2 { Cells (arrays file.now) (vertices file.now) (align_passes file.now) passes.new }
-    ensures none_beyond_2 { NoneBeyond (arrays file.now) (vertices file.now) gives.new }
+fn fill(directives: &Directives, reached: &[Half], gives: &mut [Half], passes: &mut [Half])
+    requires reached { Reached directives.now.bytes reached.now }
+    requires gives_len { length gives.old ≡ 8 * vertices directives.now.bytes }
+    requires passes_len { length passes.old ≡ 8 * vertices directives.now.bytes }
+    requires none_beyond { NoneBeyond (arrays directives.now.bytes) (vertices directives.now.bytes) gives.old }
+    ensures cells { Cells (arrays directives.now.bytes) (vertices directives.now.bytes) (align_gives directives.now.bytes) gives.new }
+    ensures cells_2 { Cells (arrays directives.now.bytes) (vertices directives.now.bytes) (align_passes directives.now.bytes) passes.new }
+    ensures none_beyond_2 { NoneBeyond (arrays directives.now.bytes) (vertices directives.now.bytes) gives.new }
 {
-    let n = h.vertices;
-    let mut v = 0;
-    while v < n {
-        fill_row(file, h, v, reached, gives, passes);
-        v += 1;
+    for v in 0..directives.vertices() {
+        fill_row(directives, v, reached, gives, passes);
     }
 }
 
 // Fills in the alignments. `gives` and `passes` are work slices. Returns the number of rounds.
 pub fn solve(
-    file: &[u8],
-    h: Header,
+    directives: &Directives,
     order: &[u16],
     reached: &[Half],
     aligned: &mut [Half],
     gives: &mut [Half],
     passes: &mut [Half],
 ) -> usize
-    requires directives_read { DirectivesRead file.now h }
-    requires edge_order { EdgeOrder file.now order.now }
-    requires reached { Reached file.now reached.now }
-    requires aligned_len { length aligned.old ≡ 8 * vertices file.now }
-    requires gives_len { length gives.old ≡ 8 * vertices file.now }
-    requires passes_len { length passes.old ≡ 8 * vertices file.now }
-    ensures alignments { Alignments file.now aligned.new }
-    ensures alignments_stop { AlignmentsStop file.now result }
+    requires edge_order { EdgeOrder directives.now.bytes order.now }
+    requires reached { Reached directives.now.bytes reached.now }
+    requires aligned_len { length aligned.old ≡ 8 * vertices directives.now.bytes }
+    requires gives_len { length gives.old ≡ 8 * vertices directives.now.bytes }
+    requires passes_len { length passes.old ≡ 8 * vertices directives.now.bytes }
+    ensures alignments { Alignments directives.now.bytes aligned.new }
+    ensures alignments_stop { AlignmentsStop directives.now.bytes result }
 {
-    flow::clear(gives);
-    fill(file, h, reached, gives, passes);
-    pass::solve(file, h, order, gives, passes, aligned)
+    gives.fill(0);
+    fill(directives, reached, gives, passes);
+    pass::solve(directives, order, gives, passes, aligned)
 }

@@ -1,5 +1,6 @@
 -- The versions that arrive at a call, and the one to which it remaps an array back.
 -- Assumes nothing.
+use Rattle.std.specs.Prelude.{Ok}
 use mathlib.Core.Path.{◌≡◌, sym, ap, subst, ◌∙◌}
 use mathlib.Core.Bool.{true, true≢false}
 use mathlib.Core.List.{List}
@@ -16,7 +17,6 @@ use Rattle.labels.proofs.Rules.Proper.{Proper, proper}
 use Rattle.labels.specs.Ambiguity.{Brings}
 use Rattle.labels.specs.Checks.{check21}
 use Rattle.labels.specs.Events.{event}
-use Rattle.refusal.specs.declared.Verdict.TheVariants.{Passed}
 use Rattle.routine.specs.Actions.{action_byte, is_reference}
 use Rattle.routine.specs.Layout.{arrays, vertices}
 use Rattle.routine.specs.Reader.{WellFormed}
@@ -65,7 +65,7 @@ module _ (file : List ℕ) (w : WellFormed file) (interfaces : Interfaces file) 
       refers = rw (call_refers file w in_a in_v interfaces pass_call, passed, (intent_refers (action_byte file a v)).1) tt
 
       -- and the only one, where 21 passes
-      pub return_only : check21 (referring file) ≡ Passed → {k : ℕ} → Brings (referring file) a v k → k ≡ return_version file a v
+      pub return_only : check21 (referring file) ≡ Ok tt → {k : ℕ} → Brings (referring file) a v k → k ≡ return_version file a v
       return_only sure {k} b = by_test (eqb k (return_version file a v)) (eqb-true k (return_version file a v)) (λ e. absurd
           ((check21_passed (referring file) (proper (referring file) (referring_formed file w interfaces))).0 sure v a
           (omega (arith, same_vertices file w.laid)) (omega (arith, same_arrays file w.laid))

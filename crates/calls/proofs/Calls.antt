@@ -1,5 +1,6 @@
 -- Request 3: what the expanded routine is of its file; 20, 21 and demand 2 of the routine that is planned and run.
 -- Assumes nothing.
+use Rattle.std.specs.Prelude.{Ok}
 use mathlib.Core.Path.{◌≡◌, refl, sym, ap, ap₂, subst, ◌∙◌}
 use mathlib.Core.Bool.{Bool, true, false, ◌&&◌, cond}
 use mathlib.Core.List.{List}
@@ -13,7 +14,6 @@ use Rattle.labels.specs.Checks.{writes_in, check20, check21, programmer_check}
 use Rattle.labels.specs.Demand.{Demand2}
 use Rattle.labels.specs.Events.{event, is_write}
 use Rattle.refusal.proofs.Checks.{passed_left, passed_right}
-use Rattle.refusal.specs.declared.Verdict.TheVariants.{Passed}
 use Rattle.routine.specs.Actions.{called_version, action_byte}
 use Rattle.routine.specs.Arrays.{kind, is_in}
 use Rattle.routine.specs.Layout.{arrays, vertices}
@@ -59,7 +59,7 @@ module _ (file : List ℕ) (can : Expandable file) where
 
   -- ---- 20 is asked of the file with calls as references
 
-  module _ (unwritten : check20 (referring file) ≡ Passed) where
+  module _ (unwritten : check20 (referring file) ≡ Ok tt) where
     module _ {a : ℕ} (in_a : a < arrays file) (x : ℕ) where
       -- what does as a vertex of the file does writes no in argument
       as_file : (v : ℕ) → v < vertices file → event (expanded file) a x ≡ event (referring file) a v → T (writes_in (expanded file) a x) → ⊥
@@ -75,7 +75,7 @@ module _ (file : List ℕ) (can : Expandable file) where
           let writes : T (is_write (event (expanded file) a x)) = ((and_iff (is_in (kind (expanded file) a)) (is_write (event (expanded file) a x)) Iff.rfl Iff.rfl).0 h).1 in
           subst T (ap is_write e ∙ remap_unwritten b k) writes
 
-    expanded_unwritten : check20 (expanded file) ≡ Passed
+    expanded_unwritten : check20 (expanded file) ≡ Ok tt
     expanded_unwritten = (check20_passed (expanded file)).1 (λ x a in-x in_a h.
         go a x (omega (arith, arrays_are file w.laid)) (omega (arith, vertices_are file w.laid)) (part_at file x) refl h)
       where
@@ -104,21 +104,21 @@ module _ (file : List ℕ) (can : Expandable file) where
   demand2_calls = demand2 (routine_of file) (referring file) routine_formed (referring_formed file w can.interfaces)
 
   -- where 20 passes, the routine writes no in argument
-  pub routine_unwritten : check20 (referring file) ≡ Passed → check20 (routine_of file) ≡ Passed
+  pub routine_unwritten : check20 (referring file) ≡ Ok tt → check20 (routine_of file) ≡ Ok tt
   unfolding routine_of
-  routine_unwritten unwritten = at_cond (λ (s : List ℕ). check20 s ≡ Passed) (has_calls file)
+  routine_unwritten unwritten = at_cond (λ (s : List ℕ). check20 s ≡ Ok tt) (has_calls file)
       (λ _. expanded_unwritten unwritten)
       (λ none. ap check20 (sym (no_calls_same file w.laid none)) ∙ unwritten)
 
   -- where 21 passes, it has no ambiguous reference
-  pub routine_unambiguous : check21 (referring file) ≡ Passed → check21 (routine_of file) ≡ Passed
+  pub routine_unambiguous : check21 (referring file) ≡ Ok tt → check21 (routine_of file) ≡ Ok tt
   unfolding routine_of
-  routine_unambiguous sure = at_cond (λ (s : List ℕ). check21 s ≡ Passed) (has_calls file)
+  routine_unambiguous sure = at_cond (λ (s : List ℕ). check21 s ≡ Ok tt) (has_calls file)
       (λ _. expanded_unambiguous file can sure)
       (λ none. ap check21 (sym (no_calls_same file w.laid none)) ∙ sure)
 
   -- 20 and 21, passed by the file with calls as references, are passed by the routine
-  pub routine_passes : programmer_check (referring file) ≡ Passed → programmer_check (routine_of file) ≡ Passed
+  pub routine_passes : programmer_check (referring file) ≡ Ok tt → programmer_check (routine_of file) ≡ Ok tt
   unfolding programmer_check
   routine_passes e =
       rw (routine_unwritten (passed_left (check20 (referring file)) _ e)) (routine_unambiguous (passed_right (check20 (referring file)) _ e))

@@ -1,5 +1,6 @@
 -- What the checks leave of a file without calls, and of one with calls that passes 22, 20 and 21.
 -- Assumes nothing.
+use Rattle.std.specs.Prelude.{Ok}
 use mathlib.Core.Path.{◌≡◌, ap, ◌∙◌}
 use mathlib.Core.Bool.{true, false}
 use mathlib.Core.List.{List}
@@ -10,7 +11,6 @@ use borrow.Author.Tests.{le-leb}
 use lib.ListN.{get_or}
 use Rattle.labels.specs.Checks.{programmer_check}
 use Rattle.refusal.proofs.Checks.{passed_left, passed_right}
-use Rattle.refusal.specs.declared.Verdict.TheVariants.{Passed}
 use Rattle.routine.specs.Actions.{is_call}
 use Rattle.routine.specs.Layout.{arrays, vertices, actions_at, action_at}
 use Rattle.routine.specs.Reader.{WellFormed, read_check}
@@ -62,15 +62,15 @@ module _ (file : List ℕ) where
   unfolding routine_of
   calls_expanded some = rw some
 
-  module _ (read : read_check file ≡ Passed) (passed : calls_check file ≡ Passed) where
+  module _ (read : read_check file ≡ Ok tt) (passed : calls_check file ≡ Ok tt) where
     pub expandable_calls : Expandable file
     unfolding calls_check
     expandable_calls = expandable file read (passed_left (check22 file) (programmer_check (referring file)) passed)
 
-    pub calls_referring : programmer_check (referring file) ≡ Passed
+    pub calls_referring : programmer_check (referring file) ≡ Ok tt
     unfolding calls_check
     calls_referring = passed_right (check22 file) (programmer_check (referring file)) passed
 
     -- 20 and 21 are passed by the routine that is planned and run
-    pub calls_routine : programmer_check (routine_of file) ≡ Passed
+    pub calls_routine : programmer_check (routine_of file) ≡ Ok tt
     calls_routine = routine_passes file expandable_calls calls_referring

@@ -1,5 +1,6 @@
 -- A file that was read has call rows as request 3 has them; one that passes 22 too can be expanded.
 -- Assumes nothing.
+use Rattle.std.specs.Prelude.{Ok}
 use mathlib.Core.Path.{◌≡◌, sym, ◌∙◌}
 use mathlib.Core.Bool.{true, false, false≢true}
 use mathlib.Core.List.{List}
@@ -7,7 +8,6 @@ use Prim.Native.Nat.{ℕ, ◌<◌}
 use borrow.Author.Tests.{eqb-true, eqb-false}
 use lib.Dec.{eqb}
 use Rattle.refusal.proofs.Checks.{parts}
-use Rattle.refusal.specs.declared.Verdict.TheVariants.{Passed}
 use Rattle.routine.proofs.Accepted.{passed_checks, passed_read, passed_edges}
 use Rattle.routine.proofs.WellFormed.{call_below, beside_call}
 use Rattle.routine.specs.Actions.{action_byte}
@@ -19,7 +19,7 @@ use Rattle.calls.specs.Calls.{passes, is_call_row}
 use Rattle.calls.specs.Checks.{check22}
 use Rattle.calls.specs.Interfaces.{Interfaces, Expandable}
 
-module _ (file : List ℕ) (read : read_check file ≡ Passed) where
+module _ (file : List ℕ) (read : read_check file ≡ Ok tt) where
   -- else no byte of the row would be a call
   calls_only : (a v : ℕ) → a < arrays file → v < vertices file → is_call_row file v ≡ true → passes file a v ≡ false → action_byte file a v ≡ 0
   unfolding is_call_row
@@ -35,7 +35,7 @@ module _ (file : List ℕ) (read : read_check file ≡ Passed) where
     called_below = λ a v in_a in_v. call_below (passed_checks file read) in_v in_a;
   }
 
-  pub expandable : check22 file ≡ Passed → Expandable file
+  pub expandable : check22 file ≡ Ok tt → Expandable file
   unfolding check22
   expandable few = record {
     well = passed_read file read;

@@ -8,13 +8,12 @@ use native.Mathlib.Nat.{mul_comm}
 use native.Mathlib.Omega.{arith}
 use borrow.Author.Tests.{eq-eqb, ne_eqb}
 use lib.Count.{count_trailing_zeros}
-use lib.ListN.{length, get_or, take, drop, length-append, length-drop}
-use lib.Seq.{length-take-le, get_or-take, get_or-drop, ext_get_or}
+use lib.ListN.{length, length-append}
 use Rattle.routine.specs.Arrays.{initial}
-use Rattle.routine.specs.Layout.{arrays, vertices, action_at}
+use Rattle.routine.specs.Layout.{arrays, vertices}
 use Rattle.sets.specs.Sets.{width}
-use Rattle.words.specs.Tables.{table, rows}
-use Rattle.words.proofs.Tables.{rows_more, rows-length, table-length, table_at}
+use Rattle.words.specs.Tables.{rows}
+use Rattle.words.proofs.Tables.{rows_more, rows-length, table-length}
 use Rattle.words.proofs.Tests.{by_test}
 use Rattle.calls.specs.Calls.{is_call_row}
 use Rattle.calls.specs.Expanded.{expanded_byte, expanded_row}
@@ -49,16 +48,6 @@ module _ (file : List ℕ) where
   pub row_length : (p : Part) → length (part_row file p) ≡ arrays file
   unfolding part_row
   row_length p = table-length (λ a. expanded_byte file a p) (arrays file)
-
-  -- the row of a vertex that is no call is the file's
-  pub plain_bytes : (v : ℕ) {at m : ℕ} → m ≡ arrays file → at ≡ action_at file 0 v → at + m ≤ length file → take m (drop at file) ≡ part_row file (plain v)
-  unfolding part_row
-  plain_bytes v {at} {m} e here room =
-      let byte : ℕ → ℕ = λ a. expanded_byte file a (plain v) in
-      let size = length-take-le m (drop at file) (omega (arith, length-drop at file)) in
-      ext_get_or 0 (take m (drop at file)) (table byte (arrays file)) (size ∙ e ∙ sym (table-length byte (arrays file))) (λ a h.
-      let i : at + a ≡ action_at file a v = omega arith in
-      get_or-take m (drop at file) a 0 (omega arith) ∙ get_or-drop at file a 0 ∙ ap (λ (k : ℕ). get_or file k 0) i ∙ sym (table_at byte (arrays file) a (omega arith)))
 
   pub call_length : (v : ℕ) → length (call_rows file v) ≡ 3 * arrays file
   call_length v =

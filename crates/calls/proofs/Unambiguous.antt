@@ -1,6 +1,7 @@
 -- 21 is asked of the file with calls as references; where it passes, the expanded routine has no ambiguous reference either: what is brought
 -- to a reference there is brought to it in the file, and to the reference of a call only the version in which it passes the array.
 -- Assumes nothing.
+use Rattle.std.specs.Prelude.{Ok}
 use mathlib.Core.Path.{◌≡◌, refl, sym, ap, subst, ◌∙◌}
 use mathlib.Core.Bool.{Bool, true, false, cond}
 use mathlib.Core.List.{List}
@@ -12,7 +13,6 @@ use Rattle.labels.proofs.Rules.Proper.{proper}
 use Rattle.labels.specs.Ambiguity.{Ambiguous}
 use Rattle.labels.specs.Checks.{check21}
 use Rattle.labels.specs.Events.{event}
-use Rattle.refusal.specs.declared.Verdict.TheVariants.{Passed}
 use Rattle.routine.specs.Actions.{called_version, action_byte, is_reference}
 use Rattle.routine.specs.Layout.{arrays}
 use Rattle.routine.specs.Reader.{WellFormed}
@@ -35,7 +35,7 @@ remap_unread : (b : Bool) (k : ℕ) → is_reference (cond b (Remap k) Nothing) 
 remap_unread true k = refl
 remap_unread false k = refl
 
-module _ (file : List ℕ) (can : Expandable file) (sure : check21 (referring file) ≡ Passed) where
+module _ (file : List ℕ) (can : Expandable file) (sure : check21 (referring file) ≡ Ok tt) where
   w : WellFormed file
   w = can.well
 
@@ -78,7 +78,7 @@ module _ (file : List ℕ) (can : Expandable file) (sure : check21 (referring fi
         (λ passed. two.differ (both.0.called passed ∙ sym (both.1.called passed)))
         (λ kept. subst T (ap is_reference (rw kept at second)) two.reference)
 
-  pub expanded_unambiguous : check21 (expanded file) ≡ Passed
+  pub expanded_unambiguous : check21 (expanded file) ≡ Ok tt
   expanded_unambiguous = (check21_passed (expanded file) (proper (expanded file) (expanded_formed file can))).1 (λ x a in-x in_a two.
       go a x (omega (arith, arrays_are file w.laid)) (omega (arith, vertices_are file w.laid)) (part_at file x) refl two)
     where

@@ -1,14 +1,10 @@
 -- Document 02, request 3: 22, checked after 16 and before 20; then 20 and 21, which name the file's vertex.
 -- Assumes nothing.
-use Rattle.std.specs.Prelude.{◌≡◌, true, List, ℕ, leb}
+use Rattle.std.specs.Prelude.{◌≡◌, true, List, ℕ, leb, Ok}
 use Rattle.labels.specs.Checks.{programmer_check}
-use Rattle.labels.specs.Routines.{ReadAs}
-use Rattle.refusal.specs.Checks.{◌and_then◌, holds}
+use Rattle.refusal.specs.Checks.{◌and_then◌, holds, Verdict}
 use Rattle.refusal.specs.declared.Refusal.TheVariants.{TooManyVertices}
-use Rattle.refusal.specs.declared.Verdict.{Verdict}
-use Rattle.refusal.specs.declared.Verdict.TheVariants.{Passed}
 use Rattle.routine.specs.Reader.{read_check}
-use Rattle.routine.specs.declared.header.Header.{Header}
 use Rattle.calls.specs.Calls.{has_calls}
 use Rattle.calls.specs.Parts.{expanded_vertices}
 use Rattle.calls.specs.Referring.{referring}
@@ -23,8 +19,7 @@ unfoldable pub calls_check : List ℕ → Verdict
 unfolding check22 referring programmer_check
 calls_check file = check22 file and_then programmer_check (referring file)
 
--- how the code keeps it: a file with calls that was read, and its header
-pub record CallsRead (file : List ℕ) (h : Header) : Type 0 where
-  pub read : ReadAs file h
-  pub passed : read_check file ≡ Passed
+-- how the code keeps it: a file with calls that was read
+pub record CallsRead (file : List ℕ) : Type 0 where
+  pub passed : read_check file ≡ Ok tt
   pub some : has_calls file ≡ true

@@ -1,7 +1,6 @@
 // The expanded routine: contents and array records, rows, edges (document 02, request 3).
 ghost use Rattle.std.specs.Prelude.{◌≡◌, ◌++◌, ◌+◌, ◌*◌, ◌≤◌, ◌<◌, length};
-ghost use Rattle.labels.specs.Routines.{ReadAs};
-ghost use Rattle.routine.specs.Layout.{edges, header_of};
+ghost use Rattle.routine.specs.Layout.{arrays, edges, header_of};
 ghost use Rattle.routine.specs.Reader.{Limits};
 ghost use Rattle.words.specs.Tables.{wrote};
 ghost use Rattle.words.specs.Words.{bytes16};
@@ -11,6 +10,7 @@ ghost use Rattle.calls.specs.Parts.{expanded_vertices};
 ghost use Rattle.calls.specs.Writing.{Firsts, Arrivals, head_bytes};
 
 use crate::{edges, rows};
+use labels::read::Routine;
 use routine::header::Header;
 use sets::Set;
 
@@ -26,21 +26,18 @@ fn write_counts(out: &mut [u8], vertices: usize, offset: usize, edges: usize)
     requires vertices_bound { (vertices < 65536) × (offset < 65536) × (edges < 65536) }
     ensures { out.new ≡ wrote out.old (bytes16 vertices ++ (bytes16 offset ++ bytes16 edges)) }
 {
-    out[0] = (vertices % 256) as u8;
-    out[1] = (vertices / 256) as u8;
-    out[2] = (offset % 256) as u8;
-    out[3] = (offset / 256) as u8;
-    out[4] = (edges % 256) as u8;
-    out[5] = (edges / 256) as u8;
+    words::write16(out, vertices);
+    words::write_pair(&mut out[2..], offset, edges);
 }
 
 // Writes contents and array records of an expanded routine with this header.
-fn write_head(file: &[u8], h: Header, out: &mut [u8])
+fn write_head(routine: &Routine, h: Header, out: &mut [u8])
     requires limits { Limits h }
-    requires arrays_in_bounds { 18 + 4 * h.arrays ≤ length file.now }
-    requires arrays_in_bounds_2 { 18 + 4 * h.arrays ≤ length out.old }
-    ensures { out.new ≡ wrote out.old (head_bytes file.now h) }
+    requires arrays_same { h.arrays ≡ arrays routine.now.bytes }
+    requires in_bounds { 18 + 4 * h.arrays ≤ length out.old }
+    ensures { out.new ≡ wrote out.old (head_bytes routine.now.bytes h) }
 {
+    let file = routine.bytes();
     words::bytes::copy(&file[..COUNTS], out);
     write_counts(&mut out[COUNTS..], h.vertices, h.edges_at(), h.edges);
     let end = h.actions_at();
@@ -49,33 +46,32 @@ fn write_head(file: &[u8], h: Header, out: &mut [u8])
 
 // Writes the expanded routine, which has so many vertices, and returns its header. The edges come first, since its contents count them.
 pub fn write(
-    file: &[u8],
-    h: Header,
+    routine: &Routine,
     arrivals: &[Set],
     firsts: &[u16],
     vertices: usize,
     out: &mut [u8],
 ) -> Header
-    requires read_as { ReadAs file.now h }
-    requires interfaces { Interfaces file.now }
-    requires file_bound { edges file.now ≤ 1024 }
-    requires file_bound_2 { expanded_vertices file.now ≤ 256 }
-    requires vertices_value { vertices ≡ expanded_vertices file.now }
-    requires firsts { Firsts file.now firsts.now }
-    requires arrivals { Arrivals file.now arrivals.now }
-    requires file_in_bounds { length (expanded file.now) ≤ length out.old }
-    ensures value { result ≡ header_of (expanded file.now) }
-    ensures out_after { out.new ≡ wrote out.old (expanded file.now) }
+    requires interfaces { Interfaces routine.now.bytes }
+    requires file_bound { edges routine.now.bytes ≤ 1024 }
+    requires file_bound_2 { expanded_vertices routine.now.bytes ≤ 256 }
+    requires vertices_value { vertices ≡ expanded_vertices routine.now.bytes }
+    requires firsts { Firsts routine.now.bytes firsts.now }
+    requires arrivals { Arrivals routine.now.bytes arrivals.now }
+    requires file_in_bounds { length (expanded routine.now.bytes) ≤ length out.old }
+    ensures value { result ≡ header_of (expanded routine.now.bytes) }
+    ensures out_after { out.new ≡ wrote out.old (expanded routine.now.bytes) }
 {
-    let at = h.actions_at();
-    let edges_at = at + vertices * h.arrays;
-    let count = edges::write(file, h, firsts, &mut out[edges_at..]);
-    rows::write(file, h, arrivals, firsts, &mut out[at..]);
+    let arrays = routine.arrays();
+    let at = routine.header().actions_at();
+    let edges_at = at + vertices * arrays;
+    let count = edges::write(routine, firsts, &mut out[edges_at..]);
+    rows::write(routine, arrivals, firsts, &mut out[at..]);
     let expanded = Header {
-        arrays: h.arrays,
+        arrays,
         vertices,
         edges: count,
     };
-    write_head(file, expanded, out);
+    write_head(routine, expanded, out);
     expanded
 }

@@ -3,11 +3,10 @@
 ghost use Rattle.std.specs.Prelude.{◌≡◌, ◌+◌, ◌≤◌, length, get_or};
 ghost use Rattle.calls.specs.Calls.{intent_byte};
 ghost use Rattle.calls.specs.Referring.{referring_byte, referring};
-ghost use Rattle.routine.specs.Reader.{Heads};
 ghost use Rattle.words.specs.Tables.{replaced};
 
+use labels::read::Routine;
 use routine::action;
-use routine::header::Header;
 
 // What the intent of a call's byte does with the array, as an action byte: in reads, out defines, inout modifies.
 pub fn intent_byte(b: u8) -> u8
@@ -39,19 +38,18 @@ fn replace(file: &[u8], at: usize, n: usize, out: &mut [u8])
     requires out_len { length out.old ≡ length file.now }
     ensures { out.new ≡ replaced out.old at (λ i. referring_byte (get_or file.now (at + i) 0)) n }
 {
-    let mut i = 0;
-    while i < n {
+    for i in 0..n {
         out[at + i] = referring_byte(file[at + i]);
-        i += 1;
     }
 }
 
 // Writes the file with calls as references.
-pub fn write(file: &[u8], h: Header, out: &mut [u8])
-    requires heads { Heads h file.now }
-    requires out_len { length out.old ≡ length file.now }
-    ensures { out.new ≡ referring file.now }
+pub fn write(routine: &Routine, out: &mut [u8])
+    requires { length out.old ≡ length routine.now.bytes }
+    ensures { out.new ≡ referring routine.now.bytes }
 {
+    let file = routine.bytes();
+    let h = routine.header();
     words::bytes::copy(file, out);
     replace(file, h.actions_at(), h.vertices * h.arrays, out);
 }

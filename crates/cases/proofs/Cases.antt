@@ -1,5 +1,6 @@
 -- Every row of the table of cases holds, by computation. Demand 3 on three paths, whose premises are met, by computation too.
 -- Assumes nothing.
+use Rattle.std.specs.Prelude.{Ok}
 use mathlib.Core.Path.{◌≡◌, refl}
 use mathlib.Core.List.{List, [], ◌∷◌, ◌++◌}
 use Prim.Native.Nat.{ℕ}
@@ -12,8 +13,6 @@ use Rattle.planbytes.specs.Plan.{plan_bytes}
 use Rattle.routine.specs.Arrays.{array_of}
 use Rattle.routine.specs.Layout.{header_of}
 use Rattle.routine.specs.Reader.{read_of}
-use Rattle.routine.specs.declared.reader.Answer.TheVariants.{Routine}
-use Rattle.refusal.specs.declared.Verdict.TheVariants.{Passed}
 use Rattle.routine.proofs.Accepted.{accepted}
 use Rattle.run.specs.Calls.{run_of}
 use Rattle.demand.specs.Demand.{IsHome, IsCallers, Demand3}
@@ -61,7 +60,7 @@ all_hold =
 -- ---- demand 3
 
 -- of a routine that is read and passes 20, and a path that passes
-demanded : (file path : List ℕ) → read_of file ≡ Routine (header_of file) → path_check file path ≡ Passed → check20 file ≡ Passed → Demand3 file path
+demanded : (file path : List ℕ) → read_of file ≡ Ok (header_of file) → path_check file path ≡ Ok tt → check20 file ≡ Ok tt → Demand3 file path
 demanded file path read passed unwritten = demand3 file path (accepted file read).0 passed unwritten
 
 -- case 2

@@ -1,5 +1,6 @@
 -- Each wrong program of "How a contract is judged" (c) breaks its contract: by its reply, or by one byte.
 -- Assumes nothing.
+use Rattle.std.specs.Prelude.{Ok, Err}
 use mathlib.Core.Path.{◌≡◌, refl, sym, ap, ◌∙◌}
 use mathlib.Core.List.{List}
 use Prim.Native.Nat.{ℕ}
@@ -10,10 +11,8 @@ use Rattle.cases.specs.Cases.{P, path2}
 use Rattle.cases.specs.Faults.{zeros, RefusesAll, P_with_nothing, PlanOfPForAll, WritesNoPlan, InventsRecords, InventsCopies, CountsFirstStep, WritesNoReport}
 use Rattle.calls.specs.Expanded.{routine_of}
 use Rattle.planned.specs.Calls.{plan_of, Planned}
-use Rattle.refusal.specs.Replies.{filled_by}
+use Rattle.refusal.specs.Replies.{filled_by, Reply}
 use Rattle.planbytes.specs.Plan.{plan_bytes}
-use Rattle.refusal.specs.declared.Reply.{Reply}
-use Rattle.refusal.specs.declared.Reply.TheVariants.{Written, Denied}
 use Rattle.run.specs.Calls.{Ran}
 use Rattle.walk.specs.Report.{report_bytes}
 use Rattle.words.specs.Tables.{wrote}
@@ -30,7 +29,7 @@ once bytes before e b f c =
     (same, b ∙ ap (λ (r : Reply). filled_by r bytes before) same ∙ sym c)
 
 -- where it succeeds, the bytes that were to be written
-byte : (bytes before : List ℕ) {said reply : Reply} {n : ℕ} {written after : List ℕ} → said ≡ Written n → bytes ≡ written
+byte : (bytes before : List ℕ) {said reply : Reply} {n : ℕ} {written after : List ℕ} → said ≡ Ok n → bytes ≡ written
     → reply ≡ said → after ≡ filled_by reply bytes before → (i : ℕ) → get_or after i 0 ≡ get_or (wrote before written) i 0
 byte bytes before says is e b i = ap (λ (l : List ℕ). get_or l i 0) (b ∙ ap (λ (r : Reply). filled_by r bytes before) (e ∙ says) ∙ ap (wrote before) is)
 
@@ -46,8 +45,8 @@ ran_once {file} {path} {before} h k = once (report_bytes (routine_of file) path)
 
 -- 1 where bytes were written
 abbrev success : Reply → ℕ
-success (Written n) = 1
-success (Denied r) = 0
+success (Ok n) = 1
+success (Err r) = 0
 
 pub refuses_all : RefusesAll
 refuses_all r after h = absurd (omega (arith, ap success (h.answer ∙ all_hold.0.0)))

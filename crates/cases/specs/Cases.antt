@@ -1,7 +1,7 @@
 -- Document 01, "Routine P and others": the starred cases as one table, from the bytes of routine files and paths to what the definitions
 -- answer; and cases of document 02. The theorem is `all_hold` of proofs/Cases.
 -- Assumes nothing.
-use Rattle.std.specs.Prelude.{◌≡◌, cond, List, [], ◌∷◌, ℕ, eqb, length, set}
+use Rattle.std.specs.Prelude.{◌≡◌, cond, List, [], ◌∷◌, ℕ, eqb, length, set, Ok}
 use Rattle.std.proofs.Math.Option.{Option, none, some}
 use Rattle.calls.specs.Expanded.{routine_of}
 use Rattle.labels.specs.Events.{is_label, version}
@@ -15,12 +15,12 @@ use Rattle.planbytes.specs.Plan.{plan_bytes}
 use Rattle.routine.specs.Layout.{arrays, vertices}
 use Rattle.refusal.specs.Refusals.{refused}
 use Rattle.refusal.specs.declared.Outcome.{Outcome}
-use Rattle.refusal.specs.declared.Reply.TheVariants.{Written}
 use Rattle.run.specs.Calls.{run_of, run_outcome}
 use Rattle.demand.specs.Machine.{machine_after}
 use Rattle.path.specs.Paths.{steps}
 use Rattle.walk.specs.Report.{report_bytes}
 use Rattle.demand.specs.Run.{state_after, run_records}
+use Rattle.report.specs.Records.{kind_of}
 use Rattle.report.specs.declared.record.Record.{Record}
 use Rattle.words.specs.Tables.{table, rows}
 
@@ -50,7 +50,7 @@ pub data Seen : Type 0 where
 -- the reads among the records
 abbrev pub reads_of : List Record → List Seen
 reads_of [] = []
-reads_of (r ∷ rs) = cond (eqb r.kind 1) (seen r.seen r.version ∷ reads_of rs) (reads_of rs)
+reads_of (r ∷ rs) = cond (eqb (kind_of r.access) 1) (seen r.seen r.version ∷ reads_of rs) (reads_of rs)
 
 -- ---- cases
 
@@ -84,14 +84,14 @@ pub data Case : Type 0 where
 -- what the definitions answer. A buffer as long as the plan or the report is enough; a routine is refused whatever the buffer and the path
 abbrev pub CaseHolds : Case → Type 0
 CaseHolds (plans c) =
-    (plan_of c.file (length c.plan) ≡ Written (length c.plan))
+    (plan_of c.file (length c.plan) ≡ Ok (length c.plan))
     × (lines_of (routine_of c.file) ≡ c.lines)
     × (plan_bytes (routine_of c.file) ≡ c.plan)
 CaseHolds (refuses c) =
     ((size : ℕ) → plan_outcome c.file size ≡ c.outcome)
     × ((path : List ℕ) (size : ℕ) → run_outcome c.file path size ≡ c.outcome)
 CaseHolds (runs c) =
-    (run_of c.file c.path (length c.report) ≡ Written (length c.report))
+    (run_of c.file c.path (length c.report) ≡ Ok (length c.report))
     × (table (λ a. (state_after (routine_of c.file) c.path a (steps c.path)).copies) (arrays c.file) ≡ c.copies)
     × (table (λ a. (machine_after (routine_of c.file) c.path a (steps c.path)).count) (arrays c.file) ≡ c.against)
     × (reads_of (run_records (routine_of c.file) c.path) ≡ c.reads)

@@ -1,11 +1,10 @@
 -- Document 01, "How a contract is judged" (c): wrong programs, by what they would answer and leave in the buffer.
 -- Assumes nothing.
-use Rattle.std.specs.Prelude.{List, [], ◌∷◌, ℕ, replicate}
+use Rattle.std.specs.Prelude.{List, [], ◌∷◌, ℕ, replicate, Err}
 use Rattle.planned.specs.Calls.{Planned}
 use Rattle.planbytes.specs.Plan.{plan_bytes}
 use Rattle.refusal.specs.declared.Refusal.{Refusal}
-use Rattle.refusal.specs.declared.Reply.{Reply}
-use Rattle.refusal.specs.declared.Reply.TheVariants.{Denied}
+use Rattle.refusal.specs.Replies.{Reply}
 use Rattle.run.specs.Calls.{Ran}
 use Rattle.cases.specs.Cases.{P, path2}
 
@@ -17,7 +16,7 @@ zeros n = replicate n 0
 
 -- one that refuses all routines: no refusal meets the contract on P
 abbrev pub RefusesAll : Type 0
-RefusesAll = (r : Refusal) (after : List ℕ) → Planned P (zeros 88) (Denied r) after → ⊥
+RefusesAll = (r : Refusal) (after : List ℕ) → Planned P (zeros 88) (Err r) after → ⊥
 
 -- P with nothing at 3: as many labels as P, at the same vertices
 abbrev pub P_with_nothing : List ℕ

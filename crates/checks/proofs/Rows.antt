@@ -1,5 +1,6 @@
 -- 20 and 21 by what the tables hold: cell by cell, and by a test of a row.
 -- Assumes nothing.
+use Rattle.std.specs.Prelude.{Ok, Err}
 use mathlib.Core.Path.{◌≡◌, refl, sym, ap, ap₂, ◌∙◌}
 use mathlib.Core.Bool.{Bool, true, false, not, ◌&&◌, cond}
 use mathlib.Core.List.{List}
@@ -8,14 +9,12 @@ use native.Mathlib.Omega.{arith}
 use lib.Bits.{bit_and}
 use lib.Dec.{T, eqb}
 use lib.ListN.{get_or}
-use Rattle.refusal.specs.Checks.{holds, first_failed}
+use Rattle.refusal.specs.Checks.{holds, first_failed, Verdict}
 use Rattle.routine.specs.Actions.{is_reference}
 use Rattle.routine.specs.Layout.{arrays, vertices}
 use Rattle.routine.specs.Reader.{WellFormed}
 use Rattle.routine.specs.declared.action.Action.{Action}
 use Rattle.refusal.specs.declared.Refusal.{Refusal}
-use Rattle.refusal.specs.declared.Verdict.{Verdict}
-use Rattle.refusal.specs.declared.Verdict.TheVariants.{Passed, Failed}
 use Rattle.refusal.proofs.Checks.{all_passed}
 use Rattle.sets.specs.Sets.{has, several}
 use Rattle.labels.specs.Ambiguity.{brought_of, is_ambiguous}
@@ -36,23 +35,23 @@ use Rattle.labels.proofs.Rules.Uses.{use_reference}
 -- ---- a fault as an item of a scan
 
 module _ {b fault : Bool} (r : Refusal) (is : b ≡ fault) where
-  pub faulty : b ≡ true → Failed r ≡ holds (not fault) r
+  pub faulty : b ≡ true → Err r ≡ holds (not fault) r
   faulty e = rw (← is, e)
 
-  pub faultless : b ≡ false → Passed ≡ holds (not fault) r
+  pub faultless : b ≡ false → (Ok tt) ≡ holds (not fault) r
   faultless e = rw (← is, e)
 
 -- ---- an answer
 
 -- one that failed did not pass
-pub not_passed : {A : Type 0} {v : Verdict} {r : Refusal} → v ≡ Failed r → v ≡ Passed → A
+pub not_passed : {A : Type 0} {v : Verdict} {r : Refusal} → v ≡ Err r → v ≡ Ok tt → A
 not_passed f e = absurd (let z : ◌≡◌ {A = ℕ} 0 1 = cc in omega arith)
 
 -- ---- a row
 
 -- where a test agrees with the fault in the cells of all arrays, and passes in no cell, the row has no fault
 pub row_passes : {test fault : ℕ → Bool} (refusal : ℕ → Refusal) {m : ℕ} → m ≤ 8 → ((a : ℕ) → a < m → test a ≡ fault a) → any_below test 8 ≡ false
-    → Passed ≡ first_failed (λ a. holds (not (fault a)) (refusal a)) 0 m
+    → (Ok tt) ≡ first_failed (λ a. holds (not (fault a)) (refusal a)) 0 m
 row_passes {test} {fault} refusal {m} few same none =
     sym (all_passed (λ a. holds (not (fault a)) (refusal a)) m (λ a h. sym (faultless (refusal a) (same a h) (each_fails test 8 none a (omega arith)))))
 

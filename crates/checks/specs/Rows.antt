@@ -1,6 +1,6 @@
 -- How the code keeps it: what the checks 20 and 21 hold, row by row, and what they answer.
 -- Assumes nothing.
-use Rattle.std.specs.Prelude.{◌≡◌, cond, List, ℕ, ◌+◌, ◌*◌, ◌<◌, T, length, get_or}
+use Rattle.std.specs.Prelude.{◌≡◌, cond, List, ℕ, ◌+◌, ◌*◌, ◌<◌, T, length, get_or, Ok}
 use Rattle.labels.specs.Ambiguity.{brought_of}
 use Rattle.labels.specs.Checks.{programmer_check}
 use Rattle.labels.specs.Events.{event}
@@ -9,7 +9,6 @@ use Rattle.routine.specs.Actions.{is_reference}
 use Rattle.routine.specs.Arrays.{kind, is_in}
 use Rattle.passes.specs.Counted.{LettersStop, ReachingStops, BroughtStops, ReachedFirst}
 use Rattle.passes.specs.Tables.{Cells, Letters}
-use Rattle.refusal.specs.declared.Verdict.TheVariants.{Passed}
 use Rattle.routine.specs.Layout.{arrays, vertices}
 use Rattle.checks.specs.declared.Judgement.{Judgement}
 use Rattle.checks.specs.declared.Prepared.{Prepared}
@@ -27,15 +26,15 @@ pub record AtReferences (file s : List ℕ) : Type 0 where
 -- the answer; where it passes, the tables of letters and of reaching sets, and the numbers of rounds (document 02, request 5)
 pub record Checked (file : List ℕ) (answer : Prepared) (letters reaching : List ℕ) : Type 0 where
   pub answers : answer.verdict ≡ programmer_check file
-  pub letters_are : answer.verdict ≡ Passed → Letters file letters
-  pub reaching_are : answer.verdict ≡ Passed → Cells file (reaching_of file) reaching
-  pub letters_stop : answer.verdict ≡ Passed → LettersStop file answer.letters
-  pub reached_first : answer.verdict ≡ Passed → ReachedFirst file answer.reached
-  pub reaching_stops : answer.verdict ≡ Passed → ReachingStops file answer.reaching
+  pub letters_are : answer.verdict ≡ Ok tt → Letters file letters
+  pub reaching_are : answer.verdict ≡ Ok tt → Cells file (reaching_of file) reaching
+  pub letters_stop : answer.verdict ≡ Ok tt → LettersStop file answer.letters
+  pub reached_first : answer.verdict ≡ Ok tt → ReachedFirst file answer.reached
+  pub reaching_stops : answer.verdict ≡ Ok tt → ReachingStops file answer.reaching
 
 -- the answer; where it passes, the table of the versions that paths bring, and the numbers of rounds
 pub record Judged (file : List ℕ) (answer : Judgement) (brought : List ℕ) : Type 0 where
   pub answers : answer.verdict ≡ programmer_check file
-  pub brought_are : answer.verdict ≡ Passed → Cells file (brought_of file) brought
-  pub reached_first : answer.verdict ≡ Passed → ReachedFirst file answer.reached
-  pub brought_stops : answer.verdict ≡ Passed → BroughtStops file answer.brought
+  pub brought_are : answer.verdict ≡ Ok tt → Cells file (brought_of file) brought
+  pub reached_first : answer.verdict ≡ Ok tt → ReachedFirst file answer.reached
+  pub brought_stops : answer.verdict ≡ Ok tt → BroughtStops file answer.brought

@@ -1,11 +1,11 @@
 // Refusals 20 and 21, first by vertex, then by array (document 01, "Who can cause a refusal").
 #![tactic(auto)]
 
-ghost use Rattle.std.specs.Prelude.{◌≡◌, not, ◌&&◌, ◌+◌, ◌*◌, ◌≤◌, ◌<◌, eqb, length, get_or};
+ghost use Rattle.std.specs.Prelude.{◌≡◌, not, ◌&&◌, ◌+◌, ◌*◌, ◌≤◌, ◌<◌, eqb, length, get_or, replicate};
 ghost use Rattle.std.specs.Int.Bits.{bit_and};
 ghost use Rattle.labels.specs.Ambiguity.{is_ambiguous};
 ghost use Rattle.labels.specs.Checks.{writes_in, check20, check21};
-ghost use Rattle.labels.specs.Routines.{ReadAs, EdgeOrder};
+ghost use Rattle.labels.specs.Routines.{EdgeOrder};
 ghost use Rattle.words.specs.Sums.{any_below};
 ghost use Rattle.checks.specs.Rows.{InMasks, AtReferences, Checked, Judged};
 ghost use Rattle.passes.specs.Tables.{Versions, UseGives};
@@ -15,17 +15,54 @@ ghost use Rattle.refusal.specs.declared.Refusal.TheVariants.{WritesInArgument, A
 ghost use Rattle.sets.specs.Sets.{has, several};
 
 use labels::event;
+use labels::read::Routine;
 use passes::{events, pass, tables};
-use refusal::{Refusal, Verdict};
-use routine::array;
-use routine::header::Header;
+use refusal::Refusal;
 use sets::{Half, Set};
+
+// The tables that a routine is worked out in: an entry of `order` for each edge, eight cells of each other for each vertex.
+#[derive(Drop)]
+pub struct Tables<const CELLS: usize, const EDGES: usize> {
+    pub order: [u16; EDGES],
+    pub versions: [Set; CELLS],
+    pub uses: [Half; CELLS],
+    pub letters: [u8; CELLS],
+    pub reaching: [Set; CELLS],
+    pub gives: [Half; CELLS],
+    pub passes: [Half; CELLS],
+    pub halves: [Half; CELLS],
+}
+
+impl<const CELLS: usize, const EDGES: usize> Tables<CELLS, EDGES> {
+    // Zeros.
+    pub fn new() -> Self
+        ensures order { result.order ≡ replicate EDGES 0 }
+        ensures versions { result.versions ≡ replicate CELLS 0 }
+        ensures uses { result.uses ≡ replicate CELLS 0 }
+        ensures letters { result.letters ≡ replicate CELLS 0 }
+        ensures reaching { result.reaching ≡ replicate CELLS 0 }
+        ensures gives { result.gives ≡ replicate CELLS 0 }
+        ensures passes { result.passes ≡ replicate CELLS 0 }
+        ensures halves { result.halves ≡ replicate CELLS 0 }
+    {
+        Tables {
+            order: [0; EDGES],
+            versions: [0; CELLS],
+            uses: [0; CELLS],
+            letters: [0; CELLS],
+            reaching: [0; CELLS],
+            gives: [0; CELLS],
+            passes: [0; CELLS],
+            halves: [0; CELLS],
+        }
+    }
+}
 
 // What `prepare` answers, and the rounds of the passes that it made: those for the letters, the vertices that are reached (0 if it was not
 // needed) and the reaching sets. All are 0 where 20 refuses, since none is made.
 #[derive(Clone, Copy)]
 pub struct Prepared {
-    pub verdict: Verdict,
+    pub verdict: Result<(), Refusal>,
     pub letters: usize,
     pub reached: usize,
     pub reaching: usize,
@@ -35,7 +72,7 @@ pub struct Prepared {
 // for the versions that paths bring. Both are 0 where 20 refuses.
 #[derive(Clone, Copy)]
 pub struct Judgement {
-    pub verdict: Verdict,
+    pub verdict: Result<(), Refusal>,
     pub reached: usize,
     pub brought: usize,
 }
@@ -55,16 +92,12 @@ fn is_ambiguous(uses: Half, reaching: Set) -> bool
 }
 
 // The masks by which 20 looks for writes: of an in argument bit 3, of any other array nothing.
-fn in_masks(file: &[u8], h: Header) -> [Half; flow::COLUMNS]
-    requires { ReadAs file.now h }
-    ensures { InMasks file.now result }
+fn in_masks(routine: &Routine) -> [Half; flow::COLUMNS]
+    ensures { InMasks routine.now.bytes result }
 {
     let mut masks = [0 as Half; flow::COLUMNS];
-    let m = h.arrays;
-    let mut a = 0;
-    while a < m {
-        masks[a] = event::half_if(array::record_of(file, a).is_in(), 0b1000);
-        a += 1;
+    for a in 0..routine.arrays() {
+        masks[a] = event::only_if(routine.array(a).is_in(), 0b1000);
     }
     masks
 }
@@ -76,83 +109,67 @@ fn row_writes(uses: &[Half], masks: [Half; flow::COLUMNS], v: usize) -> bool
     ensures { result ≡ any_below (λ a. not (eqb (bit_and (get_or uses.now (8 * v + a) 0) (get_or masks a 0)) 0)) 8 }
 {
     let mut any = false;
-    let mut a: usize = 0;
-    while a < flow::COLUMNS {
+    for a in 0..flow::COLUMNS {
         let at = flow::COLUMNS * v + a;
         any = any | is_write(uses[at], masks[a]);
-        a += 1;
     }
     any
 }
 
 // The first write of an in argument at vertex v.
 fn check_writes_at(
-    file: &[u8],
-    h: Header,
+    routine: &Routine,
     v: usize,
     uses: &[Half],
     masks: [Half; flow::COLUMNS],
-) -> Verdict
-    requires read_as { ReadAs file.now h }
-    requires use_gives { UseGives file.now uses.now }
-    requires v_bound { v < vertices file.now }
-    requires in_masks { InMasks file.now masks }
-    ensures { result ≡ first_failed (λ a. holds (not (writes_in file.now a v)) (WritesInArgument v a)) 0 (arrays file.now) }
+) -> Result<(), Refusal>
+    requires use_gives { UseGives routine.now.bytes uses.now }
+    requires v_bound { v < vertices routine.now.bytes }
+    requires in_masks { InMasks routine.now.bytes masks }
+    ensures { result ≡ first_failed (λ a. holds (not (writes_in routine.now.bytes a v)) (WritesInArgument v a)) 0 (arrays routine.now.bytes) }
 {
-    let m = h.arrays;
-    let mut a = 0;
-    while a < m {
+    for a in 0..routine.arrays() {
         let at = flow::COLUMNS * v + a;
         let writes = is_write(uses[at], masks[a]);
         if writes {
-            return Verdict::Failed(Refusal::WritesInArgument {
+            return Err(Refusal::WritesInArgument {
                 vertex: v,
                 array: a,
             });
         }
-        a += 1;
     }
-    Verdict::Passed
+    Ok(())
 }
 
 // Vertex v, array by array only if its row has a write of an in argument.
 fn check_writes_row(
-    file: &[u8],
-    h: Header,
+    routine: &Routine,
     v: usize,
     uses: &[Half],
     masks: [Half; flow::COLUMNS],
-) -> Verdict
-    requires read_as { ReadAs file.now h }
-    requires use_gives { UseGives file.now uses.now }
-    requires v_bound { v < vertices file.now }
-    requires in_masks { InMasks file.now masks }
-    ensures { result ≡ first_failed (λ a. holds (not (writes_in file.now a v)) (WritesInArgument v a)) 0 (arrays file.now) }
+) -> Result<(), Refusal>
+    requires use_gives { UseGives routine.now.bytes uses.now }
+    requires v_bound { v < vertices routine.now.bytes }
+    requires in_masks { InMasks routine.now.bytes masks }
+    ensures { result ≡ first_failed (λ a. holds (not (writes_in routine.now.bytes a v)) (WritesInArgument v a)) 0 (arrays routine.now.bytes) }
 {
     let any = row_writes(uses, masks, v);
     if any {
-        return check_writes_at(file, h, v, uses, masks);
+        return check_writes_at(routine, v, uses, masks);
     }
-    Verdict::Passed
+    Ok(())
 }
 
 // Refusal 20.
-fn check_writes(file: &[u8], h: Header, uses: &[Half]) -> Verdict
-    requires read_as { ReadAs file.now h }
-    requires use_gives { UseGives file.now uses.now }
-    ensures { result ≡ check20 file.now }
+fn check_writes(routine: &Routine, uses: &[Half]) -> Result<(), Refusal>
+    requires use_gives { UseGives routine.now.bytes uses.now }
+    ensures { result ≡ check20 routine.now.bytes }
 {
-    let masks = in_masks(file, h);
-    let n = h.vertices;
-    let mut v = 0;
-    while v < n {
-        let verdict = check_writes_row(file, h, v, uses, masks);
-        if let Verdict::Failed(_) = verdict {
-            return verdict;
-        }
-        v += 1;
+    let masks = in_masks(routine);
+    for v in 0..routine.vertices() {
+        check_writes_row(routine, v, uses, masks)?;
     }
-    Verdict::Passed
+    Ok(())
 }
 
 // Whether the row of vertex v has a reference that two versions reach.
@@ -162,77 +179,72 @@ fn row_ambiguous(uses: &[Half], reaching: &[Set], v: usize) -> bool
     ensures { result ≡ any_below (λ a. has (get_or uses.now (8 * v + a) 0) 0 && several (get_or reaching.now (8 * v + a) 0)) 8 }
 {
     let mut any = false;
-    let mut a: usize = 0;
-    while a < flow::COLUMNS {
+    for a in 0..flow::COLUMNS {
         let at = flow::COLUMNS * v + a;
         any = any | is_ambiguous(uses[at], reaching[at]);
-        a += 1;
     }
     any
 }
 
 // The first ambiguous reference at vertex v.
-fn check_ambiguous_at(file: &[u8], h: Header, v: usize, uses: &[Half], reaching: &[Set]) -> Verdict
-    requires read_as { ReadAs file.now h }
-    requires use_gives { UseGives file.now uses.now }
-    requires v_bound { v < vertices file.now }
-    requires at_references { AtReferences file.now reaching.now }
-    ensures { result ≡ first_failed (λ a. holds (not (is_ambiguous file.now a v)) (AmbiguousReference v a)) 0 (arrays file.now) }
+fn check_ambiguous_at(
+    routine: &Routine,
+    v: usize,
+    uses: &[Half],
+    reaching: &[Set],
+) -> Result<(), Refusal>
+    requires use_gives { UseGives routine.now.bytes uses.now }
+    requires v_bound { v < vertices routine.now.bytes }
+    requires at_references { AtReferences routine.now.bytes reaching.now }
+    ensures { result ≡ first_failed (λ a. holds (not (is_ambiguous routine.now.bytes a v)) (AmbiguousReference v a)) 0 (arrays routine.now.bytes) }
 {
-    let m = h.arrays;
-    let mut a = 0;
-    while a < m {
+    for a in 0..routine.arrays() {
         let at = flow::COLUMNS * v + a;
         let ambiguous = is_ambiguous(uses[at], reaching[at]);
         if ambiguous {
-            return Verdict::Failed(Refusal::AmbiguousReference {
+            return Err(Refusal::AmbiguousReference {
                 vertex: v,
                 array: a,
             });
         }
-        a += 1;
     }
-    Verdict::Passed
+    Ok(())
 }
 
 // Vertex v, array by array only if its row has an ambiguous reference.
-fn check_ambiguous_row(file: &[u8], h: Header, v: usize, uses: &[Half], reaching: &[Set]) -> Verdict
-    requires read_as { ReadAs file.now h }
-    requires use_gives { UseGives file.now uses.now }
-    requires v_bound { v < vertices file.now }
-    requires at_references { AtReferences file.now reaching.now }
-    ensures { result ≡ first_failed (λ a. holds (not (is_ambiguous file.now a v)) (AmbiguousReference v a)) 0 (arrays file.now) }
+fn check_ambiguous_row(
+    routine: &Routine,
+    v: usize,
+    uses: &[Half],
+    reaching: &[Set],
+) -> Result<(), Refusal>
+    requires use_gives { UseGives routine.now.bytes uses.now }
+    requires v_bound { v < vertices routine.now.bytes }
+    requires at_references { AtReferences routine.now.bytes reaching.now }
+    ensures { result ≡ first_failed (λ a. holds (not (is_ambiguous routine.now.bytes a v)) (AmbiguousReference v a)) 0 (arrays routine.now.bytes) }
 {
     let any = row_ambiguous(uses, reaching, v);
     if any {
-        return check_ambiguous_at(file, h, v, uses, reaching);
+        return check_ambiguous_at(routine, v, uses, reaching);
     }
-    Verdict::Passed
+    Ok(())
 }
 
 // Refusal 21.
-fn check_ambiguous(file: &[u8], h: Header, uses: &[Half], reaching: &[Set]) -> Verdict
-    requires read_as { ReadAs file.now h }
-    requires use_gives { UseGives file.now uses.now }
-    requires at_references { AtReferences file.now reaching.now }
-    ensures { result ≡ check21 file.now }
+fn check_ambiguous(routine: &Routine, uses: &[Half], reaching: &[Set]) -> Result<(), Refusal>
+    requires use_gives { UseGives routine.now.bytes uses.now }
+    requires at_references { AtReferences routine.now.bytes reaching.now }
+    ensures { result ≡ check21 routine.now.bytes }
 {
-    let n = h.vertices;
-    let mut v = 0;
-    while v < n {
-        let verdict = check_ambiguous_row(file, h, v, uses, reaching);
-        if let Verdict::Failed(_) = verdict {
-            return verdict;
-        }
-        v += 1;
+    for v in 0..routine.vertices() {
+        check_ambiguous_row(routine, v, uses, reaching)?;
     }
-    Verdict::Passed
+    Ok(())
 }
 
 // Refusals 20 and 21. Where both pass, `letters` and `reaching` are left with their tables; `gives`, `passes` and `halves` are work slices.
 fn check(
-    file: &[u8],
-    h: Header,
+    routine: &Routine,
     order: &mut [u16],
     versions: &[Set],
     uses: &[Half],
@@ -242,20 +254,19 @@ fn check(
     passes: &mut [Half],
     halves: &mut [Half],
 ) -> Prepared
-    requires read_as { ReadAs file.now h }
-    requires edge_order { EdgeOrder file.now order.old }
-    requires versions { Versions file.now versions.now }
-    requires use_gives { UseGives file.now uses.now }
-    requires letters_len { length letters.old ≡ 8 * vertices file.now }
-    requires reaching_len { length reaching.old ≡ 8 * vertices file.now }
-    requires gives_len { length gives.old ≡ 8 * vertices file.now }
-    requires passes_len { length passes.old ≡ 8 * vertices file.now }
-    requires halves_len { length halves.old ≡ 8 * vertices file.now }
-    ensures edge_order_2 { EdgeOrder file.now order.new }
-    ensures checked { Checked file.now result letters.new reaching.new }
+    requires edge_order { EdgeOrder routine.now.bytes order.old }
+    requires versions { Versions routine.now.bytes versions.now }
+    requires use_gives { UseGives routine.now.bytes uses.now }
+    requires letters_len { length letters.old ≡ 8 * vertices routine.now.bytes }
+    requires reaching_len { length reaching.old ≡ 8 * vertices routine.now.bytes }
+    requires gives_len { length gives.old ≡ 8 * vertices routine.now.bytes }
+    requires passes_len { length passes.old ≡ 8 * vertices routine.now.bytes }
+    requires halves_len { length halves.old ≡ 8 * vertices routine.now.bytes }
+    ensures edge_order_2 { EdgeOrder routine.now.bytes order.new }
+    ensures checked { Checked routine.now.bytes result letters.new reaching.new }
 {
-    let writes = check_writes(file, h, uses);
-    if let Verdict::Failed(_) = writes {
+    let writes = check_writes(routine, uses);
+    if let Err(_) = writes {
         return Prepared {
             verdict: writes,
             letters: 0,
@@ -263,12 +274,12 @@ fn check(
             reaching: 0,
         };
     }
-    let first = tables::letters(file, h, order, uses, letters, halves, passes);
-    pass::reorder(file, h, order, first);
+    let first = tables::letters(routine, order, uses, letters, halves, passes);
+    pass::reorder(routine, order, first);
     let next = tables::reaching(
-        file, h, order, versions, letters, reaching, gives, passes, halves,
+        routine, order, versions, letters, reaching, gives, passes, halves,
     );
-    let verdict = check_ambiguous(file, h, uses, reaching);
+    let verdict = check_ambiguous(routine, uses, reaching);
     Prepared {
         verdict,
         letters: first,
@@ -280,8 +291,7 @@ fn check(
 // The order of the edges, the tables of events, then refusals 20 and 21. Where both pass, `letters` and `reaching` are left with their
 // tables; `uses`, `gives`, `passes` and `halves` are work slices.
 pub fn prepare(
-    file: &[u8],
-    h: Header,
+    routine: &Routine,
     order: &mut [u16],
     versions: &mut [Set],
     uses: &mut [Half],
@@ -291,30 +301,28 @@ pub fn prepare(
     passes: &mut [Half],
     halves: &mut [Half],
 ) -> Prepared
-    requires read_as { ReadAs file.now h }
-    requires order_len { length order.old ≡ edges file.now }
-    requires versions_len { length versions.old ≡ 8 * vertices file.now }
-    requires uses_len { length uses.old ≡ 8 * vertices file.now }
-    requires letters_len { length letters.old ≡ 8 * vertices file.now }
-    requires reaching_len { length reaching.old ≡ 8 * vertices file.now }
-    requires gives_len { length gives.old ≡ 8 * vertices file.now }
-    requires passes_len { length passes.old ≡ 8 * vertices file.now }
-    requires halves_len { length halves.old ≡ 8 * vertices file.now }
-    ensures edge_order { EdgeOrder file.now order.new }
-    ensures versions { Versions file.now versions.new }
-    ensures checked { Checked file.now result letters.new reaching.new }
+    requires order_len { length order.old ≡ edges routine.now.bytes }
+    requires versions_len { length versions.old ≡ 8 * vertices routine.now.bytes }
+    requires uses_len { length uses.old ≡ 8 * vertices routine.now.bytes }
+    requires letters_len { length letters.old ≡ 8 * vertices routine.now.bytes }
+    requires reaching_len { length reaching.old ≡ 8 * vertices routine.now.bytes }
+    requires gives_len { length gives.old ≡ 8 * vertices routine.now.bytes }
+    requires passes_len { length passes.old ≡ 8 * vertices routine.now.bytes }
+    requires halves_len { length halves.old ≡ 8 * vertices routine.now.bytes }
+    ensures edge_order { EdgeOrder routine.now.bytes order.new }
+    ensures versions { Versions routine.now.bytes versions.new }
+    ensures checked { Checked routine.now.bytes result letters.new reaching.new }
 {
-    pass::order(file, h, order);
-    events::tabulate(file, h, versions, uses);
+    pass::order(routine, order);
+    events::tabulate(routine, versions, uses);
     check(
-        file, h, order, versions, uses, letters, reaching, gives, passes, halves,
+        routine, order, versions, uses, letters, reaching, gives, passes, halves,
     )
 }
 
 // Refusals 20 and 21 without letters. Where both pass, `brought` is left with the versions that paths bring; all other slices are work slices.
 pub fn judge(
-    file: &[u8],
-    h: Header,
+    routine: &Routine,
     order: &mut [u16],
     versions: &mut [Set],
     uses: &mut [Half],
@@ -323,28 +331,27 @@ pub fn judge(
     passes: &mut [Half],
     halves: &mut [Half],
 ) -> Judgement
-    requires read_as { ReadAs file.now h }
-    requires order_len { length order.old ≡ edges file.now }
-    requires versions_len { length versions.old ≡ 8 * vertices file.now }
-    requires uses_len { length uses.old ≡ 8 * vertices file.now }
-    requires brought_len { length brought.old ≡ 8 * vertices file.now }
-    requires gives_len { length gives.old ≡ 8 * vertices file.now }
-    requires passes_len { length passes.old ≡ 8 * vertices file.now }
-    requires halves_len { length halves.old ≡ 8 * vertices file.now }
-    ensures { Judged file.now result brought.new }
+    requires order_len { length order.old ≡ edges routine.now.bytes }
+    requires versions_len { length versions.old ≡ 8 * vertices routine.now.bytes }
+    requires uses_len { length uses.old ≡ 8 * vertices routine.now.bytes }
+    requires brought_len { length brought.old ≡ 8 * vertices routine.now.bytes }
+    requires gives_len { length gives.old ≡ 8 * vertices routine.now.bytes }
+    requires passes_len { length passes.old ≡ 8 * vertices routine.now.bytes }
+    requires halves_len { length halves.old ≡ 8 * vertices routine.now.bytes }
+    ensures { Judged routine.now.bytes result brought.new }
 {
-    pass::by_number(file, h, order);
-    events::tabulate(file, h, versions, uses);
-    let writes = check_writes(file, h, uses);
-    if let Verdict::Failed(_) = writes {
+    pass::by_number(routine, order);
+    events::tabulate(routine, versions, uses);
+    let writes = check_writes(routine, uses);
+    if let Err(_) = writes {
         return Judgement {
             verdict: writes,
             reached: 0,
             brought: 0,
         };
     }
-    let rounds = tables::brought(file, h, order, versions, brought, gives, passes, halves);
-    let verdict = check_ambiguous(file, h, uses, brought);
+    let rounds = tables::brought(routine, order, versions, brought, gives, passes, halves);
+    let verdict = check_ambiguous(routine, uses, brought);
     Judgement {
         verdict,
         reached: rounds.reached,

@@ -2,32 +2,30 @@
 #![tactic(auto)]
 
 ghost use Rattle.std.specs.Prelude.{◌≡◌, ℕ, ◌*◌, ◌≤◌, length};
-ghost use Rattle.directives.specs.Fields.{DirectivesRead};
 ghost use Rattle.directives.specs.Layout.{vertices, edges};
 ghost use Rattle.labels.specs.Checks.{programmer_check};
 ghost use Rattle.mappings.specs.Computed.{check41, check42, converted};
 ghost use Rattle.mappings.specs.Convert.{Converts};
 ghost use Rattle.mappings.specs.Tables.{EdgeOrder};
 ghost use Rattle.numbering.specs.Lists.{AllNumbered};
-ghost use Rattle.refusal.specs.declared.Reply.TheVariants.{Written};
-ghost use Rattle.refusal.specs.declared.Verdict.TheVariants.{Passed};
 ghost use Rattle.convert.specs.Steps.{Prepared, delivered, delivered_into};
 
 use brought::{alignments, spreads};
 use converted::writer;
 use directives::header::Header;
+use directives::read::Directives;
 use directives::reader;
 use facts::{pass, reached};
+use labels::read::Routine;
 use left::check;
 use numbering::numbers;
-use refusal::{Refusal, Reply, Verdict};
+use refusal::Refusal;
 use sets::{Half, Set};
 
 // Refusal 41. Where it passes, `given` is left with the versions that directives give, `counts` with the number of each array's. The slices
 // behind `counts` are work slices.
 fn number(
-    file: &[u8],
-    h: Header,
+    directives: &Directives,
     order: &mut [u16],
     given: &mut [Set],
     counts: &mut [u8],
@@ -37,35 +35,33 @@ fn number(
     gives: &mut [Half],
     passes: &mut [Half],
     halves: &mut [Half],
-) -> Verdict
-    requires directives_read { DirectivesRead file.now h }
-    requires order_len { length order.old ≡ edges file.now }
-    requires given_len { length given.old ≡ 8 * vertices file.now }
+) -> Result<(), Refusal>
+    requires order_len { length order.old ≡ edges directives.now.bytes }
+    requires given_len { length given.old ≡ 8 * vertices directives.now.bytes }
     requires counts_len { length counts.old ≡ 8 }
-    requires reached_len { length reached.old ≡ 8 * vertices file.now }
-    requires aligned_len { length aligned.old ≡ 8 * vertices file.now }
-    requires spreads_len { length spreads.old ≡ 8 * vertices file.now }
-    requires gives_len { length gives.old ≡ 8 * vertices file.now }
-    requires passes_len { length passes.old ≡ 8 * vertices file.now }
-    requires halves_len { length halves.old ≡ 8 * vertices file.now }
-    ensures edge_order { EdgeOrder file.now order.new }
-    ensures value { result ≡ check41 file.now }
-    ensures all_numbered { AllNumbered file.now result given.new counts.new }
+    requires reached_len { length reached.old ≡ 8 * vertices directives.now.bytes }
+    requires aligned_len { length aligned.old ≡ 8 * vertices directives.now.bytes }
+    requires spreads_len { length spreads.old ≡ 8 * vertices directives.now.bytes }
+    requires gives_len { length gives.old ≡ 8 * vertices directives.now.bytes }
+    requires passes_len { length passes.old ≡ 8 * vertices directives.now.bytes }
+    requires halves_len { length halves.old ≡ 8 * vertices directives.now.bytes }
+    ensures edge_order { EdgeOrder directives.now.bytes order.new }
+    ensures value { result ≡ check41 directives.now.bytes }
+    ensures all_numbered { AllNumbered directives.now.bytes result given.new counts.new }
 {
-    pass::order(file, h, order);
-    reached::solve(file, h, order, reached, gives, passes);
-    alignments::solve(file, h, order, reached, aligned, gives, passes);
+    pass::order(directives, order);
+    reached::solve(directives, order, reached, gives, passes);
+    alignments::solve(directives, order, reached, aligned, gives, passes);
     // `given` is a work slice until the mappings are numbered
     spreads::solve(
-        file, h, order, reached, spreads, given, gives, passes, halves,
+        directives, order, reached, spreads, given, gives, passes, halves,
     );
-    numbers::check(file, h, aligned, spreads, given, counts)
+    numbers::check(directives, aligned, spreads, given, counts)
 }
 
 // Refusals 20 and 21 of the routine that the file becomes. The slices behind it are work slices.
 fn judge(
-    file: &[u8],
-    h: Header,
+    directives: &Directives,
     routine: &[u8],
     order: &mut [u16],
     versions: &mut [Set],
@@ -74,31 +70,29 @@ fn judge(
     gives: &mut [Half],
     passes: &mut [Half],
     halves: &mut [Half],
-) -> Verdict
-    requires directives_read { DirectivesRead file.now h }
-    requires file_value { check41 file.now ≡ Passed }
-    requires file_value_2 { check42 file.now ≡ Passed }
-    requires routine_value { routine.now ≡ converted file.now }
-    requires order_len { length order.old ≡ edges file.now }
-    requires versions_len { length versions.old ≡ 8 * vertices file.now }
-    requires uses_len { length uses.old ≡ 8 * vertices file.now }
-    requires brought_len { length brought.old ≡ 8 * vertices file.now }
-    requires gives_len { length gives.old ≡ 8 * vertices file.now }
-    requires passes_len { length passes.old ≡ 8 * vertices file.now }
-    requires halves_len { length halves.old ≡ 8 * vertices file.now }
-    ensures { result ≡ programmer_check (converted file.now) }
+) -> Result<(), Refusal>
+    requires file_value { check41 directives.now.bytes ≡ Ok tt }
+    requires file_value_2 { check42 directives.now.bytes ≡ Ok tt }
+    requires routine_value { routine.now ≡ converted directives.now.bytes }
+    requires order_len { length order.old ≡ edges directives.now.bytes }
+    requires versions_len { length versions.old ≡ 8 * vertices directives.now.bytes }
+    requires uses_len { length uses.old ≡ 8 * vertices directives.now.bytes }
+    requires brought_len { length brought.old ≡ 8 * vertices directives.now.bytes }
+    requires gives_len { length gives.old ≡ 8 * vertices directives.now.bytes }
+    requires passes_len { length passes.old ≡ 8 * vertices directives.now.bytes }
+    requires halves_len { length halves.old ≡ 8 * vertices directives.now.bytes }
+    ensures { result ≡ programmer_check (converted directives.now.bytes) }
 {
-    let r = writer::header_of(file, h);
+    let routine = Routine::new(routine, writer::header_of(directives));
     let answer = checks::judge(
-        routine, r, order, versions, uses, brought, gives, passes, halves,
+        &routine, order, versions, uses, brought, gives, passes, halves,
     );
     answer.verdict
 }
 
 // Writes the routine into `work`, and checks it. The slices behind `counts` are work slices.
 fn write_checked(
-    file: &[u8],
-    h: Header,
+    directives: &Directives,
     work: &mut [u8],
     order: &mut [u16],
     given: &mut [Set],
@@ -108,24 +102,22 @@ fn write_checked(
     gives: &mut [Half],
     passes: &mut [Half],
     halves: &mut [Half],
-) -> Reply
-    requires directives_read { DirectivesRead file.now h }
-    requires file_value { check41 file.now ≡ Passed }
-    requires file_value_2 { check42 file.now ≡ Passed }
-    requires all_numbered { AllNumbered file.now Passed given.old counts.now }
+) -> Result<usize, Refusal>
+    requires file_value { check41 directives.now.bytes ≡ Ok tt }
+    requires file_value_2 { check42 directives.now.bytes ≡ Ok tt }
+    requires all_numbered { AllNumbered directives.now.bytes (Ok tt) given.old counts.now }
     requires work_len { length work.old ≡ 6194 }
-    requires order_len { length order.old ≡ edges file.now }
-    requires uses_len { length uses.old ≡ 8 * vertices file.now }
-    requires brought_len { length brought.old ≡ 8 * vertices file.now }
-    requires gives_len { length gives.old ≡ 8 * vertices file.now }
-    requires passes_len { length passes.old ≡ 8 * vertices file.now }
-    requires halves_len { length halves.old ≡ 8 * vertices file.now }
-    ensures { Prepared file.now result work.new }
+    requires order_len { length order.old ≡ edges directives.now.bytes }
+    requires uses_len { length uses.old ≡ 8 * vertices directives.now.bytes }
+    requires brought_len { length brought.old ≡ 8 * vertices directives.now.bytes }
+    requires gives_len { length gives.old ≡ 8 * vertices directives.now.bytes }
+    requires passes_len { length passes.old ≡ 8 * vertices directives.now.bytes }
+    requires halves_len { length halves.old ≡ 8 * vertices directives.now.bytes }
+    ensures { Prepared directives.now.bytes result work.new }
 {
-    let n = writer::write(file, h, given, counts, work);
-    let judged = judge(
-        file,
-        h,
+    let n = writer::write(directives, given, counts, work);
+    judge(
+        directives,
         &work[..n],
         order,
         given,
@@ -134,17 +126,13 @@ fn write_checked(
         gives,
         passes,
         halves,
-    );
-    if let Verdict::Failed(refused) = judged {
-        return Reply::Denied(refused);
-    }
-    Reply::Written(n)
+    )?;
+    Ok(n)
 }
 
 // All checks but 40 and 1, and the routine in `work`.
 fn convert_with(
-    file: &[u8],
-    h: Header,
+    directives: &Directives,
     work: &mut [u8],
     order: &mut [u16],
     given: &mut [Set],
@@ -156,72 +144,57 @@ fn convert_with(
     gives: &mut [Half],
     passes: &mut [Half],
     halves: &mut [Half],
-) -> Reply
-    requires directives_read { DirectivesRead file.now h }
+) -> Result<usize, Refusal>
     requires work_len { length work.old ≡ 6194 }
-    requires order_len { length order.old ≡ edges file.now }
-    requires given_len { length given.old ≡ 8 * vertices file.now }
+    requires order_len { length order.old ≡ edges directives.now.bytes }
+    requires given_len { length given.old ≡ 8 * vertices directives.now.bytes }
     requires counts_len { length counts.old ≡ 8 }
-    requires reached_len { length reached.old ≡ 8 * vertices file.now }
-    requires aligned_len { length aligned.old ≡ 8 * vertices file.now }
-    requires spreads_len { length spreads.old ≡ 8 * vertices file.now }
-    requires others_len { length others.old ≡ 8 * vertices file.now }
-    requires gives_len { length gives.old ≡ 8 * vertices file.now }
-    requires passes_len { length passes.old ≡ 8 * vertices file.now }
-    requires halves_len { length halves.old ≡ 8 * vertices file.now }
-    ensures { Prepared file.now result work.new }
+    requires reached_len { length reached.old ≡ 8 * vertices directives.now.bytes }
+    requires aligned_len { length aligned.old ≡ 8 * vertices directives.now.bytes }
+    requires spreads_len { length spreads.old ≡ 8 * vertices directives.now.bytes }
+    requires others_len { length others.old ≡ 8 * vertices directives.now.bytes }
+    requires gives_len { length gives.old ≡ 8 * vertices directives.now.bytes }
+    requires passes_len { length passes.old ≡ 8 * vertices directives.now.bytes }
+    requires halves_len { length halves.old ≡ 8 * vertices directives.now.bytes }
+    ensures { Prepared directives.now.bytes result work.new }
 {
-    let few = number(
-        file, h, order, given, counts, reached, aligned, spreads, gives, passes, halves,
-    );
-    if let Verdict::Failed(refused) = few {
-        return Reply::Denied(refused);
-    }
-    let single = check::check(
-        file, h, order, given, others, spreads, gives, passes, halves,
-    );
-    if let Verdict::Failed(refused) = single {
-        return Reply::Denied(refused);
-    }
+    number(
+        directives, order, given, counts, reached, aligned, spreads, gives, passes, halves,
+    )?;
+    check::check(
+        directives, order, given, others, spreads, gives, passes, halves,
+    )?;
     write_checked(
-        file, h, work, order, given, counts, reached, others, gives, passes, halves,
+        directives, work, order, given, counts, reached, others, gives, passes, halves,
     )
 }
 
-// The same with work slices that are large enough.
-fn convert_within(
-    file: &[u8],
-    h: Header,
+// The same with tables of its own; not inlined, so that the stack of small tables is not that of large ones.
+#[inline(never)]
+fn convert_in<const CELLS: usize, const EDGES: usize>(
+    directives: &Directives,
     work: &mut [u8],
-    order: &mut [u16],
-    given: &mut [Set],
-    reached: &mut [Half],
-    aligned: &mut [Half],
-    spreads: &mut [Set],
-    others: &mut [Set],
-    gives: &mut [Half],
-    passes: &mut [Half],
-    halves: &mut [Half],
-) -> Reply
-    requires directives_read { DirectivesRead file.now h }
+) -> Result<usize, Refusal>
     requires work_len { length work.old ≡ 6194 }
-    requires file_in_bounds { edges file.now ≤ length order.old }
-    requires file_in_bounds_2 { 8 * vertices file.now ≤ length given.old }
-    requires file_in_bounds_3 { 8 * vertices file.now ≤ length reached.old }
-    requires file_in_bounds_4 { 8 * vertices file.now ≤ length aligned.old }
-    requires file_in_bounds_5 { 8 * vertices file.now ≤ length spreads.old }
-    requires file_in_bounds_6 { 8 * vertices file.now ≤ length others.old }
-    requires file_in_bounds_7 { 8 * vertices file.now ≤ length gives.old }
-    requires file_in_bounds_8 { 8 * vertices file.now ≤ length passes.old }
-    requires file_in_bounds_9 { 8 * vertices file.now ≤ length halves.old }
-    ensures { Prepared file.now result work.new }
+    requires sizes_bound { (CELLS ≤ 2048) × (EDGES ≤ 1024) }
+    requires edges_room { edges directives.now.bytes ≤ EDGES }
+    requires cells_room { 8 * vertices directives.now.bytes ≤ CELLS }
+    ensures { Prepared directives.now.bytes result work.new }
 {
-    let all = flow::COLUMNS * h.vertices;
-    let m = h.edges;
+    let mut order = [0u16; EDGES];
+    let mut given = [0 as Set; CELLS];
     let mut counts = [0u8; flow::COLUMNS];
+    let mut reached = [0 as Half; CELLS];
+    let mut aligned = [0 as Half; CELLS];
+    let mut spreads = [0 as Set; CELLS];
+    let mut others = [0 as Set; CELLS];
+    let mut gives = [0 as Half; CELLS];
+    let mut passes = [0 as Half; CELLS];
+    let mut halves = [0 as Half; CELLS];
+    let all = flow::COLUMNS * directives.vertices();
+    let m = directives.edges();
     convert_with(
-        file,
-        h,
+        directives,
         work,
         &mut order[..m],
         &mut given[..all],
@@ -236,117 +209,47 @@ fn convert_within(
     )
 }
 
-// With tables for any directive file.
-fn convert_large(file: &[u8], h: Header, work: &mut [u8]) -> Reply
-    requires directives_read { DirectivesRead file.now h }
-    requires work_len { length work.old ≡ 6194 }
-    ensures { Prepared file.now result work.new }
+// With small tables for at most 32 vertices and 128 edges, so that a small file does not pay for the zeroing of large ones; else with tables for
+// any directive file.
+fn convert_into(directives: &Directives, work: &mut [u8]) -> Result<usize, Refusal>
+    requires { length work.old ≡ 6194 }
+    ensures { Prepared directives.now.bytes result work.new }
 {
-    let mut order = [0u16; 1024];
-    let mut given = [0 as Set; 2048];
-    let mut reached = [0 as Half; 2048];
-    let mut aligned = [0 as Half; 2048];
-    let mut spreads = [0 as Set; 2048];
-    let mut others = [0 as Set; 2048];
-    let mut gives = [0 as Half; 2048];
-    let mut passes = [0 as Half; 2048];
-    let mut halves = [0 as Half; 2048];
-    convert_within(
-        file,
-        h,
-        work,
-        &mut order,
-        &mut given,
-        &mut reached,
-        &mut aligned,
-        &mut spreads,
-        &mut others,
-        &mut gives,
-        &mut passes,
-        &mut halves,
-    )
-}
-
-// With tables for at most 32 vertices and 128 edges: a small file does not pay for the zeroing of large ones.
-fn convert_small(file: &[u8], h: Header, work: &mut [u8]) -> Reply
-    requires directives_read { DirectivesRead file.now h }
-    requires vertices_bound { (h.vertices ≤ 32) × (h.edges ≤ 128) }
-    requires work_len { length work.old ≡ 6194 }
-    ensures { Prepared file.now result work.new }
-{
-    let mut order = [0u16; 128];
-    let mut given = [0 as Set; 256];
-    let mut reached = [0 as Half; 256];
-    let mut aligned = [0 as Half; 256];
-    let mut spreads = [0 as Set; 256];
-    let mut others = [0 as Set; 256];
-    let mut gives = [0 as Half; 256];
-    let mut passes = [0 as Half; 256];
-    let mut halves = [0 as Half; 256];
-    convert_within(
-        file,
-        h,
-        work,
-        &mut order,
-        &mut given,
-        &mut reached,
-        &mut aligned,
-        &mut spreads,
-        &mut others,
-        &mut gives,
-        &mut passes,
-        &mut halves,
-    )
-}
-
-fn convert_into(file: &[u8], h: Header, work: &mut [u8]) -> Reply
-    requires directives_read { DirectivesRead file.now h }
-    requires work_len { length work.old ≡ 6194 }
-    ensures { Prepared file.now result work.new }
-{
-    if h.vertices > 32 {
-        return convert_large(file, h, work);
+    if directives.vertices() <= 32 && directives.edges() <= 128 {
+        return convert_in::<256, 128>(directives, work);
     }
-    if h.edges > 128 {
-        return convert_large(file, h, work);
-    }
-    convert_small(file, h, work)
+    convert_in::<2048, 1024>(directives, work)
 }
 
 // Refusal 1, or the routine copied from `work`: what refuses has not yet written a byte.
-fn deliver(reply: Reply, work: &[u8], out: &mut [u8]) -> Reply
-    requires { (n : ℕ) → reply ≡ Written n → n ≤ length work.now }
+fn deliver(reply: Result<usize, Refusal>, work: &[u8], out: &mut [u8]) -> Result<usize, Refusal>
+    requires { (n : ℕ) → reply ≡ Ok n → n ≤ length work.now }
     ensures value { result ≡ delivered reply (length out.old) }
     ensures out_after { out.new ≡ delivered_into result work.now out.old }
 {
-    let Reply::Written(n) = reply else {
-        return reply;
-    };
+    let n = reply?;
     if n > out.len() {
-        return Reply::Denied(Refusal::ShortRoutineBuffer { needed: n });
+        return Err(Refusal::ShortRoutineBuffer { needed: n });
     }
     words::bytes::copy(&work[..n], out);
-    reply
+    Ok(n)
 }
 
 // Converts a file that 40 passes. `work` is a work slice.
-fn convert_read(file: &[u8], h: Header, work: &mut [u8], out: &mut [u8]) -> Reply
-    requires directives_read { DirectivesRead file.now h }
+fn convert_read(directives: &Directives, work: &mut [u8], out: &mut [u8]) -> Result<usize, Refusal>
     requires work_len { length work.old ≡ 6194 }
-    ensures { Converts file.now out.old result out.new }
+    ensures { Converts directives.now.bytes out.old result out.new }
 {
-    let reply = convert_into(file, h, work);
+    let reply = convert_into(directives, work);
     deliver(reply, work, out)
 }
 
 // Turns the directive file in `file` into a routine file in `out`.
-pub fn convert(file: &[u8], out: &mut [u8]) -> Reply
+pub fn convert(file: &[u8], out: &mut [u8]) -> Result<usize, Refusal>
     ensures { Converts file.now out.old result out.new }
 {
-    let verdict = reader::check(file);
-    if let Verdict::Failed(refused) = verdict {
-        return Reply::Denied(refused);
-    }
+    reader::check(file)?;
     let mut work = [0u8; writer::MAX_SIZE];
-    convert_read(file, Header::of(file), &mut work, out)
+    let directives = Directives::new(file, Header::of(file));
+    convert_read(&directives, &mut work, out)
 }

@@ -1,8 +1,6 @@
 // Writing the converted routine.
-ghost use Rattle.std.specs.Prelude.{◌≡◌, [], ◌∷◌, ◌++◌, ◌*◌, ◌≤◌, ◌<◌, length};
+ghost use Rattle.std.specs.Prelude.{◌≡◌, [], ◌∷◌, ◌*◌, ◌≤◌, ◌<◌, length};
 ghost use Rattle.words.specs.Tables.{rows, wrote};
-ghost use Rattle.words.specs.Words.{bytes16};
-ghost use Rattle.directives.specs.Fields.{DirectivesRead};
 ghost use Rattle.directives.specs.Layout.{arrays, vertices, edges, edge_bytes};
 ghost use Rattle.mappings.specs.Computed.{given_to, converted};
 ghost use Rattle.mappings.specs.Converted.{array_bytes, action_for, row_bytes, head_bytes};
@@ -10,8 +8,7 @@ ghost use Rattle.mappings.specs.Tables.{VersionCounts};
 ghost use Rattle.routine.specs.Layout.{header_of};
 ghost use Rattle.converted.specs.Accepted.{Single};
 
-use directives::header::Header;
-use directives::{array, vertex};
+use directives::read::Directives;
 use routine::array::ArrayRecord;
 use routine::header::Header as RoutineHeader;
 use sets::Set;
@@ -42,43 +39,29 @@ fn write_mark(out: &mut [u8])
     out[5] = 0;
 }
 
-// Writes an entry of the contents: a body's offset and count.
-fn write_entry(out: &mut [u8], offset: usize, count: usize)
-    requires in_bounds { 4 ≤ length out.old }
-    requires offset_bound { (offset < 65536) × (count < 65536) }
-    ensures { out.new ≡ wrote out.old (bytes16 offset ++ bytes16 count) }
-{
-    out[0] = (offset % 256) as u8;
-    out[1] = (offset / 256) as u8;
-    out[2] = (count % 256) as u8;
-    out[3] = (count / 256) as u8;
-}
-
 // The header of the routine: arrays, vertices and edges keep their numbers.
-pub fn header_of(file: &[u8], h: Header) -> RoutineHeader
-    requires { DirectivesRead file.now h }
-    ensures { result ≡ header_of (converted file.now) }
+pub fn header_of(directives: &Directives) -> RoutineHeader
+    ensures { result ≡ header_of (converted directives.now.bytes) }
 {
     RoutineHeader {
-        arrays: h.arrays,
-        vertices: h.vertices,
-        edges: h.edges,
+        arrays: directives.arrays(),
+        vertices: directives.vertices(),
+        edges: directives.edges(),
     }
 }
 
 // Writes mark, edition and contents.
-fn write_head(file: &[u8], h: Header, out: &mut [u8])
-    requires directives_read { DirectivesRead file.now h }
+fn write_head(directives: &Directives, out: &mut [u8])
     requires in_bounds { 18 ≤ length out.old }
-    ensures { out.new ≡ wrote out.old (head_bytes file.now (given_to file.now)) }
+    ensures { out.new ≡ wrote out.old (head_bytes directives.now.bytes (given_to directives.now.bytes)) }
 {
-    let r = header_of(file, h);
+    let r = header_of(directives);
     let rows_at = r.actions_at();
     let edges_at = r.edges_at();
     write_mark(out);
-    write_entry(&mut out[MARK..], RoutineHeader::SIZE, r.arrays);
-    write_entry(&mut out[MARK + ENTRY..], rows_at, r.vertices);
-    write_entry(&mut out[MARK + 2 * ENTRY..], edges_at, r.edges);
+    words::write_pair(&mut out[MARK..], RoutineHeader::SIZE, r.arrays);
+    words::write_pair(&mut out[MARK + ENTRY..], rows_at, r.vertices);
+    words::write_pair(&mut out[MARK + 2 * ENTRY..], edges_at, r.edges);
 }
 
 // Writes a record: kind, number of versions, initial version 0, zero.
@@ -93,96 +76,80 @@ fn write_record(out: &mut [u8], kind: u8, versions: u8)
 }
 
 // Writes the records of all arrays.
-fn write_arrays(file: &[u8], h: Header, counts: &[u8], out: &mut [u8])
-    requires directives_read { DirectivesRead file.now h }
-    requires version_counts { VersionCounts file.now counts.now }
-    requires file_in_bounds { 4 * arrays file.now ≤ length out.old }
+fn write_arrays(directives: &Directives, counts: &[u8], out: &mut [u8])
+    requires version_counts { VersionCounts directives.now.bytes counts.now }
+    requires file_in_bounds { 4 * arrays directives.now.bytes ≤ length out.old }
     ensures { out.new
-        ≡ wrote out.old (rows (array_bytes file.now (given_to file.now)) (arrays file.now)) }
+        ≡ wrote out.old (rows (array_bytes directives.now.bytes (given_to directives.now.bytes)) (arrays directives.now.bytes)) }
 {
-    let m = h.arrays;
-    let mut a = 0;
-    while a < m {
+    for a in 0..directives.arrays() {
         let at = ArrayRecord::SIZE * a;
-        write_record(&mut out[at..], array::kind(file, h, a), counts[a]);
-        a += 1;
+        write_record(&mut out[at..], directives.kind(a), counts[a]);
     }
 }
 
 // The action byte of array a at vertex v: a remapping where the directive gives it a version, else the byte of the file.
-fn action(file: &[u8], h: Header, a: usize, v: usize, given: &[Set]) -> u8
-    requires directives_read { DirectivesRead file.now h }
-    requires a_bound { a < arrays file.now }
-    requires v_bound { v < vertices file.now }
-    requires single { Single file.now given.now }
-    ensures { result ≡ action_for file.now (given_to file.now) a v (given_to file.now a v) }
+fn action(directives: &Directives, a: usize, v: usize, given: &[Set]) -> u8
+    requires a_bound { a < arrays directives.now.bytes }
+    requires v_bound { v < vertices directives.now.bytes }
+    requires single { Single directives.now.bytes given.now }
+    ensures { result ≡ action_for directives.now.bytes (given_to directives.now.bytes) a v (given_to directives.now.bytes a v) }
 {
     let at = flow::COLUMNS * v + a;
-    let version = given[at];
-    if version == 0 {
-        return vertex::reference(file, h, v, a);
+    match given[at] {
+        0 => directives.reference(v, a),
+        version => REMAP + sets::lowest(version),
     }
-    REMAP + sets::lowest(version)
 }
 
 // Writes the row of vertex v.
-fn write_row(file: &[u8], h: Header, v: usize, given: &[Set], out: &mut [u8])
-    requires directives_read { DirectivesRead file.now h }
-    requires v_bound { v < vertices file.now }
-    requires single { Single file.now given.now }
-    requires file_in_bounds { arrays file.now ≤ length out.old }
-    ensures { out.new ≡ wrote out.old (row_bytes file.now (given_to file.now) v) }
+fn write_row(directives: &Directives, v: usize, given: &[Set], out: &mut [u8])
+    requires v_bound { v < vertices directives.now.bytes }
+    requires single { Single directives.now.bytes given.now }
+    requires file_in_bounds { arrays directives.now.bytes ≤ length out.old }
+    ensures { out.new ≡ wrote out.old (row_bytes directives.now.bytes (given_to directives.now.bytes) v) }
 {
-    let m = h.arrays;
-    let mut a = 0;
-    while a < m {
-        out[a] = action(file, h, a, v, given);
-        a += 1;
+    for a in 0..directives.arrays() {
+        out[a] = action(directives, a, v, given);
     }
 }
 
 // Writes all rows.
-fn write_rows(file: &[u8], h: Header, given: &[Set], out: &mut [u8])
-    requires directives_read { DirectivesRead file.now h }
-    requires single { Single file.now given.now }
-    requires file_in_bounds { vertices file.now * arrays file.now ≤ length out.old }
+fn write_rows(directives: &Directives, given: &[Set], out: &mut [u8])
+    requires single { Single directives.now.bytes given.now }
+    requires file_in_bounds { vertices directives.now.bytes * arrays directives.now.bytes ≤ length out.old }
     ensures { out.new
-        ≡ wrote out.old (rows (row_bytes file.now (given_to file.now)) (vertices file.now)) }
+        ≡ wrote out.old (rows (row_bytes directives.now.bytes (given_to directives.now.bytes)) (vertices directives.now.bytes)) }
 {
-    let n = h.vertices;
-    let mut v = 0;
-    while v < n {
-        let at = v * h.arrays;
-        write_row(file, h, v, given, &mut out[at..]);
-        v += 1;
+    let arrays = directives.arrays();
+    for v in 0..directives.vertices() {
+        let at = v * arrays;
+        write_row(directives, v, given, &mut out[at..]);
     }
 }
 
 // Writes the edges, which are the file's.
-fn write_edges(file: &[u8], h: Header, out: &mut [u8])
-    requires directives_read { DirectivesRead file.now h }
-    requires file_in_bounds { 4 * edges file.now ≤ length out.old }
-    ensures { out.new ≡ wrote out.old (edge_bytes file.now) }
+fn write_edges(directives: &Directives, out: &mut [u8])
+    requires file_in_bounds { 4 * edges directives.now.bytes ≤ length out.old }
+    ensures { out.new ≡ wrote out.old (edge_bytes directives.now.bytes) }
 {
-    let from = h.edges_at();
-    words::bytes::copy(&file[from..], out);
+    words::bytes::copy(directives.edge_bytes(), out);
 }
 
 // Writes the routine, and returns its length.
-pub fn write(file: &[u8], h: Header, given: &[Set], counts: &[u8], out: &mut [u8]) -> usize
-    requires directives_read { DirectivesRead file.now h }
-    requires single { Single file.now given.now }
-    requires version_counts { VersionCounts file.now counts.now }
+pub fn write(directives: &Directives, given: &[Set], counts: &[u8], out: &mut [u8]) -> usize
+    requires single { Single directives.now.bytes given.now }
+    requires version_counts { VersionCounts directives.now.bytes counts.now }
     requires in_bounds { 6194 ≤ length out.old }
-    ensures value { result ≡ length (converted file.now) }
-    ensures out_after { out.new ≡ wrote out.old (converted file.now) }
+    ensures value { result ≡ length (converted directives.now.bytes) }
+    ensures out_after { out.new ≡ wrote out.old (converted directives.now.bytes) }
 {
-    let r = header_of(file, h);
+    let r = header_of(directives);
     let rows_at = r.actions_at();
     let edges_at = r.edges_at();
-    write_head(file, h, out);
-    write_arrays(file, h, counts, &mut out[RoutineHeader::SIZE..]);
-    write_rows(file, h, given, &mut out[rows_at..]);
-    write_edges(file, h, &mut out[edges_at..]);
+    write_head(directives, out);
+    write_arrays(directives, counts, &mut out[RoutineHeader::SIZE..]);
+    write_rows(directives, given, &mut out[rows_at..]);
+    write_edges(directives, &mut out[edges_at..]);
     r.end_at()
 }

@@ -2,7 +2,6 @@
 // refusal, a read that fails and a write that fails have a line on standard error too.
 #![tactic(auto)]
 
-use refusal::Reply;
 use std::io;
 
 // More than the longest directive file, which has 9,334 bytes: a byte too many is seen, and no later one matters.
@@ -11,21 +10,16 @@ const FILE: usize = 9335;
 // The longest routine file.
 const ROUTINE: usize = 6194;
 
-// A refusal, on standard error and then on standard output.
-fn print_refusal(rt: &HostRuntime, reply: Reply) -> io::Result<()> {
-    let mut line = [0u8; streams::ROOM];
-    let told = streams::put_refusal(&mut line, b"converter: refused ", reply);
-    let _ = rt.stderr().write_all(&line[..told]);
-    let n = listing::outcome(&mut line, reply);
-    rt.write_all(&line[..n])
-}
-
 fn convert_file(rt: &HostRuntime, file: &[u8], out: &mut [u8]) -> io::Result<()> {
-    let reply = convert::convert(file, out);
-    if let Reply::Written(n) = reply {
-        return rt.write_all(&out[..n]);
+    match convert::convert(file, out) {
+        Ok(n) => rt.write_all(&out[..n]),
+        Err(refusal) => streams::print_refusal(
+            &mut rt.stdout(),
+            &mut rt.stderr(),
+            b"converter: refused ",
+            refusal,
+        ),
     }
-    print_refusal(rt, reply)
 }
 
 fn convert_input(rt: &HostRuntime, file: &mut [u8], out: &mut [u8]) -> io::Result<()> {

@@ -1,5 +1,6 @@
 -- Demand 3 for every accepted file and path: all arrays at once, along the whole path.
 -- Assumes nothing.
+use Rattle.std.specs.Prelude.{Ok}
 use mathlib.Core.Path.{◌≡◌, refl, sym, ap, subst, ◌∙◌}
 use mathlib.Core.Bool.{true, cond}
 use mathlib.Core.List.{List}
@@ -25,7 +26,6 @@ use Rattle.labels.proofs.Rules.Proper.{proper}
 use Rattle.routine.specs.Actions.{is_reference, is_remap}
 use Rattle.routine.specs.Layout.{arrays, vertices, exit}
 use Rattle.routine.specs.Reader.{WellFormed}
-use Rattle.refusal.specs.declared.Verdict.TheVariants.{Passed}
 use Rattle.routine.specs.declared.action.Action.{Action}
 use Rattle.routine.specs.declared.action.Action.TheVariants.{Nothing, Reference, Remap, Unknown}
 use Rattle.routine.specs.declared.array.ArrayRecord.{ArrayRecord}
@@ -115,7 +115,7 @@ module _ {file path : List ℕ} (walk : Walk file path) (a : ℕ) where
 
 -- ---- the whole
 
-module _ (file path : List ℕ) (w : WellFormed file) (accepted : path_check file path ≡ Passed) where
+module _ (file path : List ℕ) (w : WellFormed file) (accepted : path_check file path ≡ Ok tt) where
   walks : Walk file path
   walks = walk w accepted
 
@@ -123,7 +123,7 @@ module _ (file path : List ℕ) (w : WellFormed file) (accepted : path_check fil
   plans a l = sound (proper file w a l)
 
   -- the caller's copy of an in argument, which no vertex writes
-  callers : check20 file ≡ Passed → (a : ℕ) → a < arrays file → vertex_at path (steps path - 1) ≡ exit file → T (is_in (kind file a)) → IsCallers file path a
+  callers : check20 file ≡ Ok tt → (a : ℕ) → a < arrays file → vertex_at path (steps path - 1) ≡ exit file → T (is_in (kind file a)) → IsCallers file path a
   unfolding writes_in event
   callers unwritten a l e own =
       let none : (v : ℕ) → v < vertices file → T (is_write (event file a v)) → ⊥ =
@@ -137,7 +137,7 @@ module _ (file path : List ℕ) (w : WellFormed file) (accepted : path_check fil
       (λ i h. ⊎_elim (λ d. absurd (unwritten_d file a (proper file w a l) (vertex_at path i) none d)) (λ d. d) (D_or_not (use_of file a (vertex_at path i))))
       (exit_quiet (proper file w a l) w l (is_true _ own)) (steps path - 1) (omega arith) e)
 
-  pub demand3 : check20 file ≡ Passed → Demand3 file path
+  pub demand3 : check20 file ≡ Ok tt → Demand3 file path
   unfolding run_records machine_records
   demand3 unwritten =
       record {

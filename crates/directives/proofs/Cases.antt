@@ -1,5 +1,6 @@
 -- Check 40 of the example of docs/DIRECTIVES.md and of files that differ from it in a byte or two, computed from the definitions.
 -- Assumes nothing.
+use Rattle.std.specs.Prelude.{Ok, Err}
 use mathlib.Core.Path.{◌≡◌, refl}
 use mathlib.Core.List.{List, [], ◌∷◌, ◌++◌}
 use Prim.Native.Nat.{ℕ}
@@ -7,8 +8,7 @@ use lib.ListN.{set, take}
 use Rattle.words.specs.Tables.{rows}
 use Rattle.words.specs.Words.{word}
 use Rattle.refusal.specs.declared.Refusal.TheVariants.{MalformedDirectives}
-use Rattle.refusal.specs.declared.Verdict.{Verdict}
-use Rattle.refusal.specs.declared.Verdict.TheVariants.{Passed, Failed}
+use Rattle.refusal.specs.Checks.{Verdict}
 use Rattle.routine.specs.Actions.{action_of}
 use Rattle.directives.specs.Fields.{in_order, mark_fields, contents_fields, head_fields, dimension_fields, spread_fields, array_fields, vertex_fields, rises, edge_fields, fields, check40}
 
@@ -27,9 +27,9 @@ example =
 
 -- the first bad byte
 abbrev at : ℕ → Verdict
-at byte = Failed (MalformedDirectives byte)
+at byte = Err (MalformedDirectives byte)
 
-right : check40 example ≡ Passed
+right : check40 example ≡ Ok tt
 unfolding check40 fields in_order head_fields mark_fields contents_fields spread_fields dimension_fields array_fields vertex_fields rises edge_fields rows word action_of
 right = refl
 

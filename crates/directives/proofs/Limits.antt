@@ -1,5 +1,6 @@
 -- A file whose head passes is within the limits, and so is one that check 40 passes.
 -- Assumes nothing.
+use Rattle.std.specs.Prelude.{Ok}
 use mathlib.Core.Path.{◌≡◌, refl, sym, subst}
 use mathlib.Core.Bool.{true}
 use mathlib.Core.List.{List}
@@ -7,10 +8,10 @@ use Prim.Native.Nat.{ℕ, ◌≤◌}
 use borrow.Author.Tests.{leb-true}
 use lib.Dec.{leb}
 use Rattle.words.proofs.Tests.{and_left, and_right}
-use Rattle.refusal.specs.declared.Verdict.TheVariants.{Passed}
 use Rattle.routine.specs.Layout.{within}
 use Rattle.directives.specs.Fields.{in_order, mark_fields, contents_fields, head_fields, body_fields, fields, check40, DirectivesRead}
 use Rattle.directives.specs.Layout.{templates, arrays, vertices, edges, header_of, Limits, Heads}
+use Rattle.directives.specs.Read.{ReadFile}
 use Rattle.directives.specs.declared.header.Header.{Header}
 use Rattle.directives.proofs.Fields.{passed_front, passed_right_here, behind}
 
@@ -18,7 +19,7 @@ within_limits : (low high n : ℕ) → within low high n ≡ true → (low ≤ n
 within_limits low high n e = (leb-true low n (and_left (leb low n) (leb n high) e), leb-true n high (and_right (leb low n) (leb n high) e))
 
 module _ (file : List ℕ) where
-  pub limits : in_order file (head_fields file) ≡ Passed → Limits file
+  pub limits : in_order file (head_fields file) ≡ Ok tt → Limits file
   unfolding head_fields mark_fields contents_fields
   limits e =
       let t = within_limits 1 8 (templates file) (passed_right_here file _ _ (behind file 6 (head_fields file) e)) in
@@ -39,9 +40,12 @@ module _ (file : List ℕ) where
   heads l = record { limits = l; templates_are = refl; arrays_are = refl; vertices_are = refl; edges_are = refl }
 
   -- what the reading functions ask, of a file that check 40 passes
-  pub passed_heads : check40 file ≡ Passed → Heads (header_of file) file
+  pub passed_heads : check40 file ≡ Ok tt → Heads (header_of file) file
   unfolding check40 fields
   passed_heads e = heads (limits (passed_front file (head_fields file) (body_fields file) e))
 
 pub read_heads : {file : List ℕ} {h : Header} → DirectivesRead file h → Heads h file
 read_heads {file} is = subst (λ (h : Header). Heads h file) (sym is.header) (passed_heads file is.passed)
+
+pub read_limits : (d : ReadFile) → Limits d.bytes
+read_limits d = (passed_heads d.bytes d.passed).limits

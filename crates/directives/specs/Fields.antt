@@ -1,13 +1,11 @@
 -- docs/DIRECTIVES.md and refusal 40: the file is one list of fields, read from front to back. The first that the file ends in gives the
 -- file's length, the first that is wrong its first byte.
 -- Assumes nothing.
-use Rattle.std.specs.Prelude.{◌≡◌, Bool, true, not, ◌&&◌, ◌||◌, cond, List, [], ◌∷◌, ◌++◌, ℕ, zero, suc, ◌+◌, eqb, leb, ltb, length, get_or}
+use Rattle.std.specs.Prelude.{◌≡◌, Bool, true, not, ◌&&◌, ◌||◌, cond, List, [], ◌∷◌, ◌++◌, ℕ, zero, suc, ◌+◌, eqb, leb, ltb, length, get_or, Ok}
 use Rattle.words.specs.Tables.{rows}
 use Rattle.words.specs.Words.{word}
-use Rattle.refusal.specs.Checks.{◌and_then◌, holds}
+use Rattle.refusal.specs.Checks.{◌and_then◌, holds, Verdict}
 use Rattle.refusal.specs.declared.Refusal.TheVariants.{MalformedDirectives}
-use Rattle.refusal.specs.declared.Verdict.{Verdict}
-use Rattle.refusal.specs.declared.Verdict.TheVariants.{Passed}
 use Rattle.routine.specs.Actions.{action_of, is_reference}
 use Rattle.routine.specs.Edges.{before}
 use Rattle.routine.specs.Layout.{within}
@@ -38,7 +36,7 @@ field_check file f =
 
 -- the first field that fails
 unfoldable pub in_order : List ℕ → List Field → Verdict
-in_order file [] = Passed
+in_order file [] = (Ok tt)
 in_order file (f ∷ fs) = field_check file f and_then in_order file fs
 
 -- ---- head
@@ -202,5 +200,5 @@ check40 file = in_order file (fields file)
 
 -- ---- how the code keeps it: a file that 40 passes, and its header
 pub record DirectivesRead (file : List ℕ) (h : Header) : Type 0 where
-  pub passed : check40 file ≡ Passed
+  pub passed : check40 file ≡ Ok tt
   pub header : h ≡ header_of file

@@ -1,3 +1,4 @@
 pub mod Directives
 pub mod Fields
 pub mod Layout
+pub mod Read

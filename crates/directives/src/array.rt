@@ -3,18 +3,18 @@ ghost use Rattle.std.specs.Prelude.{◌≡◌, ◌+◌, ◌≤◌, ◌<◌, get_
 ghost use Rattle.words.specs.Tables.{rows};
 ghost use Rattle.directives.specs.Directives.{alignment_at};
 ghost use Rattle.directives.specs.Fields.{in_order, array_fields};
-ghost use Rattle.directives.specs.Layout.{arrays, array_at, longest, Heads};
+ghost use Rattle.directives.specs.Layout.{arrays, array_at, longest};
 
 use crate::field;
-use crate::header::Header;
-use refusal::Verdict;
+use crate::laid::Laid;
+use refusal::Refusal;
 use routine::array::ArrayRecord;
 
-// With a template, straight (0) or with the two dimensions exchanged (1).
-#[derive(Clone, Copy)]
+// With a template, straight or with the two dimensions exchanged.
+#[derive(Clone, Copy, Debug, PartialEq, Eq)]
 pub struct Alignment {
     pub template: usize,
-    pub exchanged: usize,
+    pub exchanged: bool,
 }
 
 // The alignment that starts at `at`.
@@ -24,66 +24,55 @@ pub fn alignment_at(file: &[u8], at: usize) -> Alignment
 {
     Alignment {
         template: field::byte_at(file, at),
-        exchanged: field::byte_at(file, at + 1),
+        exchanged: field::byte_at(file, at + 1) == 1,
     }
 }
 
 // Where array a stands.
-fn place(file: &[u8], h: Header, a: usize) -> usize
-    requires heads { Heads h file.now }
-    requires a_bound { a < arrays file.now }
-    ensures value { result ≡ array_at file.now a }
+fn place(laid: &Laid, a: usize) -> usize
+    requires { a < arrays laid.now.bytes }
+    ensures value { result ≡ array_at laid.now.bytes a }
     ensures result_bound { result + 4 ≤ longest }
 {
-    h.arrays_at() + ArrayRecord::SIZE * a
+    laid.arrays_at() + ArrayRecord::SIZE * a
 }
 
 // The kind of array a.
-pub fn kind(file: &[u8], h: Header, a: usize) -> u8
-    requires heads { Heads h file.now }
-    requires a_bound { a < arrays file.now }
-    ensures { result ≡ get_or file.now (array_at file.now a) 0 }
+pub fn kind(laid: &Laid, a: usize) -> u8
+    requires { a < arrays laid.now.bytes }
+    ensures { result ≡ get_or laid.now.bytes (array_at laid.now.bytes a) 0 }
 {
-    field::byte_at(file, place(file, h, a)) as u8
+    laid.byte_at(place(laid, a)) as u8
 }
 
 // The alignment with which array a starts.
-pub fn initial_alignment(file: &[u8], h: Header, a: usize) -> Alignment
-    requires heads { Heads h file.now }
-    requires a_bound { a < arrays file.now }
-    ensures { result ≡ alignment_at file.now (array_at file.now a + 1) }
+pub fn initial_alignment(laid: &Laid, a: usize) -> Alignment
+    requires { a < arrays laid.now.bytes }
+    ensures { result ≡ alignment_at laid.now.bytes (array_at laid.now.bytes a + 1) }
 {
-    alignment_at(file, place(file, h, a) + 1)
+    alignment_at(laid.bytes(), place(laid, a) + 1)
 }
 
-fn check(file: &[u8], h: Header, a: usize) -> Verdict
-    requires heads { Heads h file.now }
-    requires a_bound { a < arrays file.now }
-    ensures { result ≡ in_order file.now (array_fields file.now a) }
+fn check(laid: &Laid, a: usize) -> Result<(), Refusal>
+    requires { a < arrays laid.now.bytes }
+    ensures { result ≡ in_order laid.now.bytes (array_fields laid.now.bytes a) }
 {
-    let at = place(file, h, a);
-    let kind = field::byte_at(file, at);
-    let template = field::byte_at(file, at + 1);
-    let exchanged = field::byte_at(file, at + 2);
-    let zero = field::byte_at(file, at + 3);
-    field::check(file, at, 1, kind <= ArrayRecord::INOUT as usize)
-        .and_then(field::check(file, at + 1, 1, template < h.templates))
-        .and_then(field::check(file, at + 2, 1, exchanged <= 1))
-        .and_then(field::check(file, at + 3, 1, zero == 0))
+    let at = place(laid, a);
+    let kind = laid.byte_at(at);
+    let template = laid.byte_at(at + 1);
+    let exchanged = laid.byte_at(at + 2);
+    let zero = laid.byte_at(at + 3);
+    laid.check(at, 1, kind <= ArrayRecord::INOUT as usize)?;
+    laid.check(at + 1, 1, template < laid.templates())?;
+    laid.check(at + 2, 1, exchanged <= 1)?;
+    laid.check(at + 3, 1, zero == 0)
 }
 
-pub fn check_all(file: &[u8], h: Header) -> Verdict
-    requires { Heads h file.now }
-    ensures { result ≡ in_order file.now (rows (array_fields file.now) (arrays file.now)) }
+pub fn check_all(laid: &Laid) -> Result<(), Refusal>
+    ensures { result ≡ in_order laid.now.bytes (rows (array_fields laid.now.bytes) (arrays laid.now.bytes)) }
 {
-    let n = h.arrays;
-    let mut a = 0;
-    while a < n {
-        let verdict = check(file, h, a);
-        if let Verdict::Failed(_) = verdict {
-            return verdict;
-        }
-        a += 1;
+    for a in 0..laid.arrays() {
+        check(laid, a)?;
     }
-    Verdict::Passed
+    Ok(())
 }

@@ -2,75 +2,64 @@
 ghost use Rattle.std.specs.Prelude.{◌≡◌, ◌+◌, ◌≤◌, ◌<◌};
 ghost use Rattle.words.specs.Tables.{rows};
 ghost use Rattle.directives.specs.Fields.{in_order, edge_of, rises, edge_fields};
-ghost use Rattle.directives.specs.Layout.{edges, edge_at, longest, Heads};
+ghost use Rattle.directives.specs.Layout.{edges, edge_at, longest};
 
-use crate::field;
-use crate::header::Header;
-use refusal::Verdict;
+use crate::laid::Laid;
+use refusal::Refusal;
 use routine::edge::Edge;
 
 // Where edge i stands.
-fn place(file: &[u8], h: Header, i: usize) -> usize
-    requires heads { Heads h file.now }
-    requires i_bound { i < edges file.now }
-    ensures value { result ≡ edge_at file.now i }
+fn place(laid: &Laid, i: usize) -> usize
+    requires { i < edges laid.now.bytes }
+    ensures value { result ≡ edge_at laid.now.bytes i }
     ensures result_bound { result + 4 ≤ longest }
 {
-    h.edges_at() + Edge::SIZE * i
+    laid.edges_at() + Edge::SIZE * i
 }
 
 // Edge i.
-pub fn at(file: &[u8], h: Header, i: usize) -> Edge
-    requires heads { Heads h file.now }
-    requires i_bound { i < edges file.now }
-    ensures { result ≡ edge_of file.now i }
+pub fn at(laid: &Laid, i: usize) -> Edge
+    requires { i < edges laid.now.bytes }
+    ensures { result ≡ edge_of laid.now.bytes i }
 {
-    let at = place(file, h, i);
+    let at = place(laid, i);
     Edge {
-        from: field::word_at(file, at),
-        to: field::word_at(file, at + 2),
+        from: laid.word_at(at),
+        to: laid.word_at(at + 2),
     }
 }
 
 // Whether edge i stands behind the one before it.
-fn rises_at(file: &[u8], h: Header, i: usize) -> bool
-    requires heads { Heads h file.now }
-    requires i_bound { i < edges file.now }
-    ensures { result ≡ rises file.now i }
+fn rises_at(laid: &Laid, i: usize) -> bool
+    requires { i < edges laid.now.bytes }
+    ensures { result ≡ rises laid.now.bytes i }
 {
     if i == 0 {
         return true;
     }
-    at(file, h, i - 1).is_before(at(file, h, i))
+    at(laid, i - 1).is_before(at(laid, i))
 }
 
 // From, to, order.
-fn check(file: &[u8], h: Header, i: usize) -> Verdict
-    requires heads { Heads h file.now }
-    requires i_bound { i < edges file.now }
-    ensures { result ≡ in_order file.now (edge_fields file.now i) }
+fn check(laid: &Laid, i: usize) -> Result<(), Refusal>
+    requires { i < edges laid.now.bytes }
+    ensures { result ≡ in_order laid.now.bytes (edge_fields laid.now.bytes i) }
 {
-    let from_at = place(file, h, i);
+    let from_at = place(laid, i);
     let to_at = from_at + 2;
-    let from = field::word_at(file, from_at);
-    let to = field::word_at(file, to_at);
-    field::check(file, from_at, 2, from < h.vertices - 1)
-        .and_then(field::check(file, to_at, 2, (0 < to) & (to < h.vertices)))
-        .and_then(field::check(file, from_at, 4, rises_at(file, h, i)))
+    let vertices = laid.vertices();
+    let from = laid.word_at(from_at);
+    let to = laid.word_at(to_at);
+    laid.check(from_at, 2, from < vertices - 1)?;
+    laid.check(to_at, 2, (0 < to) & (to < vertices))?;
+    laid.check(from_at, 4, rises_at(laid, i))
 }
 
-pub fn check_all(file: &[u8], h: Header) -> Verdict
-    requires { Heads h file.now }
-    ensures { result ≡ in_order file.now (rows (edge_fields file.now) (edges file.now)) }
+pub fn check_all(laid: &Laid) -> Result<(), Refusal>
+    ensures { result ≡ in_order laid.now.bytes (rows (edge_fields laid.now.bytes) (edges laid.now.bytes)) }
 {
-    let n = h.edges;
-    let mut i = 0;
-    while i < n {
-        let verdict = check(file, h, i);
-        if let Verdict::Failed(_) = verdict {
-            return verdict;
-        }
-        i += 1;
+    for i in 0..laid.edges() {
+        check(laid, i)?;
     }
-    Verdict::Passed
+    Ok(())
 }

@@ -6,12 +6,12 @@ ghost use Rattle.directives.specs.Layout.{header_of, longest, Counts};
 use crate::field;
 use crate::spread::Mapping;
 use crate::vertex::Directive;
-use refusal::Verdict;
+use refusal::Refusal;
 use routine::array::ArrayRecord;
 use routine::edge::Edge;
 
 // How many templates, arrays, vertices and edges the file has.
-#[derive(Clone, Copy)]
+#[derive(Clone, Copy, Debug, PartialEq, Eq)]
 pub struct Header {
     pub templates: usize,
     pub arrays: usize,
@@ -69,7 +69,7 @@ impl Header {
 }
 
 // A byte that is given.
-fn check_letter(file: &[u8], at: usize, letter: u8) -> Verdict
+fn check_letter(file: &[u8], at: usize, letter: u8) -> Result<(), Refusal>
     requires { at ≤ longest }
     ensures { result ≡ field_check file.now (byte_field file.now at (λ b. eqb b letter)) }
 {
@@ -77,35 +77,42 @@ fn check_letter(file: &[u8], at: usize, letter: u8) -> Verdict
 }
 
 // The mark, `HPFD`, and the edition.
-fn check_mark(file: &[u8]) -> Verdict
+fn check_mark(file: &[u8]) -> Result<(), Refusal>
     ensures { result ≡ in_order file.now (mark_fields file.now) }
 {
-    check_letter(file, 0, b'H')
-        .and_then(check_letter(file, 1, b'P'))
-        .and_then(check_letter(file, 2, b'F'))
-        .and_then(check_letter(file, 3, b'D'))
-        .and_then(field::check(file, 4, 2, field::word_at(file, 4) == 1))
+    check_letter(file, 0, b'H')?;
+    check_letter(file, 1, b'P')?;
+    check_letter(file, 2, b'F')?;
+    check_letter(file, 3, b'D')?;
+    field::check(file, 4, 2, field::word_at(file, 4) == 1)
 }
 
 // An entry of the table of contents: a body's offset, then its count within limits.
-fn check_contents(file: &[u8], at: usize, offset: usize, low: usize, high: usize) -> Verdict
+fn check_contents(
+    file: &[u8],
+    at: usize,
+    offset: usize,
+    low: usize,
+    high: usize,
+) -> Result<(), Refusal>
     requires { at ≤ 18 }
     ensures { result ≡ in_order file.now (contents_fields file.now at offset low high) }
 {
     let follows = field::word_at(file, at) == offset;
     let count = field::word_at(file, at + 2);
     let within = (low <= count) & (count <= high);
-    field::check(file, at, 2, follows).and_then(field::check(file, at + 2, 2, within))
+    field::check(file, at, 2, follows)?;
+    field::check(file, at + 2, 2, within)
 }
 
 // Mark and edition; templates 1 to 8, arrays 1 to 8, vertices 2 to 256, edges 0 to 1,024.
-pub fn check(file: &[u8]) -> Verdict
+pub fn check(file: &[u8]) -> Result<(), Refusal>
     ensures { result ≡ in_order file.now (head_fields file.now) }
 {
     let h = Header::of(file);
-    check_mark(file)
-        .and_then(check_contents(file, 6, Header::SIZE, 1, 8))
-        .and_then(check_contents(file, 10, h.arrays_at(), 1, 8))
-        .and_then(check_contents(file, 14, h.vertices_at(), 2, 256))
-        .and_then(check_contents(file, 18, h.edges_at(), 0, 1024))
+    check_mark(file)?;
+    check_contents(file, 6, Header::SIZE, 1, 8)?;
+    check_contents(file, 10, h.arrays_at(), 1, 8)?;
+    check_contents(file, 14, h.vertices_at(), 2, 256)?;
+    check_contents(file, 18, h.edges_at(), 0, 1024)
 }

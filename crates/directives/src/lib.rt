@@ -5,6 +5,8 @@ pub mod array;
 pub mod edge;
 pub mod field;
 pub mod header;
+pub mod laid;
+pub mod read;
 pub mod reader;
 pub mod spread;
 pub mod vertex;

@@ -1,33 +1,29 @@
 // Check 40: the file read from front to back.
 ghost use Rattle.std.specs.Prelude.{◌≡◌};
 ghost use Rattle.directives.specs.Fields.{in_order, end_fields, check40};
-ghost use Rattle.directives.specs.Layout.{Heads};
 
 use crate::header::Header;
-use crate::{array, edge, field, header, spread, vertex};
-use refusal::Verdict;
+use crate::laid::Laid;
+use crate::{array, edge, header, spread, vertex};
+use refusal::Refusal;
 
 // No byte stands behind the last edge.
-fn check_end(file: &[u8], h: Header) -> Verdict
-    requires { Heads h file.now }
-    ensures { result ≡ in_order file.now (end_fields file.now) }
+fn check_end(laid: &Laid) -> Result<(), Refusal>
+    ensures { result ≡ in_order laid.now.bytes (end_fields laid.now.bytes) }
 {
-    let end = h.end_at();
-    field::check(file, end, 0, file.len() <= end)
+    let end = laid.end_at();
+    laid.check(end, 0, laid.bytes().len() <= end)
 }
 
 // The answer for any list of bytes.
-pub fn check(file: &[u8]) -> Verdict
+pub fn check(file: &[u8]) -> Result<(), Refusal>
     ensures { result ≡ check40 file.now }
 {
-    let head = header::check(file);
-    if let Verdict::Failed(_) = head {
-        return head;
-    }
-    let h = Header::of(file);
-    spread::check_templates(file, h)
-        .and_then(array::check_all(file, h))
-        .and_then(vertex::check_all(file, h))
-        .and_then(edge::check_all(file, h))
-        .and_then(check_end(file, h))
+    header::check(file)?;
+    let laid = Laid::new(file, Header::of(file));
+    spread::check_templates(&laid)?;
+    array::check_all(&laid)?;
+    vertex::check_all(&laid)?;
+    edge::check_all(&laid)?;
+    check_end(&laid)
 }

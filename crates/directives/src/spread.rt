@@ -3,14 +3,15 @@ ghost use Rattle.std.specs.Prelude.{◌≡◌, cond, ◌+◌, ◌≤◌, eqb, lt
 ghost use Rattle.words.specs.Tables.{rows};
 ghost use Rattle.directives.specs.Directives.{dimension_at, spread_at};
 ghost use Rattle.directives.specs.Fields.{in_order, dimension_fields, spread_fields, template_fields};
-ghost use Rattle.directives.specs.Layout.{templates, longest, Heads};
+ghost use Rattle.directives.specs.Layout.{templates, longest};
 
 use crate::field;
 use crate::header::Header;
-use refusal::Verdict;
+use crate::laid::Laid;
+use refusal::Refusal;
 
 // Each dimension as it is written: 0 not spread, 1 block, 2 + 256 b cyclic(b).
-#[derive(Clone, Copy)]
+#[derive(Clone, Copy, Debug, PartialEq, Eq)]
 pub struct Mapping {
     pub first: usize,
     pub second: usize,
@@ -47,46 +48,37 @@ pub fn at(file: &[u8], at: usize) -> Mapping
 fn fits_kind(b: usize, kind: usize) -> bool
     ensures { result ≡ cond (eqb kind 2) (ltb 0 b) (eqb b 0) }
 {
-    if kind == CYCLIC {
-        return b > 0;
-    }
-    b == 0
+    if kind == CYCLIC { b > 0 } else { b == 0 }
 }
 
 // A dimension of no kind above `highest`.
-fn check_dimension(file: &[u8], highest: usize, at: usize) -> Verdict
+fn check_dimension(file: &[u8], highest: usize, at: usize) -> Result<(), Refusal>
     requires { at + 4 ≤ longest }
     ensures { result ≡ in_order file.now (dimension_fields file.now highest at) }
 {
     let kind = field::byte_at(file, at);
     let zero = field::byte_at(file, at + 1);
     let b = field::word_at(file, at + 2);
-    field::check(file, at, 1, kind <= highest)
-        .and_then(field::check(file, at + 1, 1, zero == 0))
-        .and_then(field::check(file, at + 2, 2, fits_kind(b, kind)))
+    field::check(file, at, 1, kind <= highest)?;
+    field::check(file, at + 1, 1, zero == 0)?;
+    field::check(file, at + 2, 2, fits_kind(b, kind))
 }
 
 // A spread of no kind above `highest`.
-pub fn check(file: &[u8], highest: usize, at: usize) -> Verdict
+pub fn check(file: &[u8], highest: usize, at: usize) -> Result<(), Refusal>
     requires { at + 8 ≤ longest }
     ensures { result ≡ in_order file.now (spread_fields file.now highest at) }
 {
-    check_dimension(file, highest, at).and_then(check_dimension(file, highest, at + 4))
+    check_dimension(file, highest, at)?;
+    check_dimension(file, highest, at + 4)
 }
 
 // The templates.
-pub fn check_templates(file: &[u8], h: Header) -> Verdict
-    requires { Heads h file.now }
-    ensures { result ≡ in_order file.now (rows (template_fields file.now) (templates file.now)) }
+pub fn check_templates(laid: &Laid) -> Result<(), Refusal>
+    ensures { result ≡ in_order laid.now.bytes (rows (template_fields laid.now.bytes) (templates laid.now.bytes)) }
 {
-    let n = h.templates;
-    let mut t = 0;
-    while t < n {
-        let verdict = check(file, CYCLIC, Header::SIZE + Mapping::SIZE * t);
-        if let Verdict::Failed(_) = verdict {
-            return verdict;
-        }
-        t += 1;
+    for t in 0..laid.templates() {
+        check(laid.bytes(), CYCLIC, Header::SIZE + Mapping::SIZE * t)?;
     }
-    Verdict::Passed
+    Ok(())
 }

@@ -4,17 +4,17 @@ ghost use Rattle.words.specs.Tables.{rows};
 ghost use Rattle.routine.specs.Actions.{action_of, is_reference};
 ghost use Rattle.directives.specs.Directives as D;
 ghost use Rattle.directives.specs.Fields as F;
-ghost use Rattle.directives.specs.Layout.{arrays, vertices, vertex_at, reference_at, longest, Heads};
+ghost use Rattle.directives.specs.Layout.{arrays, vertices, vertex_at, reference_at, longest};
 
 use crate::array::Alignment;
-use crate::header::Header;
+use crate::laid::Laid;
 use crate::spread::Mapping;
-use crate::{array, field, spread};
-use refusal::Verdict;
+use crate::{array, spread};
+use refusal::Refusal;
 use routine::action::Action;
 
 // What a vertex says: nothing, realign an array, or redistribute a template.
-#[derive(Clone, Copy)]
+#[derive(Clone, Copy, Debug, PartialEq, Eq)]
 pub enum Directive {
     Nothing,
     Realign(usize, Alignment),
@@ -26,7 +26,7 @@ impl Directive {
     pub const SIZE: usize = 12;
 }
 
-// Its first byte.
+// Its first byte, as check 40 judges it, which goes by order (`d <= highest`) and meets any byte.
 const NOTHING: usize = 0;
 
 const REALIGN: usize = 1;
@@ -34,144 +34,125 @@ const REALIGN: usize = 1;
 const REDISTRIBUTE: usize = 2;
 
 // Where vertex v stands.
-fn place(file: &[u8], h: Header, v: usize) -> usize
-    requires heads { Heads h file.now }
-    requires v_bound { v < vertices file.now }
-    ensures value { result ≡ vertex_at file.now v }
-    ensures file_bound { result + 12 + arrays file.now ≤ longest }
+fn place(laid: &Laid, v: usize) -> usize
+    requires { v < vertices laid.now.bytes }
+    ensures value { result ≡ vertex_at laid.now.bytes v }
+    ensures file_bound { result + 12 + arrays laid.now.bytes ≤ longest }
 {
-    h.vertices_at() + v * (Directive::SIZE + h.arrays)
+    laid.vertices_at() + v * (Directive::SIZE + laid.arrays())
 }
 
 // What vertex v says.
-pub fn at(file: &[u8], h: Header, v: usize) -> Directive
-    requires heads { Heads h file.now }
-    requires v_bound { v < vertices file.now }
-    ensures { result ≡ D.directive file.now v }
+pub fn at(laid: &Laid, v: usize) -> Directive
+    requires { v < vertices laid.now.bytes }
+    ensures { result ≡ D.directive laid.now.bytes v }
 {
-    let at = place(file, h, v);
-    let d = field::byte_at(file, at);
-    let subject = field::byte_at(file, at + 1);
-    if d == REALIGN {
-        return Directive::Realign(subject, array::alignment_at(file, at + 2));
+    let at = place(laid, v);
+    let d = laid.byte_at(at);
+    let subject = laid.byte_at(at + 1);
+    match d {
+        REALIGN => Directive::Realign(subject, array::alignment_at(laid.bytes(), at + 2)),
+        REDISTRIBUTE => Directive::Redistribute(subject, spread::at(laid.bytes(), at + 4)),
+        _ => Directive::Nothing,
     }
-    if d == REDISTRIBUTE {
-        return Directive::Redistribute(subject, spread::at(file, at + 4));
-    }
-    Directive::Nothing
 }
 
 // The byte of vertex v for array a.
-pub fn reference(file: &[u8], h: Header, v: usize, a: usize) -> u8
-    requires heads { Heads h file.now }
-    requires v_bound { v < vertices file.now }
-    requires a_bound { a < arrays file.now }
-    ensures { result ≡ get_or file.now (reference_at file.now v a) 0 }
+pub fn reference(laid: &Laid, v: usize, a: usize) -> u8
+    requires v_bound { v < vertices laid.now.bytes }
+    requires a_bound { a < arrays laid.now.bytes }
+    ensures { result ≡ get_or laid.now.bytes (reference_at laid.now.bytes v a) 0 }
 {
-    field::byte_at(file, place(file, h, v) + Directive::SIZE + a) as u8
+    laid.byte_at(place(laid, v) + Directive::SIZE + a) as u8
 }
 
 // Whether v is the entry or the exit.
-fn is_entry_or_exit(file: &[u8], h: Header, v: usize) -> bool
-    requires { Heads h file.now }
-    ensures { result ≡ F.is_entry_or_exit file.now v }
+fn is_entry_or_exit(laid: &Laid, v: usize) -> bool
+    ensures { result ≡ F.is_entry_or_exit laid.now.bytes v }
 {
-    (v == 0) | (v == h.vertices - 1)
+    (v == 0) | (v == laid.vertices() - 1)
 }
 
 // How many subjects there are: arrays for a realign, templates for a redistribute, else 0 alone.
-fn subjects(file: &[u8], h: Header, d: usize) -> usize
-    requires { Heads h file.now }
-    ensures { result ≡ F.subjects file.now d }
+fn subjects(laid: &Laid, d: usize) -> usize
+    ensures { result ≡ F.subjects laid.now.bytes d }
 {
-    if d == REALIGN {
-        return h.arrays;
+    match d {
+        REALIGN => laid.arrays(),
+        REDISTRIBUTE => laid.templates(),
+        _ => 1,
     }
-    field::choose(d == REDISTRIBUTE, h.templates, 1)
 }
 
 // Directive, subject, template and exchanged.
-fn check_directive(file: &[u8], h: Header, v: usize) -> Verdict
-    requires heads { Heads h file.now }
-    requires v_bound { v < vertices file.now }
-    ensures { result ≡ F.in_order file.now (F.directive_fields file.now v) }
+fn check_directive(laid: &Laid, v: usize) -> Result<(), Refusal>
+    requires { v < vertices laid.now.bytes }
+    ensures { result ≡ F.in_order laid.now.bytes (F.directive_fields laid.now.bytes v) }
 {
-    let at = place(file, h, v);
-    let d = field::byte_at(file, at);
-    let highest = field::choose(is_entry_or_exit(file, h, v), NOTHING, REDISTRIBUTE);
-    let templates = field::choose(d == REALIGN, h.templates, 1);
-    let exchanges = field::choose(d == REALIGN, 1, 0);
-    let subject = field::byte_at(file, at + 1);
-    let template = field::byte_at(file, at + 2);
-    let exchanged = field::byte_at(file, at + 3);
-    field::check(file, at, 1, d <= highest)
-        .and_then(field::check(file, at + 1, 1, subject < subjects(file, h, d)))
-        .and_then(field::check(file, at + 2, 1, template < templates))
-        .and_then(field::check(file, at + 3, 1, exchanged <= exchanges))
+    let at = place(laid, v);
+    let d = laid.byte_at(at);
+    let highest = if is_entry_or_exit(laid, v) {
+        NOTHING
+    } else {
+        REDISTRIBUTE
+    };
+    let templates = if d == REALIGN { laid.templates() } else { 1 };
+    let exchanges = if d == REALIGN { 1 } else { 0 };
+    let subject = laid.byte_at(at + 1);
+    let template = laid.byte_at(at + 2);
+    let exchanged = laid.byte_at(at + 3);
+    laid.check(at, 1, d <= highest)?;
+    laid.check(at + 1, 1, subject < subjects(laid, d))?;
+    laid.check(at + 2, 1, template < templates)?;
+    laid.check(at + 3, 1, exchanged <= exchanges)
 }
 
 // The spread of a redistribute, else all 0.
-fn check_given(file: &[u8], h: Header, v: usize) -> Verdict
-    requires heads { Heads h file.now }
-    requires v_bound { v < vertices file.now }
-    ensures { result ≡ F.in_order file.now (F.given_fields file.now v) }
+fn check_given(laid: &Laid, v: usize) -> Result<(), Refusal>
+    requires { v < vertices laid.now.bytes }
+    ensures { result ≡ F.in_order laid.now.bytes (F.given_fields laid.now.bytes v) }
 {
-    let at = place(file, h, v);
-    let d = field::byte_at(file, at);
-    let highest = field::choose(d == REDISTRIBUTE, spread::CYCLIC, 0);
-    spread::check(file, highest, at + 4)
+    let at = place(laid, v);
+    let d = laid.byte_at(at);
+    let highest = if d == REDISTRIBUTE { spread::CYCLIC } else { 0 };
+    spread::check(laid.bytes(), highest, at + 4)
 }
 
 // Whether a byte for an array is right: 00, or a reference where one may stand.
 fn is_right(b: u8, free: bool) -> bool
     ensures { result ≡ (eqb b 0 || (is_reference (action_of b) && free)) }
 {
-    (b == 0) | (Action::of(b).is_reference() & free)
+    (b == 0) | (Action::from(b).is_reference() & free)
 }
 
 // A byte for each array.
-fn check_references(file: &[u8], h: Header, v: usize) -> Verdict
-    requires heads { Heads h file.now }
-    requires v_bound { v < vertices file.now }
-    ensures { result ≡ F.in_order file.now (F.reference_fields file.now v) }
+fn check_references(laid: &Laid, v: usize) -> Result<(), Refusal>
+    requires { v < vertices laid.now.bytes }
+    ensures { result ≡ F.in_order laid.now.bytes (F.reference_fields laid.now.bytes v) }
 {
-    let n = h.arrays;
-    let at = place(file, h, v);
-    let free = (field::byte_at(file, at) == NOTHING) & !is_entry_or_exit(file, h, v);
-    let mut a = 0;
-    while a < n {
-        let right = is_right(reference(file, h, v, a), free);
-        let verdict = field::check(file, at + Directive::SIZE + a, 1, right);
-        if let Verdict::Failed(_) = verdict {
-            return verdict;
-        }
-        a += 1;
+    let at = place(laid, v);
+    let free = (laid.byte_at(at) == NOTHING) & !is_entry_or_exit(laid, v);
+    for a in 0..laid.arrays() {
+        let right = is_right(reference(laid, v, a), free);
+        laid.check(at + Directive::SIZE + a, 1, right)?;
     }
-    Verdict::Passed
+    Ok(())
 }
 
-fn check(file: &[u8], h: Header, v: usize) -> Verdict
-    requires heads { Heads h file.now }
-    requires v_bound { v < vertices file.now }
-    ensures { result ≡ F.in_order file.now (F.vertex_fields file.now v) }
+fn check(laid: &Laid, v: usize) -> Result<(), Refusal>
+    requires { v < vertices laid.now.bytes }
+    ensures { result ≡ F.in_order laid.now.bytes (F.vertex_fields laid.now.bytes v) }
 {
-    check_directive(file, h, v)
-        .and_then(check_given(file, h, v))
-        .and_then(check_references(file, h, v))
+    check_directive(laid, v)?;
+    check_given(laid, v)?;
+    check_references(laid, v)
 }
 
-pub fn check_all(file: &[u8], h: Header) -> Verdict
-    requires { Heads h file.now }
-    ensures { result ≡ F.in_order file.now (rows (F.vertex_fields file.now) (vertices file.now)) }
+pub fn check_all(laid: &Laid) -> Result<(), Refusal>
+    ensures { result ≡ F.in_order laid.now.bytes (rows (F.vertex_fields laid.now.bytes) (vertices laid.now.bytes)) }
 {
-    let n = h.vertices;
-    let mut v = 0;
-    while v < n {
-        let verdict = check(file, h, v);
-        if let Verdict::Failed(_) = verdict {
-            return verdict;
-        }
-        v += 1;
+    for v in 0..laid.vertices() {
+        check(laid, v)?;
     }
-    Verdict::Passed
+    Ok(())
 }

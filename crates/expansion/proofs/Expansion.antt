@@ -1,5 +1,6 @@
 -- What the answer of `expand` tells: a refusal, or the expanded routine at the front of the buffer.
 -- Assumes nothing.
+use Rattle.std.specs.Prelude.{Ok, Err}
 use mathlib.Core.Path.{◌≡◌, sym, ap₂, ◌∙◌}
 use mathlib.Core.List.{List}
 use Prim.Native.Nat.{ℕ, ◌+◌, ◌*◌, ◌≤◌}
@@ -14,26 +15,24 @@ use Rattle.expansion.specs.Expansion.{Expansion}
 use Rattle.expansion.specs.declared.Expanded.{Expanded}
 use Rattle.labels.specs.Routines.{ReadAs}
 use Rattle.refusal.specs.declared.Refusal.{Refusal}
-use Rattle.refusal.specs.declared.Verdict.TheVariants.{Passed, Failed}
 use Rattle.routine.proofs.Accepted.{answered_passed, answered_failed}
 use Rattle.routine.proofs.Form.{heads, few_actions}
 use Rattle.routine.specs.Layout.{header_of}
 use Rattle.routine.specs.Reader.{WellFormed, read_check}
 use Rattle.routine.specs.declared.header.Header.{Header}
-use Rattle.routine.specs.declared.reader.Answer.TheVariants.{Routine, Refused}
 
 module _ {file : List ℕ} {result : Expanded} {after : List ℕ} (x : Expansion file result after) where
-  pub calls_failed : {r : Refusal} → result.answer ≡ Refused r → calls_check file ≡ Failed r
+  pub calls_failed : {r : Refusal} → result.answer ≡ Err r → calls_check file ≡ Err r
   calls_failed e = answered_failed (calls_check file) (header_of (expanded file)) (sym x.answers ∙ e)
 
-  module _ {h : Header} (e : result.answer ≡ Routine h) where
-    passed : (calls_check file ≡ Passed) × (h ≡ header_of (expanded file))
+  module _ {h : Header} (e : result.answer ≡ Ok h) where
+    passed : (calls_check file ≡ Ok tt) × (h ≡ header_of (expanded file))
     passed = answered_passed (calls_check file) (header_of (expanded file)) h (sym x.answers ∙ e)
 
-    pub calls_passed : calls_check file ≡ Passed
+    pub calls_passed : calls_check file ≡ Ok tt
     calls_passed = passed.0
 
-    module _ (read : read_check file ≡ Passed) where
+    module _ (read : read_check file ≡ Ok tt) where
       formed : WellFormed (expanded file)
       formed = expanded_formed file (expandable_calls file read calls_passed)
 

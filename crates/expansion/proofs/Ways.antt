@@ -1,6 +1,7 @@
 -- The file with calls as references, judged by what was read of the file itself; and the ways out of `expand`: what the checks say, as the
 -- definition's answer.
 -- Assumes nothing.
+use Rattle.std.specs.Prelude.{Ok, Err}
 use mathlib.Core.Path.{◌≡◌, sym, ap, ◌∙◌}
 use mathlib.Core.List.{List}
 use Prim.Native.Nat.{ℕ, ◌+◌, ◌≤◌, ◌<◌}
@@ -26,17 +27,16 @@ use Rattle.labels.specs.Routines.{ReadAs}
 use Rattle.passes.specs.Tables.{Cells}
 use Rattle.refusal.specs.declared.Refusal.{Refusal}
 use Rattle.refusal.specs.declared.Refusal.TheVariants.{TooManyVertices}
-use Rattle.refusal.specs.declared.Verdict.TheVariants.{Passed, Failed}
 use Rattle.routine.specs.Layout.{arrays, vertices, edges, header_of}
+use Rattle.routine.specs.Reader.{WellFormed}
 use Rattle.routine.specs.declared.header.Header.{Header}
-use Rattle.routine.specs.declared.reader.Answer.TheVariants.{Routine, Refused}
 use Rattle.words.specs.Tables.{wrote}
 
 -- ---- the file with calls as references
 
-module _ {file : List ℕ} {h : Header} (read : ReadAs file h) (interfaces : Interfaces file) where
-  pub refers_read : ReadAs (referring file) h
-  refers_read =
+module _ {file : List ℕ} (interfaces : Interfaces file) where
+  pub refers_read : {h : Header} → ReadAs file h → ReadAs (referring file) h
+  refers_read read =
       let w = referring_formed file read.well interfaces in
       record {
         well = w;
@@ -48,11 +48,12 @@ module _ {file : List ℕ} {h : Header} (read : ReadAs file h) (interfaces : Int
         };
       }
 
+module _ {file : List ℕ} (well : WellFormed file) where
   arrivals : {s : List ℕ} → Cells (referring file) (brought_of (referring file)) s → Arrivals file s
   unfolding arriving
   arrivals c =
-      let arrays_same = same_arrays file read.well.laid in
-      let vertices_same = same_vertices file read.well.laid in
+      let arrays_same = same_arrays file well.laid in
+      let vertices_same = same_vertices file well.laid in
       record {
         room = omega (arith, c.size, vertices_same);
         are = λ a v in_a in_v. c.cells a v (omega (arith, arrays_same)) (omega (arith, vertices_same));
@@ -81,7 +82,7 @@ module _ {file : List ℕ} (can : Expandable file) where
 
 module _ (file : List ℕ) where
   -- no routine is written
-  refused : {x : Expanded} {r : Refusal} {after : List ℕ} → calls_check file ≡ Failed r → x.answer ≡ Refused r → Expansion file x after
+  refused : {x : Expanded} {r : Refusal} {after : List ℕ} → calls_check file ≡ Err r → x.answer ≡ Err r → Expansion file x after
   refused e is = record {
     answers = is ∙ sym (rw e);
     bytes = not_passed e;
@@ -90,7 +91,7 @@ module _ (file : List ℕ) where
   }
 
   -- 22
-  pub too_many : {x : Expanded} {after : List ℕ} → 256 < expanded_vertices file → x.answer ≡ Refused (TooManyVertices (expanded_vertices file)) → Expansion file x after
+  pub too_many : {x : Expanded} {after : List ℕ} → 256 < expanded_vertices file → x.answer ≡ Err (TooManyVertices (expanded_vertices file)) → Expansion file x after
   unfolding calls_check check22
   too_many h = refused (rw (lt-leb (expanded_vertices file) 256 h))
 
@@ -100,12 +101,12 @@ module _ (file : List ℕ) where
     same_check = rw (le-leb (expanded_vertices file) 256 few) (sym j.answers)
 
     -- 20 or 21
-    pub calls_refused : {x : Expanded} {r : Refusal} {after : List ℕ} → answer.verdict ≡ Failed r → x.answer ≡ Refused r → Expansion file x after
+    pub calls_refused : {x : Expanded} {r : Refusal} {after : List ℕ} → answer.verdict ≡ Err r → x.answer ≡ Err r → Expansion file x after
     calls_refused e = refused (same_check ∙ e)
 
-    pub calls_expanded : {h : Header} (before : List ℕ) {after : List ℕ} → answer.verdict ≡ Passed → h ≡ header_of (expanded file) → after ≡ wrote before (expanded file) → Expansion file record { answer = Routine h; reached = answer.reached; arriving = answer.brought } after
+    pub calls_expanded : {h : Header} (before : List ℕ) {after : List ℕ} → answer.verdict ≡ Ok tt → h ≡ header_of (expanded file) → after ≡ wrote before (expanded file) → Expansion file record { answer = Ok h; reached = answer.reached; arriving = answer.brought } after
     calls_expanded before e g w = record {
-      answers = ap Routine g ∙ sym (rw (same_check ∙ e));
+      answers = ap Ok g ∙ sym (rw (same_check ∙ e));
       bytes = λ _. (before, w);
       reached_first = λ _. j.reached_first e;
       arriving_stops = λ _. j.arriving_stops e;

@@ -8,21 +8,20 @@ ghost use Rattle.calls.specs.Interfaces.{Interfaces, Expandable};
 ghost use Rattle.calls.specs.Parts.{expanded_vertices};
 ghost use Rattle.calls.specs.Writing.{Firsts};
 ghost use Rattle.expansion.specs.Expansion.{JudgedCalls, Expansion};
-ghost use Rattle.labels.specs.Routines.{ReadAs};
 ghost use Rattle.routine.specs.Layout.{vertices, edges};
 
 use calls::{expanded, references, scan};
-use checks::Judgement;
-use refusal::{Refusal, Verdict};
+use checks::{Judgement, Tables};
+use labels::read::Routine;
+use refusal::Refusal;
 use routine::header::Header;
-use routine::reader::Answer;
 use sets::{Half, Set};
 
 // What becomes of a file with calls, and the rounds of the passes that were made for it: that for the vertices that are reached, 0 if it was
 // not needed, and that for the versions that arrive. Both are 0 where 22 or 20 refuses.
 #[derive(Clone, Copy)]
 pub struct Expanded {
-    pub answer: Answer,
+    pub answer: Result<Header, Refusal>,
     pub reached: usize,
     pub arriving: usize,
 }
@@ -30,8 +29,7 @@ pub struct Expanded {
 // 20 and 21 of the file with calls as references, which is written into `judged`. Where both pass, `brought` is left with the versions that
 // arrive at its vertices. `order` holds an entry for each edge, the other tables eight for each vertex.
 fn judge(
-    file: &[u8],
-    h: Header,
+    routine: &Routine,
     judged: &mut [u8],
     order: &mut [u16],
     versions: &mut [Set],
@@ -41,28 +39,27 @@ fn judge(
     passes: &mut [Half],
     halves: &mut [Half],
 ) -> Judgement
-    requires read_as { ReadAs file.now h }
-    requires interfaces { Interfaces file.now }
-    requires judged_len { length judged.old ≡ length file.now }
-    requires order_len { length order.old ≡ edges file.now }
-    requires versions_len { length versions.old ≡ 8 * vertices file.now }
-    requires uses_len { length uses.old ≡ 8 * vertices file.now }
-    requires brought_len { length brought.old ≡ 8 * vertices file.now }
-    requires gives_len { length gives.old ≡ 8 * vertices file.now }
-    requires passes_len { length passes.old ≡ 8 * vertices file.now }
-    requires halves_len { length halves.old ≡ 8 * vertices file.now }
-    ensures { JudgedCalls file.now result brought.new }
+    requires interfaces { Interfaces routine.now.bytes }
+    requires judged_len { length judged.old ≡ length routine.now.bytes }
+    requires order_len { length order.old ≡ edges routine.now.bytes }
+    requires versions_len { length versions.old ≡ 8 * vertices routine.now.bytes }
+    requires uses_len { length uses.old ≡ 8 * vertices routine.now.bytes }
+    requires brought_len { length brought.old ≡ 8 * vertices routine.now.bytes }
+    requires gives_len { length gives.old ≡ 8 * vertices routine.now.bytes }
+    requires passes_len { length passes.old ≡ 8 * vertices routine.now.bytes }
+    requires halves_len { length halves.old ≡ 8 * vertices routine.now.bytes }
+    ensures { JudgedCalls routine.now.bytes result brought.new }
 {
-    references::write(file, h, judged);
+    references::write(routine, judged);
+    let referring = Routine::new(judged, routine.header());
     checks::judge(
-        judged, h, order, versions, uses, brought, gives, passes, halves,
+        &referring, order, versions, uses, brought, gives, passes, halves,
     )
 }
 
 // 20 and 21; then the expanded routine, which has `count` vertices. The front of `out` holds the file with calls as references for a time.
 fn expand_with(
-    file: &[u8],
-    h: Header,
+    routine: &Routine,
     firsts: &[u16],
     count: usize,
     out: &mut [u8],
@@ -74,24 +71,22 @@ fn expand_with(
     passes: &mut [Half],
     halves: &mut [Half],
 ) -> Expanded
-    requires read_as { ReadAs file.now h }
-    requires expandable { Expandable file.now }
-    requires firsts { Firsts file.now firsts.now }
-    requires count_value { count ≡ expanded_vertices file.now }
-    requires file_in_bounds { length (expanded file.now) ≤ length out.old }
-    requires order_len { length order.old ≡ edges file.now }
-    requires versions_len { length versions.old ≡ 8 * vertices file.now }
-    requires uses_len { length uses.old ≡ 8 * vertices file.now }
-    requires brought_len { length brought.old ≡ 8 * vertices file.now }
-    requires gives_len { length gives.old ≡ 8 * vertices file.now }
-    requires passes_len { length passes.old ≡ 8 * vertices file.now }
-    requires halves_len { length halves.old ≡ 8 * vertices file.now }
-    ensures { Expansion file.now result out.new }
+    requires expandable { Expandable routine.now.bytes }
+    requires firsts { Firsts routine.now.bytes firsts.now }
+    requires vertices_counted { count ≡ expanded_vertices routine.now.bytes }
+    requires out_room { length (expanded routine.now.bytes) ≤ length out.old }
+    requires order_len { length order.old ≡ edges routine.now.bytes }
+    requires versions_len { length versions.old ≡ 8 * vertices routine.now.bytes }
+    requires uses_len { length uses.old ≡ 8 * vertices routine.now.bytes }
+    requires brought_len { length brought.old ≡ 8 * vertices routine.now.bytes }
+    requires gives_len { length gives.old ≡ 8 * vertices routine.now.bytes }
+    requires passes_len { length passes.old ≡ 8 * vertices routine.now.bytes }
+    requires halves_len { length halves.old ≡ 8 * vertices routine.now.bytes }
+    ensures { Expansion routine.now.bytes result out.new }
 {
-    let size = file.len();
+    let size = routine.bytes().len();
     let judged = judge(
-        file,
-        h,
+        routine,
         &mut out[..size],
         order,
         versions,
@@ -102,180 +97,116 @@ fn expand_with(
         halves,
     );
     let verdict = judged.verdict;
-    if let Verdict::Failed(r) = verdict {
+    if let Err(r) = verdict {
         return Expanded {
-            answer: Answer::Refused(r),
+            answer: Err(r),
             reached: judged.reached,
             arriving: judged.brought,
         };
     }
-    let e = expanded::write(file, h, brought, firsts, count, out);
+    let e = expanded::write(routine, brought, firsts, count, out);
     Expanded {
-        answer: Answer::Routine(e),
+        answer: Ok(e),
         reached: judged.reached,
         arriving: judged.brought,
     }
 }
 
-// The same with work slices that are large enough.
-pub fn expand_within(
-    file: &[u8],
-    h: Header,
+// The same with tables that are large enough.
+pub fn expand_within<const CELLS: usize, const EDGES: usize>(
+    routine: &Routine,
     firsts: &[u16],
     count: usize,
     out: &mut [u8],
-    order: &mut [u16],
-    versions: &mut [Set],
-    uses: &mut [Half],
-    brought: &mut [Set],
-    gives: &mut [Half],
-    passes: &mut [Half],
-    halves: &mut [Half],
+    tables: &mut Tables<CELLS, EDGES>,
 ) -> Expanded
-    requires read_as { ReadAs file.now h }
-    requires expandable { Expandable file.now }
-    requires firsts { Firsts file.now firsts.now }
-    requires count_value { count ≡ expanded_vertices file.now }
-    requires file_in_bounds { length (expanded file.now) ≤ length out.old }
-    requires file_in_bounds_2 { edges file.now ≤ length order.old }
-    requires file_in_bounds_3 { 8 * vertices file.now ≤ length versions.old }
-    requires file_in_bounds_4 { 8 * vertices file.now ≤ length uses.old }
-    requires file_in_bounds_5 { 8 * vertices file.now ≤ length brought.old }
-    requires file_in_bounds_6 { 8 * vertices file.now ≤ length gives.old }
-    requires file_in_bounds_7 { 8 * vertices file.now ≤ length passes.old }
-    requires file_in_bounds_8 { 8 * vertices file.now ≤ length halves.old }
-    ensures { Expansion file.now result out.new }
+    requires expandable { Expandable routine.now.bytes }
+    requires firsts { Firsts routine.now.bytes firsts.now }
+    requires vertices_counted { count ≡ expanded_vertices routine.now.bytes }
+    requires out_room { length (expanded routine.now.bytes) ≤ length out.old }
+    requires edges_room { edges routine.now.bytes ≤ EDGES }
+    requires cells_room { 8 * vertices routine.now.bytes ≤ CELLS }
+    ensures { Expansion routine.now.bytes result out.new }
 {
-    let all = flow::COLUMNS * h.vertices;
-    let m = h.edges;
+    let all = flow::COLUMNS * routine.vertices();
+    let m = routine.edges();
     expand_with(
-        file,
-        h,
+        routine,
         firsts,
         count,
         out,
-        &mut order[..m],
-        &mut versions[..all],
-        &mut uses[..all],
-        &mut brought[..all],
-        &mut gives[..all],
-        &mut passes[..all],
-        &mut halves[..all],
+        &mut tables.order[..m],
+        &mut tables.versions[..all],
+        &mut tables.uses[..all],
+        &mut tables.reaching[..all],
+        &mut tables.gives[..all],
+        &mut tables.passes[..all],
+        &mut tables.halves[..all],
     )
 }
 
-// With tables for any file.
-fn expand_large(file: &[u8], h: Header, firsts: &[u16], count: usize, out: &mut [u8]) -> Expanded
-    requires read_as { ReadAs file.now h }
-    requires expandable { Expandable file.now }
-    requires firsts { Firsts file.now firsts.now }
-    requires count_value { count ≡ expanded_vertices file.now }
+// The same with tables of its own; not inlined, so that the stack of small tables is not that of large ones.
+#[inline(never)]
+fn expand_in<const CELLS: usize, const EDGES: usize>(
+    routine: &Routine,
+    firsts: &[u16],
+    count: usize,
+    out: &mut [u8],
+) -> Expanded
+    requires expandable { Expandable routine.now.bytes }
+    requires firsts { Firsts routine.now.bytes firsts.now }
+    requires vertices_counted { count ≡ expanded_vertices routine.now.bytes }
     requires out_len { length out.old ≡ 6866 }
-    ensures { Expansion file.now result out.new }
+    requires sizes_bound { (CELLS ≤ 2048) × (EDGES ≤ 1192) }
+    requires edges_room { edges routine.now.bytes ≤ EDGES }
+    requires cells_room { 8 * vertices routine.now.bytes ≤ CELLS }
+    ensures { Expansion routine.now.bytes result out.new }
 {
-    let mut order = [0u16; Header::MAX_EDGES];
-    let mut versions = [0 as Set; 2048];
-    let mut uses = [0 as Half; 2048];
-    let mut brought = [0 as Set; 2048];
-    let mut gives = [0 as Half; 2048];
-    let mut passes = [0 as Half; 2048];
-    let mut halves = [0 as Half; 2048];
-    expand_within(
-        file,
-        h,
-        firsts,
-        count,
-        out,
-        &mut order,
-        &mut versions,
-        &mut uses,
-        &mut brought,
-        &mut gives,
-        &mut passes,
-        &mut halves,
-    )
+    let mut tables = Tables::<CELLS, EDGES>::new();
+    expand_within(routine, firsts, count, out, &mut tables)
 }
 
-// With tables for at most 32 vertices and 128 edges, as `plan` has them for small routines.
-fn expand_small(file: &[u8], h: Header, firsts: &[u16], count: usize, out: &mut [u8]) -> Expanded
-    requires read_as { ReadAs file.now h }
-    requires expandable { Expandable file.now }
-    requires firsts { Firsts file.now firsts.now }
-    requires count_value { count ≡ expanded_vertices file.now }
+// With small tables for at most 32 vertices and 128 edges, as `plan` has them for small routines; else with tables for any file.
+fn expand_few(routine: &Routine, firsts: &[u16], count: usize, out: &mut [u8]) -> Expanded
+    requires expandable { Expandable routine.now.bytes }
+    requires firsts { Firsts routine.now.bytes firsts.now }
+    requires vertices_counted { count ≡ expanded_vertices routine.now.bytes }
     requires out_len { length out.old ≡ 6866 }
-    requires vertices_bound { (h.vertices ≤ 32) × (h.edges ≤ 128) }
-    ensures { Expansion file.now result out.new }
+    ensures { Expansion routine.now.bytes result out.new }
 {
-    let mut order = [0u16; 128];
-    let mut versions = [0 as Set; 256];
-    let mut uses = [0 as Half; 256];
-    let mut brought = [0 as Set; 256];
-    let mut gives = [0 as Half; 256];
-    let mut passes = [0 as Half; 256];
-    let mut halves = [0 as Half; 256];
-    expand_within(
-        file,
-        h,
-        firsts,
-        count,
-        out,
-        &mut order,
-        &mut versions,
-        &mut uses,
-        &mut brought,
-        &mut gives,
-        &mut passes,
-        &mut halves,
-    )
-}
-
-// With tables of either size.
-fn expand_few(file: &[u8], h: Header, firsts: &[u16], count: usize, out: &mut [u8]) -> Expanded
-    requires read_as { ReadAs file.now h }
-    requires expandable { Expandable file.now }
-    requires firsts { Firsts file.now firsts.now }
-    requires count_value { count ≡ expanded_vertices file.now }
-    requires out_len { length out.old ≡ 6866 }
-    ensures { Expansion file.now result out.new }
-{
-    if h.vertices > 32 {
-        return expand_large(file, h, firsts, count, out);
+    if routine.vertices() <= 32 && routine.edges() <= 128 {
+        return expand_in::<256, 128>(routine, firsts, count, out);
     }
-    if h.edges > 128 {
-        return expand_large(file, h, firsts, count, out);
-    }
-    expand_small(file, h, firsts, count, out)
+    expand_in::<2048, 1024>(routine, firsts, count, out)
 }
 
 // 22; then the rest, with the first vertices in hand.
-fn expand_counted(file: &[u8], h: Header, firsts: &mut [u16], out: &mut [u8]) -> Expanded
-    requires read_as { ReadAs file.now h }
-    requires interfaces { Interfaces file.now }
-    requires file_bound { edges file.now ≤ 1024 }
-    requires file_in_bounds { vertices file.now < length firsts.old }
+fn expand_counted(routine: &Routine, firsts: &mut [u16], out: &mut [u8]) -> Expanded
+    requires interfaces { Interfaces routine.now.bytes }
+    requires few_edges { edges routine.now.bytes ≤ 1024 }
+    requires firsts_room { vertices routine.now.bytes < length firsts.old }
     requires out_len { length out.old ≡ 6866 }
-    ensures { Expansion file.now result out.new }
+    ensures { Expansion routine.now.bytes result out.new }
 {
-    let count = scan::fill_firsts(file, h, firsts);
+    let count = scan::fill_firsts(routine, firsts);
     if count > Header::MAX_VERTICES {
         let r = Refusal::TooManyVertices { vertices: count };
         return Expanded {
-            answer: Answer::Refused(r),
+            answer: Err(r),
             reached: 0,
             arriving: 0,
         };
     }
-    expand_few(file, h, firsts, count, out)
+    expand_few(routine, firsts, count, out)
 }
 
 // 22, 20 and 21 of a file with calls that was read; else the header of its expanded routine, which is then at the front of `out`.
-pub fn expand(file: &[u8], h: Header, out: &mut [u8]) -> Expanded
-    requires read_as { ReadAs file.now h }
-    requires interfaces { Interfaces file.now }
-    requires file_bound { edges file.now ≤ 1024 }
+pub fn expand(routine: &Routine, out: &mut [u8]) -> Expanded
+    requires interfaces { Interfaces routine.now.bytes }
+    requires few_edges { edges routine.now.bytes ≤ 1024 }
     requires out_len { length out.old ≡ 6866 }
-    ensures { Expansion file.now result out.new }
+    ensures { Expansion routine.now.bytes result out.new }
 {
     let mut firsts = [0u16; 257];
-    expand_counted(file, h, &mut firsts, out)
+    expand_counted(routine, &mut firsts, out)
 }

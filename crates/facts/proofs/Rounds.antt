@@ -11,18 +11,17 @@ use Rattle.flow.specs.Counted.{StopsAfter}
 use Rattle.flow.specs.Solver.{Rounds}
 use Rattle.flow.proofs.Cells.{none_row}
 use Rattle.flow.proofs.Counted.{stops_after}
-use Rattle.directives.specs.Fields.{DirectivesRead}
 use Rattle.directives.specs.Layout.{vertices, edge_bytes}
-use Rattle.directives.specs.declared.header.Header.{Header}
+use Rattle.directives.specs.Read.{ReadFile}
 use Rattle.mappings.specs.Tables.{EdgeOrder}
 use Rattle.mappings.proofs.Formed.{formed}
 use Rattle.facts.specs.Counted.{Stops}
 
-pub pass_stops : {file : List ℕ} {h : Header} {m : ℕ} {order gives passes : List ℕ} {r : ℕ} (G P : ℕ → ℕ → ℕ) → DirectivesRead file h → m ≤ 8 → EdgeOrder file order
-    → Cells m (vertices file) G gives → Cells m (vertices file) P passes → NoneBeyond m (vertices file) gives
-    → Rounds (edge_bytes file) order false gives passes (vertices file) r → Stops file m G P r
-pass_stops {file} {order = order} {gives} {passes} G P is few ord g p none h =
-    stops_after (edge_bytes file) order false gives passes (vertices file) G P few ord (formed file is.passed).ends g p none h
+pub pass_stops : {m : ℕ} {order gives passes : List ℕ} {r : ℕ} (G P : ℕ → ℕ → ℕ) (d : ReadFile) → m ≤ 8 → EdgeOrder d.bytes order
+    → Cells m (vertices d.bytes) G gives → Cells m (vertices d.bytes) P passes → NoneBeyond m (vertices d.bytes) gives
+    → Rounds (edge_bytes d.bytes) order false gives passes (vertices d.bytes) r → Stops d.bytes m G P r
+pass_stops {order = order} {gives} {passes} G P d few ord g p none h =
+    stops_after (edge_bytes d.bytes) order false gives passes (vertices d.bytes) G P few ord (formed d.bytes d.passed).ends g p none h
 
 -- a row replaced leaves nothing beyond the columns
 pub none_next : {m n : ℕ} {s t : List ℕ} → m ≤ 8 → (r : ℕ → ℕ) (w : ℕ) → NoneBeyond m n s → t ≡ with_row s w r m → NoneBeyond m n t

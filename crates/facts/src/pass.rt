@@ -3,68 +3,67 @@ ghost use Rattle.std.specs.Prelude.{◌≡◌, false, ◌*◌, length};
 ghost use Rattle.flow.specs.Cells.{Pass};
 ghost use Rattle.flow.specs.Solver.{Rounds};
 ghost use Rattle.halves.specs.Halves.{AreHalves, doubled};
-ghost use Rattle.directives.specs.Fields.{DirectivesRead};
 ghost use Rattle.directives.specs.Layout.{vertices, edges, edge_bytes};
 ghost use Rattle.mappings.specs.Tables.{EdgeOrder};
 
-use directives::header::Header;
+use directives::read::Directives;
 use sets::{Half, Set};
 
 // The order in which passes take the edges.
-pub fn order(file: &[u8], h: Header, order: &mut [u16])
-    requires directives_read { DirectivesRead file.now h }
-    requires order_len { length order.old ≡ edges file.now }
-    ensures { EdgeOrder file.now order.new }
+pub fn order(directives: &Directives, order: &mut [u16])
+    requires order_len { length order.old ≡ edges directives.now.bytes }
+    ensures { EdgeOrder directives.now.bytes order.new }
 {
-    let at = h.edges_at();
-    order::fill(&file[at..], order);
+    order::fill(directives.edge_bytes(), order);
 }
 
 // Fills in the sets by what each vertex gives and passes. Returns the number of rounds.
 pub fn solve(
-    file: &[u8],
-    h: Header,
+    directives: &Directives,
     order: &[u16],
     gives: &[Half],
     passes: &[Half],
     sets: &mut [Half],
 ) -> usize
-    requires directives_read { DirectivesRead file.now h }
-    requires edge_order { EdgeOrder file.now order.now }
-    requires gives_len { length gives.now ≡ 8 * vertices file.now }
-    requires passes_len { length passes.now ≡ 8 * vertices file.now }
-    requires sets_len { length sets.old ≡ 8 * vertices file.now }
-    ensures pass { Pass (edge_bytes file.now) (vertices file.now) false gives.now passes.now sets.new }
-    ensures rounds { Rounds (edge_bytes file.now) order.now false gives.now passes.now
-        (vertices file.now) result }
+    requires edge_order { EdgeOrder directives.now.bytes order.now }
+    requires gives_len { length gives.now ≡ 8 * vertices directives.now.bytes }
+    requires passes_len { length passes.now ≡ 8 * vertices directives.now.bytes }
+    requires sets_len { length sets.old ≡ 8 * vertices directives.now.bytes }
+    ensures pass { Pass (edge_bytes directives.now.bytes) (vertices directives.now.bytes) false gives.now passes.now sets.new }
+    ensures rounds { Rounds (edge_bytes directives.now.bytes) order.now false gives.now passes.now
+        (vertices directives.now.bytes) result }
 {
-    let at = h.edges_at();
-    solver::solve(&file[at..], order, false, gives, passes, sets)
+    solver::solve(directives.edge_bytes(), order, false, gives, passes, sets)
 }
 
 // The same for tables of sets: `sets` comes with what each vertex gives; what it passes is the same in both halves. `gives` and `halves` are
 // work slices.
 pub fn solve_sets(
-    file: &[u8],
-    h: Header,
+    directives: &Directives,
     order: &[u16],
     passes: &[Half],
     sets: &mut [Set],
     gives: &mut [Half],
     halves: &mut [Half],
 ) -> usize
-    requires directives_read { DirectivesRead file.now h }
-    requires edge_order { EdgeOrder file.now order.now }
-    requires passes_len { length passes.now ≡ 8 * vertices file.now }
+    requires edge_order { EdgeOrder directives.now.bytes order.now }
+    requires passes_len { length passes.now ≡ 8 * vertices directives.now.bytes }
     requires are_halves { AreHalves passes.now }
-    requires sets_len { length sets.old ≡ 8 * vertices file.now }
-    requires gives_len { length gives.old ≡ 8 * vertices file.now }
-    requires halves_len { length halves.old ≡ 8 * vertices file.now }
-    ensures pass { Pass (edge_bytes file.now) (vertices file.now) false sets.old (doubled passes.now)
+    requires sets_len { length sets.old ≡ 8 * vertices directives.now.bytes }
+    requires gives_len { length gives.old ≡ 8 * vertices directives.now.bytes }
+    requires halves_len { length halves.old ≡ 8 * vertices directives.now.bytes }
+    ensures pass { Pass (edge_bytes directives.now.bytes) (vertices directives.now.bytes) false sets.old (doubled passes.now)
         sets.new }
-    ensures rounds { Rounds (edge_bytes file.now) order.now false sets.old (doubled passes.now)
-        (vertices file.now) result }
+    ensures rounds { Rounds (edge_bytes directives.now.bytes) order.now false sets.old (doubled passes.now)
+        (vertices directives.now.bytes) result }
 {
-    let at = h.edges_at();
-    halves::solve(&file[at..], order, false, passes, sets, gives, halves)
+    halves::solve(
+        directives.edge_bytes(),
+        order,
+        false,
+        passes,
+        sets,
+        gives,
+        halves,
+    )
 }

@@ -8,7 +8,7 @@ use mathlib.Core.List.{List, [], ◌∷◌, map}
 use mathlib.Core.Logic.Iff
 use mathlib.Core.Logic.{◌↔◌, ◌⊎◌, inl, inr, ⊎_elim}
 use Prim.Native.Nat.{ℕ, zero, suc, ◌+◌, ◌-◌, ◌^◌, ◌≤◌, ◌<◌, zero-le, min, max}
-use native.Mathlib.Nat.{le_refl, lt_of_le_of_lt, le_of_lt, le_of_suc-le-suc, eq-or-lt_of_le, pow-suc}
+use native.Mathlib.Nat.{le_refl, lt_of_le_of_lt, le_of_lt, le_of_suc-le-suc, eq-or-lt_of_le}
 use native.Mathlib.Decide.{le_ind}
 use native.Mathlib.Omega.{arith}
 use lib.Dec.{T, eqb}
@@ -17,7 +17,7 @@ use lib.Pow.{pow_pos, pow-lt}
 use lib.ListN.{length, get_or, set, replicate, length-replicate, length-set, get_or-map}
 use lib.Seq.{map-set_same, set-get_or, ext_get_or}
 use Rattle.sets.specs.Sets.{bit, has}
-use Rattle.sets.proofs.Laws.{bit_lt, bit_or_lem, bit_and_lem, has_zero, same_members}
+use Rattle.sets.proofs.Laws.{bit_lt, bit_or_lem, bit_and_lem, has_zero, same_members, under_power}
 use Rattle.words.proofs.Tables.{at_set, zeros_at}
 use Rattle.flow.specs.Order.{Order}
 use Rattle.flow.specs.Paths.{last, next, edge_count}
@@ -31,11 +31,6 @@ use Rattle.flow.proofs.Rounds.{natural_order, turn_lt, when, when_lt, turn_when,
 -- a union's bit is 1 more where only the second mask has it
 or_gap : (a b k : ℕ) → bit (bit_or a b) k ≡ bit a k + (bit b k - bit a k)
 or_gap a b k = omega (arith, bit_or_lem a b k)
-
--- every mask is below a power of two
-under_power : (m : ℕ) → m < 2 ^ m
-under_power zero = omega arith
-under_power (suc m) = omega (arith, pow-suc 2 m, under_power m)
 
 -- a mask is no smaller for a union
 pub or_le : (a b : ℕ) → a ≤ bit_or a b

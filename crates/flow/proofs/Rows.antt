@@ -249,21 +249,20 @@ module _ (es : List ℕ) (along : Bool) (gives passes : List ℕ) where
       sweeping_length = ap length w.is ∙ swept-length s j w.within
 
       -- one more edge
-      pub sweeping_more : {u new : List ℕ} → Tables es gives passes s → j < length order → u ≡ step t (turn order along j)
-          → new ≡ noted note t (near es along (turn order along j)) (handed_row gives passes t (far es along (turn order along j)))
+      pub sweeping_more : {u new : List ℕ} {i : ℕ} → Tables es gives passes s → j < length order → i ≡ turn order along j → u ≡ step t i
+          → new ≡ noted note t (near es along i) (handed_row gives passes t (far es along i))
           → Sweeping order s (j + 1) u new
       unfolding swept
-      sweeping_more {u} {new} h l made now =
-          let i = turn order along j in
+      sweeping_more {u} {new} {i} h l is made now =
           let row = handed_row gives passes t (far es along i) in
           let b = swept_below s h j (le_of_lt l) in
           record {
-            is = made ∙ ap (λ (q : List ℕ). step q i) w.is ∙ ap (swept step order along s) (sym (add-one j));
+            is = made ∙ ap (step t) is ∙ ap (λ (q : List ℕ). step q (turn order along j)) w.is ∙ ap (swept step order along s) (sym (add-one j));
             within = omega arith;
             notes =
                 subst (λ (q : List ℕ). Notes new s q) (sym made)
                 (subst (λ (q : List ℕ). Notes q s (step t i)) (sym now)
-                (notes_more note s t (near es along i) row (near_fits s t i h sweeping_length (turn_lt ord along j l)) sweeping_length (subst (Below s) (sym w.is) b.1) w.notes));
+                (notes_more note s t (near es along i) row (near_fits s t i h sweeping_length (subst (λ (x : ℕ). x < edge_count es) (sym is) (turn_lt ord along j l))) sweeping_length (subst (Below s) (sym w.is) b.1) w.notes));
           }
 
       -- the whole round, and whether it altered a set

@@ -7,7 +7,7 @@ ghost use Rattle.std.specs.Prelude.{◌≡◌, true, false, not, ◌+◌, ◌*�
 ghost use Rattle.std.specs.Int.Bits.{bit_and, bit_or};
 ghost use Rattle.flow.specs.Order.{Order};
 ghost use Rattle.flow.specs.Paths.{edge_count};
-ghost use Rattle.flow.specs.Solver.{near, far, handed_row, relaxed_row, swept, row_of, noted, in_all, Recent, Tables, Advanced};
+ghost use Rattle.flow.specs.Solver.{near, far, turn, handed_row, relaxed_row, swept, row_of, noted, in_all, Recent, Tables, Advanced};
 ghost use Rattle.sets.specs.Sets.{minus};
 ghost use Rattle.words.specs.Tables.{table, with_row};
 
@@ -18,15 +18,6 @@ pub const COLUMNS: usize = 8;
 
 // Edges at most, the calls of a routine expanded: those of its file, and two for each of 84 calls.
 pub const MAX_EDGES: usize = 1024 + 2 * 84;
-
-// Empties every set.
-pub fn clear(sets: &mut [Half])
-    ensures { sets.new ≡ replicate (length sets.old) 0 }
-{
-    for v in 0..sets.len() {
-        sets[v] = 0;
-    }
-}
 
 // The end of edge i whose sets grow.
 fn near_end(edges: &[u8], along: bool, i: usize) -> usize
@@ -48,6 +39,17 @@ pub fn far_end(edges: &[u8], along: bool, i: usize) -> usize
         return words::at(edges, 4 * i + 2);
     }
     words::at(edges, 4 * i)
+}
+
+// The edge that a round takes as its j-th.
+pub fn edge_at(order: &[u16], along: bool, j: usize) -> usize
+    requires { j < length order.now }
+    ensures { result ≡ turn order.now along j }
+{
+    if along {
+        return order[order.len() - 1 - j] as usize;
+    }
+    order[j] as usize
 }
 
 // What the edges that were taken leave beside the sets: the vertex whose sets grew last, these sets, and a note of what was added. On a
@@ -88,11 +90,9 @@ fn row_at(sets: &[Half], v: usize) -> [Half; COLUMNS]
     ensures { result ≡ row_of sets.now v }
 {
     let mut row = [0 as Half; COLUMNS];
-    let mut a: usize = 0;
-    while a < COLUMNS {
+    for a in 0..COLUMNS {
         let at = COLUMNS * v + a;
         row[a] = sets[at];
-        a += 1;
     }
     row
 }
@@ -117,11 +117,9 @@ fn handed(gives: &[Half], passes: &[Half], held: [Half; COLUMNS], u: usize) -> [
         ≡ table (λ a. bit_or (get_or gives.now (8 * u + a) 0) (bit_and (get_or held a 0) (get_or passes.now (8 * u + a) 0))) 8 }
 {
     let mut row = [0 as Half; COLUMNS];
-    let mut a: usize = 0;
-    while a < COLUMNS {
+    for a in 0..COLUMNS {
         let at = COLUMNS * u + a;
         row[a] = gives[at] | (held[a] & passes[at]);
-        a += 1;
     }
     row
 }
@@ -131,10 +129,8 @@ fn joined(held: [Half; COLUMNS], brought: [Half; COLUMNS]) -> [Half; COLUMNS]
     ensures { result ≡ table (λ a. bit_or (get_or held a 0) (get_or brought a 0)) 8 }
 {
     let mut row = [0 as Half; COLUMNS];
-    let mut a: usize = 0;
-    while a < COLUMNS {
+    for a in 0..COLUMNS {
         row[a] = held[a] | brought[a];
-        a += 1;
     }
     row
 }
@@ -144,10 +140,8 @@ fn noted(note: [Half; COLUMNS], brought: [Half; COLUMNS], held: [Half; COLUMNS])
     ensures { result ≡ table (λ a. bit_or (get_or note a 0) (minus (get_or brought a 0) (get_or held a 0))) 8 }
 {
     let mut new = [0 as Half; COLUMNS];
-    let mut a: usize = 0;
-    while a < COLUMNS {
-        new[a] = note[a] | sets::half_difference(brought[a], held[a]);
-        a += 1;
+    for a in 0..COLUMNS {
+        new[a] = note[a] | (brought[a] & !held[a]);
     }
     new
 }
@@ -157,11 +151,9 @@ fn put(sets: &mut [Half], v: usize, row: [Half; COLUMNS])
     requires { 8 * v + 8 ≤ length sets.old }
     ensures { sets.new ≡ with_row sets.old v (λ a. get_or row a 0) 8 }
 {
-    let mut a: usize = 0;
-    while a < COLUMNS {
+    for a in 0..COLUMNS {
         let at = COLUMNS * v + a;
         sets[at] = row[a];
-        a += 1;
     }
 }
 
@@ -204,51 +196,33 @@ pub fn any(note: [Half; COLUMNS]) -> bool
     ensures { result ≡ not (eqb (in_all note 8) 0) }
 {
     let mut all: Half = 0;
-    let mut a: usize = 0;
-    while a < COLUMNS {
+    for a in 0..COLUMNS {
         all = all | note[a];
-        a += 1;
     }
     all != 0
 }
 
-// Takes every edge once along its direction, by falling place in the order. Says whether a set was altered.
-fn fall(edges: &[u8], order: &[u16], gives: &[Half], passes: &[Half], sets: &mut [Half]) -> bool
+// Takes every edge once: along its direction by falling place in the order, or against it by rising place. Says whether a set was altered.
+fn sweep<const ALONG: bool>(
+    edges: &[u8],
+    order: &[u16],
+    gives: &[Half],
+    passes: &[Half],
+    sets: &mut [Half],
+) -> bool
     requires order { Order (edge_count edges.now) order.now }
     requires tables { Tables edges.now gives.now passes.now sets.old }
     ensures { Advanced
-        (swept (relaxed_row edges.now true gives.now passes.now)
-        order.now true sets.old (length order.now))
-        sets.old result sets.new }
-{
-    let count = order.len();
-    let mut last = untouched(sets.len());
-    for j in 0..count {
-        let i = order[count - 1 - j] as usize;
-        let next = relax(edges, true, gives, passes, sets, i, last);
-        last = next;
-    }
-    let note = last.note;
-    any(note)
-}
-
-// Takes every edge once against its direction, by rising place in the order. Says whether a set was altered.
-fn rise(edges: &[u8], order: &[u16], gives: &[Half], passes: &[Half], sets: &mut [Half]) -> bool
-    requires order { Order (edge_count edges.now) order.now }
-    requires tables { Tables edges.now gives.now passes.now sets.old }
-    ensures { Advanced
-        (swept (relaxed_row edges.now false gives.now passes.now)
-        order.now false sets.old (length order.now))
+        (swept (relaxed_row edges.now ALONG gives.now passes.now)
+        order.now ALONG sets.old (length order.now))
         sets.old result sets.new }
 {
     let mut last = untouched(sets.len());
     for j in 0..order.len() {
-        let i = order[j] as usize;
-        let next = relax(edges, false, gives, passes, sets, i, last);
-        last = next;
+        let i = edge_at(order, ALONG, j);
+        last = relax(edges, ALONG, gives, passes, sets, i, last);
     }
-    let note = last.note;
-    any(note)
+    any(last.note)
 }
 
 // Takes every edge once. A loop of its own for each direction is faster than one that asks for it at each edge.
@@ -268,7 +242,8 @@ pub fn round(
         sets.old result sets.new }
 {
     if along {
-        return fall(edges, order, gives, passes, sets);
+        sweep::<true>(edges, order, gives, passes, sets)
+    } else {
+        sweep::<false>(edges, order, gives, passes, sets)
     }
-    rise(edges, order, gives, passes, sets)
 }

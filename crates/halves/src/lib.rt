@@ -2,7 +2,7 @@
 // high ones by the same pass again, where there are any: a routine whose arrays have at most 16 versions does not pay for 32.
 #![tactic(auto)]
 
-ghost use Rattle.std.specs.Prelude.{◌≡◌, false, ℕ, ◌≤◌, ◌<◌, max, length, get_or, replicate};
+ghost use Rattle.std.specs.Prelude.{◌≡◌, false, ℕ, ◌≤◌, ◌<◌, length, get_or};
 ghost use Rattle.flow.specs.Order.{Order, max_edges};
 ghost use Rattle.flow.specs.Paths.{edge_count};
 ghost use Rattle.flow.specs.Solver.{row_count, Tables, Solved};
@@ -11,29 +11,17 @@ ghost use Rattle.sets.specs.Sets.{high_half};
 
 use sets::{Half, Set};
 
-// Empties every set.
-pub fn clear(sets: &mut [Set])
-    ensures { sets.new ≡ replicate (length sets.old) 0 }
-{
-    for v in 0..sets.len() {
-        sets[v] = 0;
-    }
-}
-
 // The low halves of all sets. Says whether a high one has anything in it.
 fn take_low(sets: &[Set], halves: &mut [Half]) -> bool
     requires { length halves.old ≡ length sets.now }
     ensures halves_after { halves.new ≡ low_halves sets.now }
     ensures i_value { result ≡ false → (i : ℕ) → i < length sets.now → high_half (get_or sets.now i 0) ≡ 0 }
 {
-    let n = sets.len();
     let mut high: Half = 0;
-    let mut i = 0;
-    while i < n {
+    for i in 0..sets.len() {
         let set = sets[i];
         halves[i] = sets::low_half(set);
         high = high | sets::high_half(set);
-        i += 1;
     }
     high != 0
 }
@@ -43,11 +31,8 @@ fn take_high(sets: &[Set], halves: &mut [Half])
     requires { length halves.old ≡ length sets.now }
     ensures { halves.new ≡ high_halves sets.now }
 {
-    let n = sets.len();
-    let mut i = 0;
-    while i < n {
+    for i in 0..sets.len() {
         halves[i] = sets::high_half(sets[i]);
-        i += 1;
     }
 }
 
@@ -56,11 +41,8 @@ fn widen(halves: &[Half], sets: &mut [Set])
     requires { length halves.now ≡ length sets.old }
     ensures { sets.new ≡ halves.now }
 {
-    let n = sets.len();
-    let mut i = 0;
-    while i < n {
+    for i in 0..sets.len() {
         sets[i] = sets::of_halves(halves[i], 0);
-        i += 1;
     }
 }
 
@@ -69,11 +51,8 @@ fn put_low(halves: &[Half], sets: &mut [Set])
     requires { length halves.now ≡ length sets.old }
     ensures { sets.new ≡ with_low halves.now sets.old }
 {
-    let n = sets.len();
-    let mut i = 0;
-    while i < n {
+    for i in 0..sets.len() {
         sets[i] = sets::of_halves(halves[i], sets::high_half(sets[i]));
-        i += 1;
     }
 }
 
@@ -82,22 +61,9 @@ fn put_high(halves: &[Half], sets: &mut [Set])
     requires { length halves.now ≡ length sets.old }
     ensures { sets.new ≡ with_high halves.now sets.old }
 {
-    let n = sets.len();
-    let mut i = 0;
-    while i < n {
+    for i in 0..sets.len() {
         sets[i] = sets::of_halves(sets::low_half(sets[i]), halves[i]);
-        i += 1;
     }
-}
-
-// The larger of two numbers.
-fn larger(a: usize, b: usize) -> usize
-    ensures { result ≡ max a b }
-{
-    if a < b {
-        return b;
-    }
-    a
 }
 
 // The high halves solved: `sets` comes with those that are given, and with the low ones solved.
@@ -155,5 +121,5 @@ pub fn solve(
     }
     put_low(halves, sets);
     let high = solve_high(edges, order, along, passes, sets, gives, halves);
-    larger(low, high)
+    low.max(high)
 }

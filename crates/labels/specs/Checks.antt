@@ -1,11 +1,10 @@
 -- Document 01, "Who can cause a refusal", the routine's programmer: 20 and 21, first by vertex, then by array.
 -- Assumes nothing.
 use Rattle.std.specs.Prelude.{Bool, ◌&&◌, List, ℕ}
-use Rattle.refusal.specs.Checks.{◌and_then◌}
+use Rattle.refusal.specs.Checks.{◌and_then◌, Verdict}
 use Rattle.refusal.specs.Faults.{first_fault}
 use Rattle.routine.specs.Layout.{arrays, vertices}
 use Rattle.refusal.specs.declared.Refusal.TheVariants.{WritesInArgument, AmbiguousReference}
-use Rattle.refusal.specs.declared.Verdict.{Verdict}
 use Rattle.labels.specs.Events.{event, is_write}
 use Rattle.routine.specs.Arrays.{kind, is_in}
 use Rattle.labels.specs.Ambiguity.{is_ambiguous}

@@ -1,11 +1,10 @@
 -- Demand 2, one claim about a whole routine: its labels are exactly those of the rules; a remapping before the exit is dropped exactly if
 -- no path from it uses its array before the next one; a reference is refused as ambiguous exactly if two paths bring different versions.
 -- Assumes nothing.
-use Rattle.std.specs.Prelude.{◌≡◌, List, ◌↔◌, ℕ, ◌<◌, T}
+use Rattle.std.specs.Prelude.{◌≡◌, List, ◌↔◌, ℕ, ◌<◌, T, Ok, Err}
 use Rattle.refusal.specs.Faults.{FirstFault}
 use Rattle.refusal.specs.declared.Refusal.{Refusal}
 use Rattle.refusal.specs.declared.Refusal.TheVariants.{AmbiguousReference}
-use Rattle.refusal.specs.declared.Verdict.TheVariants.{Passed, Failed}
 use Rattle.routine.specs.Layout.{arrays, vertices, exit}
 use Rattle.sets.specs.Sets.{has, width}
 use Rattle.labels.specs.declared.Use.{Use}
@@ -33,8 +32,8 @@ pub record Demand2 (routine judged : List ℕ) : Type 0 where
   -- a label before the exit is dropped exactly if no segment from it meets a reference
   pub dropped : (a v : ℕ) → a < arrays routine → T (is_label routine a v) → (v ≡ exit routine → ⊥) → (T (is_kept routine a v) → ⊥) ↔ Unused routine a v
   -- 21 is passed exactly if no reference is ambiguous
-  pub unambiguous : (check21 judged ≡ Passed) ↔ ((v a : ℕ) → v < vertices judged → a < arrays judged → Ambiguous judged a v → ⊥)
+  pub unambiguous : (check21 judged ≡ Ok tt) ↔ ((v a : ℕ) → v < vertices judged → a < arrays judged → Ambiguous judged a v → ⊥)
   -- else its places are those of the first that is, by vertex, then by array
   pub ambiguous :
-      (r : Refusal) → (check21 judged ≡ Failed r)
+      (r : Refusal) → (check21 judged ≡ Err r)
       ↔ ((v : ℕ) × (a : ℕ) × FirstFault (λ v a. Ambiguous judged a v) (vertices judged) (arrays judged) v a × (r ≡ AmbiguousReference v a))

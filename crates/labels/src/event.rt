@@ -1,30 +1,28 @@
 // Events: what a vertex does with an array once entry and exit are labels (document 01, "Labels").
 ghost use Rattle.std.specs.Prelude.{◌≡◌, cond, not, ◌&&◌, ◌<◌};
 ghost use Rattle.labels.specs.Events.{event, version_of, version_set};
-ghost use Rattle.labels.specs.Routines.{OfArray};
 ghost use Rattle.labels.specs.Uses.{is_n, use_gives, passes_by};
 ghost use Rattle.routine.specs.Actions.{is_remap};
-ghost use Rattle.routine.specs.Layout.{vertices};
+ghost use Rattle.routine.specs.Layout.{arrays, vertices};
 ghost use Rattle.sets.specs.Sets.{every_half, width};
 
 use crate::Use;
-use routine::action;
 use routine::action::{Access, Action};
-use routine::array::ArrayRecord;
-use routine::header::Header;
+use routine::laid::Laid;
 use sets::{Half, Set};
 
-// What vertex v does with array a, whose record is r.
-pub fn at(file: &[u8], h: Header, r: ArrayRecord, a: usize, v: usize) -> Action
-    requires of_array { OfArray file.now h a r }
-    requires v_bound { v < vertices file.now }
-    ensures { result ≡ event file.now a v }
+// What vertex v does with array a.
+pub fn at(laid: &Laid, a: usize, v: usize) -> Action
+    requires a_bound { a < arrays laid.now.bytes }
+    requires v_bound { v < vertices laid.now.bytes }
+    ensures { result ≡ event laid.now.bytes a v }
 {
-    let label = (v == 0) | ((v == h.vertices - 1) & r.is_out_or_inout());
+    let r = laid.array(a);
+    let label = (v == 0) | ((v == laid.vertices() - 1) & r.is_out_or_inout());
     if label {
         return Action::Remap(r.initial);
     }
-    action::at(file, h, a, v)
+    laid.action(a, v)
 }
 
 // A label is a remapping.
@@ -37,12 +35,7 @@ fn is_label(x: Action) -> bool
 fn is_n(u: Use) -> bool
     ensures { result ≡ is_n u }
 {
-    match u {
-        Use::N => true,
-        Use::D => false,
-        Use::R => false,
-        Use::W => false,
-    }
+    matches!(u, Use::N)
 }
 
 // Whether an event of this letter is a kept label.
@@ -56,22 +49,38 @@ pub fn is_kept(x: Action, u: Use) -> bool
 fn version_of(x: Action) -> u8
     ensures { result ≡ version_of x }
 {
-    match x {
-        Action::Remap(k) => k,
-        Action::Nothing => 0,
-        Action::Reference(_) => 0,
-        Action::Unknown => 0,
+    if let Action::Remap(k) = x { k } else { 0 }
+}
+
+// A set of versions, or a half of one.
+pub trait Versions: Copy {
+    ghost none: { Self };
+
+    fn none() -> Self
+        ensures { result ≡ none };
+}
+
+impl Versions for Set {
+    ghost none = { 0 };
+
+    fn none() -> Set {
+        0
     }
 }
 
-// The set, or the empty set.
-pub fn set_if(given: bool, set: Set) -> Set
-    ensures { result ≡ cond given set 0 }
-{
-    if given {
-        return set;
+impl Versions for Half {
+    ghost none = { 0 };
+
+    fn none() -> Half {
+        0
     }
-    0
+}
+
+// These versions, or none.
+pub fn only_if<V: Versions>(given: bool, versions: V) -> V
+    ensures { result ≡ cond given versions V.none }
+{
+    if given { versions } else { V::none() }
 }
 
 // A label's version as a set, or the empty set.
@@ -79,24 +88,14 @@ pub fn version_set(x: Action) -> Set
     requires { version_of x < width }
     ensures { result ≡ version_set x }
 {
-    set_if(is_label(x), sets::single(version_of(x)))
-}
-
-// The half of a set, or none of it.
-pub fn half_if(given: bool, half: Half) -> Half
-    ensures { result ≡ cond given half 0 }
-{
-    if given {
-        return half;
-    }
-    0
+    only_if(is_label(x), sets::single(version_of(x)))
 }
 
 // Every version of a half, or none.
 pub fn every_if(pass: bool) -> Half
     ensures { result ≡ cond pass every_half 0 }
 {
-    half_if(pass, sets::EVERY_HALF)
+    only_if(pass, sets::EVERY_HALF)
 }
 
 // What an event gives to the sets of use.
@@ -105,12 +104,10 @@ pub fn gives_of(x: Action) -> Half
 {
     match x {
         Action::Nothing => 0b0000,
-        Action::Reference(access) => match access {
-            Access::Read => 0b0111,
-            Access::Define => 0b1001,
-            Access::Modify => 0b1011,
-            Access::Kill => 0b1001,
-        },
+        Action::Reference(Access::Read) => 0b0111,
+        Action::Reference(Access::Define) => 0b1001,
+        Action::Reference(Access::Modify) => 0b1011,
+        Action::Reference(Access::Kill) => 0b1001,
         Action::Remap(_) => 0b0010,
         Action::Unknown => 0b0000,
     }
@@ -120,11 +117,9 @@ pub fn gives_of(x: Action) -> Half
 pub fn passes_by(gives: Half) -> Half
     ensures { result ≡ passes_by gives }
 {
-    if gives == 0b0010 {
-        return 0b0000;
+    match gives {
+        0b0010 => 0b0000,
+        0b1001 => 0b1101,
+        _ => 0b1111,
     }
-    if gives == 0b1001 {
-        return 0b1101;
-    }
-    0b1111
 }

@@ -4,12 +4,13 @@
 
 pub mod event;
 pub mod letter;
+pub mod read;
 
 ghost use Rattle.std.specs.Prelude.{◌≡◌};
 ghost use Rattle.labels.specs.Letters.{letter_byte, use_of_byte};
 
 // Use, one letter.
-#[derive(Clone, Copy)]
+#[derive(Clone, Copy, Debug, PartialEq, Eq)]
 pub enum Use {
     N,
     D,
@@ -17,22 +18,24 @@ pub enum Use {
     W,
 }
 
-impl Use {
-    // The letter's byte, as tables and plan have it.
-    pub fn letter(self) -> u8
-        ensures { result ≡ letter_byte self }
-    {
-        match self {
+// The letter's byte, as tables and plan have it.
+impl From<Use> for u8 {
+    ghost from_gives = { λ u b. b ≡ letter_byte u };
+
+    fn from(u: Use) -> u8 {
+        match u {
             Use::N => b'N',
             Use::D => b'D',
             Use::R => b'R',
             Use::W => b'W',
         }
     }
+}
 
-    pub fn of_letter(b: u8) -> Use
-        ensures { result ≡ use_of_byte b }
-    {
+impl From<u8> for Use {
+    ghost from_gives = { λ b u. u ≡ use_of_byte b };
+
+    fn from(b: u8) -> Use {
         match b {
             b'N' => Use::N,
             b'D' => Use::D,

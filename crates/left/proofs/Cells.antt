@@ -1,4 +1,4 @@
--- Laws of the cells: those of a file that was read, what a pass leaves, what a redistribute leaves with one template more, and what 42 asks.
+-- Laws of the cells: those of a file that 40 passes, what a pass leaves, what a redistribute leaves with one template more, and what 42 asks.
 -- Assumes nothing.
 use mathlib.Core.Path.{◌≡◌, refl, sym, ap, ap₂, subst, ◌∙◌}
 use mathlib.Core.Bool.{Bool, true, false, cond, true≢false}
@@ -20,31 +20,30 @@ use Rattle.words.proofs.Tests.{one_more}
 use Rattle.sets.specs.Sets.{several}
 use Rattle.flow.specs.Cells.{NoneBeyond, Pass}
 use Rattle.flow.proofs.Cells.{rows_to, in_cells, cells_solved}
-use Rattle.directives.proofs.Limits.{read_heads}
 use Rattle.directives.specs.Directives.{directive}
-use Rattle.directives.specs.Fields.{DirectivesRead}
 use Rattle.directives.specs.Layout.{templates, arrays, vertices, edge_bytes}
-use Rattle.directives.specs.declared.header.Header.{Header}
+use Rattle.directives.specs.Read.{ReadFile}
 use Rattle.directives.specs.declared.vertex.Directive.{Directive}
 use Rattle.directives.specs.declared.vertex.Directive.TheVariants.{Nothing, Realign, Redistribute}
 use Rattle.mappings.specs.Computed.{changes, elsewhere, given_set, held_sets, left_by, left_set}
 use Rattle.mappings.specs.Tables.{ArrayCells, Given}
+use Rattle.mappings.proofs.Formed.{limits}
 use Rattle.facts.proofs.Passing.{Passing, passing}
 use Rattle.left.specs.Cells.{held_gives, held_passes, held_halves, redistributes_other, others_by, others_to, others_at}
 
--- ---- by the header
+-- ---- of a file that 40 passes
 
-module _ {file : List ℕ} {h : Header} (is : DirectivesRead file h) where
+module _ (d : ReadFile) where
   -- a column for each array
-  pub few_columns : arrays file ≤ 8
-  few_columns = (read_heads is).limits.few_arrays
+  pub few_columns : arrays d.bytes ≤ 8
+  few_columns = (limits d.bytes d.passed).few_arrays
 
-  module _ {a v : ℕ} (in_a : a < arrays file) (in_v : v < vertices file) where
+  module _ {a v : ℕ} (in_a : a < arrays d.bytes) (in_v : v < vertices d.bytes) where
     pub few_cells : 8 * v + a < 2048
-    few_cells = omega (arith, in_cells few_columns in_a in_v, (read_heads is).limits.few_vertices)
+    few_cells = omega (arith, in_cells few_columns in_a in_v, (limits d.bytes d.passed).few_vertices)
 
     -- the cell is in a table of all vertices
-    pub in_table : (s : List ℕ) → length s ≡ 8 * vertices file → 8 * v + a < length s
+    pub in_table : (s : List ℕ) → length s ≡ 8 * vertices d.bytes → 8 * v + a < length s
     in_table s e = omega (arith, e, in_cells few_columns in_a in_v)
 
 -- ---- a pass over what each vertex gives and passes
@@ -57,17 +56,17 @@ gives_held file t g gs = record {
   cells = λ a v in_a in_v. gs.cells a v in_a in_v ∙ ap (held_gives file t a v) (g.cells a v in_a in_v);
 }
 
-pub cells_held : {file : List ℕ} {h : Header} (is : DirectivesRead file h) (t : ℕ) {gives passes held : List ℕ}
-    → ArrayCells file (λ a v. held_gives file t a v (given_set file a v)) gives → ArrayCells file (held_passes file t) passes
-    → Pass (edge_bytes file) (vertices file) false gives passes held → ArrayCells file (λ a v. get_or (held_sets file a t) v 0) held
+pub cells_held : (d : ReadFile) (t : ℕ) {gives passes held : List ℕ}
+    → ArrayCells d.bytes (λ a v. held_gives d.bytes t a v (given_set d.bytes a v)) gives → ArrayCells d.bytes (held_passes d.bytes t) passes
+    → Pass (edge_bytes d.bytes) (vertices d.bytes) false gives passes held → ArrayCells d.bytes (λ a v. get_or (held_sets d.bytes a t) v 0) held
 unfolding held_sets held_gives held_passes
-cells_held {file} is t = cells_solved (few_columns is) (λ a v. held_gives file t a v (given_set file a v)) (held_passes file t)
+cells_held d t = cells_solved (few_columns d) (λ a v. held_gives d.bytes t a v (given_set d.bytes a v)) (held_passes d.bytes t)
 
 -- what is passed of each half is passed of both
-pub held_passing : {file : List ℕ} {h : Header} (is : DirectivesRead file h) (t : ℕ) {s : List ℕ} → ArrayCells file (held_halves file t) s
-    → NoneBeyond (arrays file) (vertices file) s → Passing (arrays file) (vertices file) (held_passes file t) s
+pub held_passing : (d : ReadFile) (t : ℕ) {s : List ℕ} → ArrayCells d.bytes (held_halves d.bytes t) s
+    → NoneBeyond (arrays d.bytes) (vertices d.bytes) s → Passing (arrays d.bytes) (vertices d.bytes) (held_passes d.bytes t) s
 unfolding held_halves held_passes
-held_passing {file} is t = passing (few_columns is) (λ a v. changes a t (directive file v))
+held_passing d t = passing (few_columns d) (λ a v. changes a t (directive d.bytes v))
 
 -- ---- what a redistribute leaves
 
@@ -136,44 +135,44 @@ module _ (file : List ℕ) where
 
 -- ---- rows joined one after the other
 
-module _ {file : List ℕ} {h : Header} (is : DirectivesRead file h) (t : ℕ) {held old s : List ℕ}
-    (brought : ArrayCells file (λ a v. get_or (held_sets file a t) v 0) held) (were : ArrayCells file (others_to file t) old)
-    (v : ℕ) (in_v : v < vertices file) (so_far : ArrayCells file (rows_to (others_to file (t + 1)) old v) s) where
+module _ (d : ReadFile) (t : ℕ) {held old s : List ℕ}
+    (brought : ArrayCells d.bytes (λ a v. get_or (held_sets d.bytes a t) v 0) held) (were : ArrayCells d.bytes (others_to d.bytes t) old)
+    (v : ℕ) (in_v : v < vertices d.bytes) (so_far : ArrayCells d.bytes (rows_to (others_to d.bytes (t + 1)) old v) s) where
   -- the row of v, which is as it was
-  row_was : (a : ℕ) → a < arrays file → get_or s (8 * v + a) 0 ≡ others_to file t a v
+  row_was : (a : ℕ) → a < arrays d.bytes → get_or s (8 * v + a) 0 ≡ others_to d.bytes t a v
   row_was a in_a =
       so_far.cells a v in_a in_v
-      ∙ ap (λ (b : Bool). cond b (others_to file (t + 1) a v) (get_or old (8 * v + a) 0)) (le-ltb v v (omega arith))
+      ∙ ap (λ (b : Bool). cond b (others_to d.bytes (t + 1) a v) (get_or old (8 * v + a) 0)) (le-ltb v v (omega arith))
       ∙ were.cells a v in_a in_v
 
   -- one row more
-  row_next : {u : List ℕ} → length u ≡ length s → ((a : ℕ) → a < arrays file → get_or u (8 * v + a) 0 ≡ others_to file (t + 1) a v)
-      → ((a w : ℕ) → a < arrays file → (w ≡ v → ⊥) → get_or u (8 * w + a) 0 ≡ get_or s (8 * w + a) 0)
-      → ArrayCells file (rows_to (others_to file (t + 1)) old (v + 1)) u
+  row_next : {u : List ℕ} → length u ≡ length s → ((a : ℕ) → a < arrays d.bytes → get_or u (8 * v + a) 0 ≡ others_to d.bytes (t + 1) a v)
+      → ((a w : ℕ) → a < arrays d.bytes → (w ≡ v → ⊥) → get_or u (8 * w + a) 0 ≡ get_or s (8 * w + a) 0)
+      → ArrayCells d.bytes (rows_to (others_to d.bytes (t + 1)) old (v + 1)) u
   row_next {u} sized new others = record {
     size = sized ∙ so_far.size;
     cells = λ a w in_a in-w.
         elim (ℕ_discrete w v) [
-          | yes e ↦ subst (λ (x : ℕ). get_or u (8 * x + a) 0 ≡ rows_to (others_to file (t + 1)) old (v + 1) a x) (sym e)
-              (new a in_a ∙ ap (λ (b : Bool). cond b (others_to file (t + 1) a v) (get_or old (8 * v + a) 0)) (sym (lt-ltb v (v + 1) (omega arith))))
+          | yes e ↦ subst (λ (x : ℕ). get_or u (8 * x + a) 0 ≡ rows_to (others_to d.bytes (t + 1)) old (v + 1) a x) (sym e)
+              (new a in_a ∙ ap (λ (b : Bool). cond b (others_to d.bytes (t + 1) a v) (get_or old (8 * v + a) 0)) (sym (lt-ltb v (v + 1) (omega arith))))
           | no e ↦ others a w in_a e ∙ so_far.cells a w in_a in-w
-              ∙ ap (λ (b : Bool). cond b (others_to file (t + 1) a w) (get_or old (8 * w + a) 0)) (one_more w v e)
+              ∙ ap (λ (b : Bool). cond b (others_to d.bytes (t + 1) a w) (get_or old (8 * w + a) 0)) (one_more w v e)
         ];
   }
 
-  pub row_joined : {u : List ℕ} → redistributes_other t (directive file v) ≡ true
+  pub row_joined : {u : List ℕ} → redistributes_other t (directive d.bytes v) ≡ true
       → u ≡ with_row s v (λ a. bit_or (get_or s (8 * v + a) 0) (get_or held (8 * v + a) 0)) 8
-      → ArrayCells file (rows_to (others_to file (t + 1)) old (v + 1)) u
+      → ArrayCells d.bytes (rows_to (others_to d.bytes (t + 1)) old (v + 1)) u
   row_joined q e =
       let r : ℕ → ℕ = λ a. bit_or (get_or s (8 * v + a) 0) (get_or held (8 * v + a) 0) in
-      subst (ArrayCells file (rows_to (others_to file (t + 1)) old (v + 1))) (sym e)
+      subst (ArrayCells d.bytes (rows_to (others_to d.bytes (t + 1)) old (v + 1))) (sym e)
       (row_next (replaced-length s (8 * v) r 8)
-      (λ a in_a. replaced_at s (8 * v) r 0 8 a refl (omega (arith, few_columns is)) (omega (arith, so_far.size))
-      ∙ ap₂ bit_or (row_was a in_a) (brought.cells a v in_a in_v) ∙ others_joined file a v t q)
-      (λ a w in_a other. replaced_other s (8 * v) r 0 8 (8 * w + a) (λ b in_b p. other (omega (arith, few_columns is)))))
+      (λ a in_a. replaced_at s (8 * v) r 0 8 a refl (omega (arith, few_columns d)) (omega (arith, so_far.size))
+      ∙ ap₂ bit_or (row_was a in_a) (brought.cells a v in_a in_v) ∙ others_joined d.bytes a v t q)
+      (λ a w in_a other. replaced_other s (8 * v) r 0 8 (8 * w + a) (λ b in_b p. other (omega (arith, few_columns d)))))
 
-  pub row_left : redistributes_other t (directive file v) ≡ false → ArrayCells file (rows_to (others_to file (t + 1)) old (v + 1)) s
-  row_left q = row_next refl (λ a in_a. row_was a in_a ∙ others_left file a v t q) (λ a w in_a other. refl)
+  pub row_left : redistributes_other t (directive d.bytes v) ≡ false → ArrayCells d.bytes (rows_to (others_to d.bytes (t + 1)) old (v + 1)) s
+  row_left q = row_next refl (λ a in_a. row_was a in_a ∙ others_left d.bytes a v t q) (λ a w in_a other. refl)
 
 -- ---- 42
 

@@ -1,45 +1,23 @@
 // At each redistribute the versions that paths bring which it does not concern: those that bring the array aligned with another template.
 ghost use Rattle.std.specs.Prelude.{◌≡◌, ◌+◌, ◌*◌, ◌≤◌, ◌<◌, length, get_or};
 ghost use Rattle.std.specs.Int.Bits.{bit_or};
-ghost use Rattle.words.specs.Sums.{any_below};
 ghost use Rattle.words.specs.Tables.{with_row};
-ghost use Rattle.directives.specs.Directives.{directive};
-ghost use Rattle.directives.specs.Fields.{DirectivesRead};
 ghost use Rattle.directives.specs.Layout.{vertices};
 ghost use Rattle.mappings.specs.Computed.{held_sets};
 ghost use Rattle.mappings.specs.Tables.{EdgeOrder, ArrayCells, Given};
 ghost use Rattle.left.specs.Cells.{redistributes_other, others_to, others_at};
 
 use crate::held;
-use directives::header::Header;
-use directives::vertex;
+use directives::read::Directives;
 use directives::vertex::Directive;
+use facts::directive;
 use sets::{Half, Set};
 
 // Whether a directive redistributes another template than t.
 fn redistributes_other(t: usize, d: Directive) -> bool
     ensures { result ≡ redistributes_other t d }
 {
-    match d {
-        Directive::Nothing => false,
-        Directive::Realign(_, _) => false,
-        Directive::Redistribute(s, _) => t != s,
-    }
-}
-
-// Whether some directive does.
-fn is_asked(file: &[u8], h: Header, t: usize) -> bool
-    requires { DirectivesRead file.now h }
-    ensures { result ≡ any_below (λ v. redistributes_other t (directive file.now v)) (vertices file.now) }
-{
-    let n = h.vertices;
-    let mut any = false;
-    let mut v = 0;
-    while v < n {
-        any = any | redistributes_other(t, vertex::at(file, h, v));
-        v += 1;
-    }
-    any
+    matches!(d, Directive::Redistribute(s, _) if t != s)
 }
 
 // Joins the row of vertex v.
@@ -50,35 +28,28 @@ fn join_row(v: usize, held: &[Set], others: &mut [Set])
     ensures { others.new
         ≡ with_row others.old v (λ a. bit_or (get_or others.old (8 * v + a) 0) (get_or held.now (8 * v + a) 0)) 8 }
 {
-    let mut a: usize = 0;
-    while a < flow::COLUMNS {
+    for a in 0..flow::COLUMNS {
         let at = flow::COLUMNS * v + a;
         others[at] = others[at] | held[at];
-        a += 1;
     }
 }
 
 // Joins the rows of the vertices that redistribute another template than t.
-fn join(file: &[u8], h: Header, t: usize, held: &[Set], others: &mut [Set])
-    requires directives_read { DirectivesRead file.now h }
-    requires array_cells { ArrayCells file.now (λ a v. get_or (held_sets file.now a t) v 0) held.now }
-    requires array_cells_2 { ArrayCells file.now (others_to file.now t) others.old }
-    ensures { ArrayCells file.now (others_to file.now (t + 1)) others.new }
+fn join(directives: &Directives, t: usize, held: &[Set], others: &mut [Set])
+    requires array_cells { ArrayCells directives.now.bytes (λ a v. get_or (held_sets directives.now.bytes a t) v 0) held.now }
+    requires array_cells_2 { ArrayCells directives.now.bytes (others_to directives.now.bytes t) others.old }
+    ensures { ArrayCells directives.now.bytes (others_to directives.now.bytes (t + 1)) others.new }
 {
-    let n = h.vertices;
-    let mut v = 0;
-    while v < n {
-        if redistributes_other(t, vertex::at(file, h, v)) {
+    for v in 0..directives.vertices() {
+        if redistributes_other(t, directives.directive(v)) {
             join_row(v, held, others);
         }
-        v += 1;
     }
 }
 
 // Joins what paths bring with template t, if a directive asks for it.
 fn add_template(
-    file: &[u8],
-    h: Header,
+    directives: &Directives,
     order: &[u16],
     t: usize,
     given: &[Set],
@@ -88,28 +59,24 @@ fn add_template(
     passes: &mut [Half],
     halves: &mut [Half],
 )
-    requires directives_read { DirectivesRead file.now h }
-    requires edge_order { EdgeOrder file.now order.now }
-    requires given { Given file.now given.now }
-    requires array_cells { ArrayCells file.now (others_to file.now t) others.old }
-    requires held_len { length held.old ≡ 8 * vertices file.now }
-    requires gives_len { length gives.old ≡ 8 * vertices file.now }
-    requires passes_len { length passes.old ≡ 8 * vertices file.now }
-    requires halves_len { length halves.old ≡ 8 * vertices file.now }
-    ensures { ArrayCells file.now (others_to file.now (t + 1)) others.new }
+    requires edge_order { EdgeOrder directives.now.bytes order.now }
+    requires given { Given directives.now.bytes given.now }
+    requires array_cells { ArrayCells directives.now.bytes (others_to directives.now.bytes t) others.old }
+    requires held_len { length held.old ≡ 8 * vertices directives.now.bytes }
+    requires gives_len { length gives.old ≡ 8 * vertices directives.now.bytes }
+    requires passes_len { length passes.old ≡ 8 * vertices directives.now.bytes }
+    requires halves_len { length halves.old ≡ 8 * vertices directives.now.bytes }
+    ensures { ArrayCells directives.now.bytes (others_to directives.now.bytes (t + 1)) others.new }
 {
-    let asked = is_asked(file, h, t);
-    if !asked {
-        return;
+    if directive::any(directives, |d| redistributes_other(t, d)) {
+        held::solve(directives, order, t, given, held, gives, passes, halves);
+        join(directives, t, held, others);
     }
-    held::solve(file, h, order, t, given, held, gives, passes, halves);
-    join(file, h, t, held, others);
 }
 
 // Fills in those of all templates. The slices behind `others` are work slices.
 pub fn solve(
-    file: &[u8],
-    h: Header,
+    directives: &Directives,
     order: &[u16],
     given: &[Set],
     others: &mut [Set],
@@ -118,23 +85,19 @@ pub fn solve(
     passes: &mut [Half],
     halves: &mut [Half],
 )
-    requires directives_read { DirectivesRead file.now h }
-    requires edge_order { EdgeOrder file.now order.now }
-    requires given { Given file.now given.now }
-    requires others_len { length others.old ≡ 8 * vertices file.now }
-    requires held_len { length held.old ≡ 8 * vertices file.now }
-    requires gives_len { length gives.old ≡ 8 * vertices file.now }
-    requires passes_len { length passes.old ≡ 8 * vertices file.now }
-    requires halves_len { length halves.old ≡ 8 * vertices file.now }
-    ensures { ArrayCells file.now (others_at file.now) others.new }
+    requires edge_order { EdgeOrder directives.now.bytes order.now }
+    requires given { Given directives.now.bytes given.now }
+    requires others_len { length others.old ≡ 8 * vertices directives.now.bytes }
+    requires held_len { length held.old ≡ 8 * vertices directives.now.bytes }
+    requires gives_len { length gives.old ≡ 8 * vertices directives.now.bytes }
+    requires passes_len { length passes.old ≡ 8 * vertices directives.now.bytes }
+    requires halves_len { length halves.old ≡ 8 * vertices directives.now.bytes }
+    ensures { ArrayCells directives.now.bytes (others_at directives.now.bytes) others.new }
 {
-    halves::clear(others);
-    let n = h.templates;
-    let mut t = 0;
-    while t < n {
+    others.fill(0);
+    for t in 0..directives.templates() {
         add_template(
-            file, h, order, t, given, others, held, gives, passes, halves,
+            directives, order, t, given, others, held, gives, passes, halves,
         );
-        t += 1;
     }
 }

@@ -48,10 +48,7 @@ fn put_head(file: &mut Buffer, arrays: usize, vertices: usize, edges: usize)
 {
     let actions_at = 18 + 4 * arrays;
     let edges_at = edges_offset(arrays, vertices);
-    put(file, 0, b'H');
-    put(file, 1, b'P');
-    put(file, 2, b'F');
-    put(file, 3, b'R');
+    put_all(file, b"HPFR");
     put_word(file, 4, 1);
     put_word(file, 6, 18);
     put_word(file, 8, arrays);
@@ -63,10 +60,8 @@ fn put_head(file: &mut Buffer, arrays: usize, vertices: usize, edges: usize)
 
 // The bytes of a file from its start.
 fn put_all(file: &mut Buffer, bytes: &[u8]) {
-    let mut i = 0;
-    while i < bytes.len() {
-        put(file, i, bytes[i]);
-        i += 1;
+    for (i, byte) in bytes.iter().enumerate() {
+        put(file, i, *byte);
     }
 }
 
@@ -120,12 +115,8 @@ fn put_every(file: &mut Buffer, at: usize, step: usize, count: usize, byte: u8)
     requires step_bound { step ≤ 4 }
     requires count_bound { count ≤ 8192 }
 {
-    let mut i = 0;
-    let mut next = at;
-    while i < count {
-        put(file, next, byte);
-        next += step;
-        i += 1;
+    for i in 0..count {
+        put(file, at + step * i, byte);
     }
 }
 
@@ -134,10 +125,8 @@ fn put_edges(file: &mut Buffer, at: usize, edges: usize)
     requires at_bound { at < 3000 }
     requires edges_bound { edges ≤ 1025 }
 {
-    let mut i = 0;
-    while i < edges {
+    for i in 0..edges {
         put_edge(file, at + 4 * i, i / 32, 33 + i % 32);
-        i += 1;
     }
 }
 
@@ -188,10 +177,8 @@ pub fn put_loop(path: &mut Buffer, vertices: usize)
     requires { vertices ≤ 4097 }
 {
     put_vertex(path, 1, 1);
-    let mut i = 2;
-    while i < vertices {
+    for i in 2..vertices {
         put_vertex(path, i, 2 + (i - 2) % 5);
-        i += 1;
     }
 }
 
@@ -199,9 +186,7 @@ pub fn put_loop(path: &mut Buffer, vertices: usize)
 pub fn put_rising(path: &mut Buffer, vertices: usize)
     requires { vertices ≤ 4097 }
 {
-    let mut i = 0;
-    while i < vertices {
+    for i in 0..vertices {
         put_vertex(path, i, i);
-        i += 1;
     }
 }

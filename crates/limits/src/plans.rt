@@ -23,8 +23,7 @@ fn case(rt: &HostRuntime, name: &[u8], file: Buffer, length: usize, room: usize)
     requires room_bound { room ≤ 25608 }
 {
     let mut out = buffer();
-    print::bytes(rt, name)?;
-    print::bytes(rt, b" ")?;
+    print::name(rt, name)?;
     write_answer(rt, &file[..length], &mut out[..room])
 }
 

@@ -1,33 +1,44 @@
 // Lines on standard output: a case's name and numbers.
-use refusal::Reply;
+ghost use Rattle.std.specs.Prelude.{◌≤◌, length};
+
+use refusal::Refusal;
 use routine::header::Header;
 use std::io;
+use text::Column;
 
-pub fn bytes(rt: &HostRuntime, s: &[u8]) -> io::Result<()> {
-    rt.write_all(s)
+// The start of a case's line.
+pub fn name(rt: &HostRuntime, name: &[u8]) -> io::Result<()> {
+    rt.write_all(name)?;
+    rt.write_all(b" ")
 }
 
 // The number and places of a call's answer.
-pub fn outcome(rt: &HostRuntime, reply: Reply) -> io::Result<()> {
+pub fn outcome(rt: &HostRuntime, reply: Result<usize, Refusal>) -> io::Result<()> {
     let mut line = [0u8; listing::ROOM];
     let n = listing::outcome(&mut line, reply);
-    bytes(rt, &line[..n])
+    rt.write_all(&line[..n])
+}
+
+fn numbers(rt: &HostRuntime, columns: &[Column]) -> io::Result<()>
+    requires { length columns.now ≤ 4 }
+{
+    let mut line = [0u8; listing::ROOM];
+    let n = text::line(&mut line, columns);
+    rt.write_all(&line[..n])
 }
 
 // 0 and the counts of arrays, vertices and edges.
 pub fn counts(rt: &HostRuntime, h: Header) -> io::Result<()> {
-    let mut line = [0u8; listing::ROOM];
-    let forms = [text::NUMBER; 4];
-    let fields = [0, h.arrays as u64, h.vertices as u64, h.edges as u64];
-    let n = text::line(&mut line, &forms, &fields);
-    bytes(rt, &line[..n])
+    let columns = [
+        Column::Number(0),
+        Column::Number(h.arrays as u64),
+        Column::Number(h.vertices as u64),
+        Column::Number(h.edges as u64),
+    ];
+    numbers(rt, &columns)
 }
 
 // One number.
 pub fn number(rt: &HostRuntime, n: u64) -> io::Result<()> {
-    let mut line = [0u8; listing::ROOM];
-    let forms = [text::NUMBER];
-    let fields = [n];
-    let n = text::line(&mut line, &forms, &fields);
-    bytes(rt, &line[..n])
+    numbers(rt, &[Column::Number(n)])
 }

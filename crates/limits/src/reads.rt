@@ -4,15 +4,13 @@ ghost use Rattle.std.specs.Prelude.{◌≤◌};
 
 use crate::build::Buffer;
 use crate::{build, print};
-use refusal::Reply;
 use routine::reader;
-use routine::reader::Answer;
 use std::io;
 
 fn write_answer(rt: &HostRuntime, file: &[u8]) -> io::Result<()> {
     match reader::read(file) {
-        Answer::Routine(h) => print::counts(rt, h),
-        Answer::Refused(r) => print::outcome(rt, Reply::Denied(r)),
+        Ok(h) => print::counts(rt, h),
+        Err(r) => print::outcome(rt, Err(r)),
     }
 }
 
@@ -20,8 +18,7 @@ fn write_answer(rt: &HostRuntime, file: &[u8]) -> io::Result<()> {
 fn case(rt: &HostRuntime, name: &[u8], file: Buffer, length: usize) -> io::Result<()>
     requires { length ≤ 8192 }
 {
-    print::bytes(rt, name)?;
-    print::bytes(rt, b" ")?;
+    print::name(rt, name)?;
     write_answer(rt, &file[..length])
 }
 

@@ -32,8 +32,7 @@ fn case(
     requires room_bound { room ≤ 17000 }
 {
     let mut out = buffer();
-    print::bytes(rt, name)?;
-    print::bytes(rt, b" ")?;
+    print::name(rt, name)?;
     write_answer(rt, &file[..length], &path[..bytes], &mut out[..room])
 }
 
@@ -111,14 +110,14 @@ fn write_stamp(
     requires { at ≤ 17000 }
 {
     write_answer(rt, file, path, out)?;
-    print::bytes(rt, b"u_last_read ")?;
-    print::number(rt, listing::word(out, at))
+    print::name(rt, b"u_last_read")?;
+    print::number(rt, u64::from(listing::word(out, at)))
 }
 
 // Routine U on this path: the answer, and the stamp that the last read saw.
 fn u_on(rt: &HostRuntime, file: Buffer, path: Buffer) -> io::Result<()> {
     let mut out = buffer();
-    print::bytes(rt, b"u ")?;
+    print::name(rt, b"u")?;
     write_stamp(rt, &file[..58], &path[..14], &mut out[..62], 44)
 }
 

@@ -7,40 +7,40 @@ ghost use Rattle.listing.specs.Lines.{label_line, entry_line, record_line, count
 ghost use Rattle.words.specs.Tables.{wrote};
 ghost use Rattle.words.specs.Words.{word, long_word};
 
-use refusal::Reply;
-use text::{CHARACTER, MASK, NUMBER, VERSION, line};
+use refusal::{Outcome, Refusal};
+use text::{Column, line};
 
 // Room for the longest line.
 pub const ROOM: usize = 128;
 
 // The byte at `at`, 0 beyond the end.
-pub fn byte(s: &[u8], at: usize) -> u64
-    ensures value { result ≡ get_or s.now at 0 }
-    ensures upper_bound { result ≤ 255 }
+pub fn byte(s: &[u8], at: usize) -> u8
+    ensures { result ≡ get_or s.now at 0 }
 {
-    if at < s.len() {
-        return s[at] as u64;
-    }
-    0
+    s.get(at).copied().unwrap_or(0)
 }
 
 // The 16-bit number whose first byte stands at `at`.
-pub fn word(s: &[u8], at: usize) -> u64
-    ensures value { result ≡ word s.now at }
-    ensures upper_bound { result ≤ 65535 }
+pub fn word(s: &[u8], at: usize) -> u16
+    ensures { result ≡ word s.now at }
 {
     if at < s.len() {
-        return byte(s, at) + 256 * byte(s, at + 1);
+        return u16::from_le_bytes([byte(s, at), byte(s, at + 1)]);
     }
     0
 }
 
 // The 32-bit number whose first byte stands at `at`.
-fn long_word(s: &[u8], at: usize) -> u64
+fn long_word(s: &[u8], at: usize) -> u32
     ensures { result ≡ long_word s.now at }
 {
     if at < s.len() {
-        return word(s, at) + 65536 * word(s, at + 2);
+        return u32::from_le_bytes([
+            byte(s, at),
+            byte(s, at + 1),
+            byte(s, at + 2),
+            byte(s, at + 3),
+        ]);
     }
     0
 }
@@ -53,16 +53,15 @@ pub fn label(out: &mut [u8], plan: &[u8], vertex: u64, at: usize) -> usize
     ensures value { result ≡ length (label_line plan.now vertex at) }
     ensures out_after { out.new ≡ wrote out.old (label_line plan.now vertex at) }
 {
-    let forms = [NUMBER, NUMBER, CHARACTER, VERSION, MASK, MASK];
-    let fields = [
-        vertex,
-        byte(plan, at),
-        byte(plan, at + 1),
-        byte(plan, at + 2),
-        long_word(plan, at + 4),
-        long_word(plan, at + 8),
+    let columns = [
+        Column::Number(vertex),
+        Column::Number(u64::from(byte(plan, at))),
+        Column::Character(byte(plan, at + 1)),
+        Column::Version(byte(plan, at + 2)),
+        Column::Mask(long_word(plan, at + 4)),
+        Column::Mask(long_word(plan, at + 8)),
     ];
-    line(out, &forms, &fields)
+    line(out, &columns)
 }
 
 // An array's entry, eight bytes at `at`.
@@ -73,13 +72,12 @@ pub fn entry(out: &mut [u8], report: &[u8], at: usize) -> usize
     ensures value { result ≡ length (entry_line report.now at) }
     ensures out_after { out.new ≡ wrote out.old (entry_line report.now at) }
 {
-    let forms = [NUMBER; 3];
-    let fields = [
-        word(report, at),
-        long_word(report, at + 2),
-        byte(report, at + 6),
+    let columns = [
+        Column::Number(u64::from(word(report, at))),
+        Column::Number(u64::from(long_word(report, at + 2))),
+        Column::Number(u64::from(byte(report, at + 6))),
     ];
-    line(out, &forms, &fields)
+    line(out, &columns)
 }
 
 // A record, ten bytes at `at`.
@@ -90,16 +88,15 @@ pub fn record(out: &mut [u8], report: &[u8], at: usize) -> usize
     ensures value { result ≡ length (record_line report.now at) }
     ensures out_after { out.new ≡ wrote out.old (record_line report.now at) }
 {
-    let forms = [NUMBER; 6];
-    let fields = [
-        word(report, at),
-        byte(report, at + 2),
-        byte(report, at + 3),
-        byte(report, at + 4),
-        word(report, at + 6),
-        word(report, at + 8),
+    let columns = [
+        Column::Number(u64::from(word(report, at))),
+        Column::Number(u64::from(byte(report, at + 2))),
+        Column::Number(u64::from(byte(report, at + 3))),
+        Column::Number(u64::from(byte(report, at + 4))),
+        Column::Number(u64::from(word(report, at + 6))),
+        Column::Number(u64::from(word(report, at + 8))),
     ];
-    line(out, &forms, &fields)
+    line(out, &columns)
 }
 
 // The count of an edge, two bytes at `at`.
@@ -110,20 +107,21 @@ pub fn count(out: &mut [u8], report: &[u8], at: usize) -> usize
     ensures value { result ≡ length (count_line report.now at) }
     ensures out_after { out.new ≡ wrote out.old (count_line report.now at) }
 {
-    let forms = [NUMBER];
-    let fields = [word(report, at)];
-    line(out, &forms, &fields)
+    line(out, &[Column::Number(u64::from(word(report, at)))])
 }
 
 // The number and places of a call's answer.
-pub fn outcome(out: &mut [u8], reply: Reply) -> usize
+pub fn outcome(out: &mut [u8], reply: Result<usize, Refusal>) -> usize
     requires { 128 ≤ length out.old }
     ensures prefix_len { IsPrefixLen result out.new }
     ensures value { result ≡ length (outcome_line reply) }
     ensures out_after { out.new ≡ wrote out.old (outcome_line reply) }
 {
-    let o = refusal::reply_outcome(reply);
-    let forms = [NUMBER; 3];
-    let fields = [o.number, o.first, o.second];
-    line(out, &forms, &fields)
+    let outcome = Outcome::from(reply);
+    let columns = [
+        Column::Number(outcome.number),
+        Column::Number(outcome.first),
+        Column::Number(outcome.second),
+    ];
+    line(out, &columns)
 }

@@ -1,12 +1,12 @@
 -- Request 4, whole: what holds of every file that 40, 41 and 42 pass.
 -- Assumes nothing.
+use Rattle.std.specs.Prelude.{Ok}
 use mathlib.Core.Path.{◌≡◌, subst, ◌∙◌}
 use mathlib.Core.List.{List}
 use mathlib.Core.Logic.{⊎_elim}
 use Prim.Native.Nat.{ℕ, ◌+◌, ◌<◌}
 use lib.Dec.{T}
 use lib.ListN.{get_or}
-use Rattle.refusal.specs.declared.Verdict.TheVariants.{Passed}
 use Rattle.routine.specs.Actions.{action_byte}
 use Rattle.directives.specs.Fields.{check40}
 use Rattle.directives.specs.Layout.{arrays, vertices, reference_at}
@@ -25,7 +25,7 @@ use Rattle.mappings.proofs.Numbers.{numbering}
 use Rattle.mappings.proofs.Read.{converted_fits, converted_read}
 use Rattle.mappings.proofs.Theorem.{byte_either, same_left, keeps_mappings}
 
-module _ (file : List ℕ) (formed-well : check40 file ≡ Passed) (limited : check41 file ≡ Passed) (single : check42 file ≡ Passed) where
+module _ (file : List ℕ) (formed-well : check40 file ≡ Ok tt) (limited : check41 file ≡ Ok tt) (single : check42 file ≡ Ok tt) where
   accepted : Accepted file (given_to file)
   accepted =
       let f = formed file formed-well in

@@ -1,13 +1,13 @@
 -- Directive files and what they become, by computation: figures of document 003, as many versions as the limit and one more, and readings of
 -- request 4.
 -- Assumes nothing.
+use Rattle.std.specs.Prelude.{Ok, Err}
 use mathlib.Core.Path.{◌≡◌, refl}
 use mathlib.Core.List.{List, [], ◌∷◌, ◌++◌}
 use Prim.Native.Nat.{ℕ, zero, suc, ◌+◌, ◌-◌, ◌*◌}
 use lib.Count.{ones}
 use lib.ListN.{length, take, drop, replicate}
 use Rattle.refusal.specs.declared.Refusal.TheVariants.{TooManyMappings, TwoMappings}
-use Rattle.refusal.specs.declared.Verdict.TheVariants.{Passed, Failed}
 use Rattle.routine.specs.Actions.{action_of}
 use Rattle.sets.specs.Sets.{width, bit}
 use Rattle.words.specs.Tables.{rows}
@@ -78,10 +78,10 @@ abbrev body : List ℕ → List ℕ
 body file = take ((4 + vertices file) * arrays file) (drop 18 (converted file))
 
 abbrev Becomes : List ℕ → List ℕ → Type 0
-Becomes file bytes = (check40 file ≡ Passed) × (check41 file ≡ Passed) × (check42 file ≡ Passed) × (body file ≡ bytes)
+Becomes file bytes = (check40 file ≡ Ok tt) × (check41 file ≡ Ok tt) × (check42 file ≡ Ok tt) × (body file ≡ bytes)
 
 abbrev InTwoAt : List ℕ → ℕ → ℕ → Type 0
-InTwoAt file v a = (check40 file ≡ Passed) × (check41 file ≡ Passed) × (check42 file ≡ Failed (TwoMappings v a))
+InTwoAt file v a = (check40 file ≡ Ok tt) × (check41 file ≡ Ok tt) × (check42 file ≡ Err (TwoMappings v a))
 
 -- ---- figures of document 003
 
@@ -187,11 +187,11 @@ spreads (suc n) = spreads n ++ redistribute 0 (cyclic (suc n) ++ undivided) ∷ 
 abbrev spread : ℕ → List ℕ
 spread n = file_of ((block ++ undivided) ∷ []) (array 0 ∷ []) (none ∷ (spreads n ++ none ∷ [])) (chain (suc n))
 
-at_limit : (check40 (spread (width - 1)) ≡ Passed) × (check41 (spread (width - 1)) ≡ Passed)
+at_limit : (check40 (spread (width - 1)) ≡ Ok tt) × (check41 (spread (width - 1)) ≡ Ok tt)
 unfolding check40 check41 rows word bit action_of
 at_limit = (refl, refl)
 
-above_limit : (check40 (spread width) ≡ Passed) × (check41 (spread width) ≡ Failed (TooManyMappings 0))
+above_limit : (check40 (spread width) ≡ Ok tt) × (check41 (spread width) ≡ Err (TooManyMappings 0))
 unfolding check40 check41 rows word bit action_of
 above_limit = (refl, refl)
 

@@ -1,71 +1,32 @@
 -- What check 40 leaves.
 -- Assumes nothing.
+use Rattle.std.specs.Prelude.{Ok}
 use mathlib.Core.Path.{◌≡◌, refl, sym, ap, subst, ◌∙◌}
 use mathlib.Core.Bool.{Bool, true, false, not, ◌&&◌, ◌||◌, cond, true≢false}
-use mathlib.Core.List.{List, [], ◌∷◌, ◌++◌}
+use mathlib.Core.List.{List, [], ◌∷◌}
 use Prim.Native.Nat.{ℕ, ◌+◌, ◌*◌, ◌≤◌, ◌<◌}
-use native.Mathlib.Nat.{add_assoc}
 use native.Mathlib.Omega.{arith}
 use borrow.Author.Tests.{leb-true, ltb-true, eqb-true}
-use lib.Dec.{T, eqb, leb, ltb}
+use lib.Dec.{T, eqb, ltb}
 use lib.ListN.{length, get_or, length-drop}
 use Rattle.flow.specs.Paths.{edge_count, edge_from, edge_to}
 use Rattle.labels.proofs.Rules.Proper.{word-drop}
-use Rattle.refusal.specs.declared.Verdict.TheVariants.{Passed}
 use Rattle.routine.specs.Actions.{action_of, is_reference}
 use Rattle.words.proofs.Tests.{and_left, and_right, by_test}
-use Rattle.words.specs.Tables.{rows}
 use Rattle.words.specs.Words.{word}
-use Rattle.directives.proofs.Fields.{passed_front, passed_back, passed_row, passed_right_here, passed_within, behind}
+use Rattle.directives.proofs.Fields.{passed_front, passed_back, passed_row, passed_right_here, behind}
 use Rattle.directives.proofs.Limits.{passed_heads}
+use Rattle.directives.proofs.Parts.{array_passed, vertex_passed, edge_passed, ends_there}
 use Rattle.directives.specs.Directives.{alignment_at, directive}
-use Rattle.directives.specs.Fields.{Field, byte_field, in_order, head_fields, template_fields, array_fields, directive_byte, is_entry_or_exit, subjects, directive_fields, given_fields, is_right_reference, reference_fields, vertex_fields, edge_of, rises, edge_fields, end_fields, body_fields, fields, check40}
-use Rattle.directives.specs.Layout.{templates, arrays, vertices, edges, entry, exit, array_at, vertex_at, reference_at, edges_at, edge_at, end_at, edge_bytes, Limits}
+use Rattle.directives.specs.Fields.{byte_field, in_order, array_fields, directive_byte, is_entry_or_exit, subjects, directive_fields, given_fields, is_right_reference, reference_fields, vertex_fields, edge_of, rises, edge_fields, check40}
+use Rattle.directives.specs.Layout.{templates, arrays, vertices, edges, entry, exit, array_at, vertex_at, reference_at, edges_at, edge_at, edge_bytes, Limits}
 use Rattle.directives.specs.declared.array.Alignment.{Alignment}
 use Rattle.directives.specs.declared.spread.Mapping.{Mapping}
 use Rattle.directives.specs.declared.vertex.Directive.TheVariants.{Nothing, Realign, Redistribute}
 use Rattle.mappings.specs.Along.{initial_state}
 use Rattle.mappings.specs.Theorem.{Right, Formed}
 
-module _ (file : List ℕ) (passed : check40 file ≡ Passed) where
-  -- ---- the parts
-
-  abbrev from_edges : List Field
-  from_edges = rows (edge_fields file) (edges file) ++ end_fields file
-
-  abbrev from_vertices : List Field
-  from_vertices = rows (vertex_fields file) (vertices file) ++ from_edges
-
-  abbrev from_arrays : List Field
-  from_arrays = rows (array_fields file) (arrays file) ++ from_vertices
-
-  arrays_passed : in_order file from_arrays ≡ Passed
-  unfolding check40 fields
-  arrays_passed = passed_back file (rows (template_fields file) (templates file)) from_arrays (passed_back file (head_fields file) (body_fields file) passed)
-
-  vertices_passed : in_order file from_vertices ≡ Passed
-  vertices_passed = passed_back file (rows (array_fields file) (arrays file)) from_vertices arrays_passed
-
-  edges_passed : in_order file from_edges ≡ Passed
-  edges_passed = passed_back file (rows (vertex_fields file) (vertices file)) from_edges vertices_passed
-
-  array_passed : (a : ℕ) → a < arrays file → in_order file (array_fields file a) ≡ Passed
-  array_passed = passed_row file (array_fields file) (arrays file) (passed_front file (rows (array_fields file) (arrays file)) from_vertices arrays_passed)
-
-  vertex_passed : (v : ℕ) → v < vertices file → in_order file (vertex_fields file v) ≡ Passed
-  vertex_passed = passed_row file (vertex_fields file) (vertices file) (passed_front file (rows (vertex_fields file) (vertices file)) from_edges vertices_passed)
-
-  edge_passed : (i : ℕ) → i < edges file → in_order file (edge_fields file i) ≡ Passed
-  edge_passed = passed_row file (edge_fields file) (edges file) (passed_front file (rows (edge_fields file) (edges file)) (end_fields file) edges_passed)
-
-  pub ends_there : length file ≡ end_at file
-  ends_there =
-      let f : Field = record { at = end_at file; wide = 0; right = leb (length file) (end_at file) } in
-      let at-end = passed_back file (rows (edge_fields file) (edges file)) (end_fields file) edges_passed in
-      let low = leb-true (length file) (end_at file) (passed_right_here file f [] at-end) in
-      let high = passed_within file f [] at-end in
-      omega arith
-
+module _ (file : List ℕ) (passed : check40 file ≡ Ok tt) where
   pub limits : Limits file
   limits = (passed_heads file passed).limits
 
@@ -73,23 +34,20 @@ module _ (file : List ℕ) (passed : check40 file ≡ Passed) where
 
   pub kind_known : (a : ℕ) → a < arrays file → get_or file (array_at file a) 0 ≤ 3
   unfolding array_fields
-  kind_known a h = leb-true _ _ (passed_right_here file _ _ (array_passed a h))
+  kind_known a h = leb-true _ _ (passed_right_here file _ _ (array_passed file passed a h))
 
   array_aligned : (a : ℕ) → a < arrays file → Right file ((initial_state file).aligned a)
   unfolding array_fields alignment_at
   array_aligned a h =
-      let r = array_passed a h in
-      let t : get_or file (array_at file a + 1) 0 < templates file = ltb-true _ _ (passed_right_here file _ _ (behind file 1 (array_fields file a) r)) in
-      let e : get_or file (array_at file a + 2) 0 ≤ 1 = leb-true _ _ (passed_right_here file _ _ (behind file 2 (array_fields file a) r)) in
-      let same : get_or file (array_at file a + 1 + 1) 0 ≡ get_or file (array_at file a + 2) 0 = ap (λ (i : ℕ). get_or file i 0) (add_assoc (array_at file a) 1 1) in
-      (t, omega (arith, same, e))
+      let r = array_passed file passed a h in
+      ltb-true _ _ (passed_right_here file _ _ (behind file 1 (array_fields file a) r))
 
   -- ---- vertices
 
   module _ (v : ℕ) (in_v : v < vertices file) where
-    directive_passed : in_order file (directive_fields file v) ≡ Passed
+    directive_passed : in_order file (directive_fields file v) ≡ Ok tt
     unfolding vertex_fields
-    directive_passed = passed_front file (directive_fields file v) _ (vertex_passed v in_v)
+    directive_passed = passed_front file (directive_fields file v) _ (vertex_passed file passed v in_v)
 
     vertex_realigned : (b : ℕ) (x : Alignment) → directive file v ≡ Realign b x → Right file x
     unfolding directive alignment_at
@@ -99,11 +57,8 @@ module _ (file : List ℕ) (passed : check40 file ≡ Passed) where
         yes q =
             let d = directive_byte file v in
             let t : get_or file (vertex_at file v + 2) 0 < cond (eqb d 1) (templates file) 1 = ltb-true _ _ (passed_right_here file _ _ (behind file 2 (directive_fields file v) directive_passed)) in
-            let u : get_or file (vertex_at file v + 3) 0 ≤ cond (eqb d 1) 1 0 = leb-true _ _ (passed_right_here file _ _ (behind file 3 (directive_fields file v) directive_passed)) in
-            let u1 : get_or file (vertex_at file v + 3) 0 ≤ 1 = rw q at u in
             let is : alignment_at file (vertex_at file v + 2) ≡ x = cc (rw q at e) in
-            let same : get_or file (vertex_at file v + 2 + 1) 0 ≡ get_or file (vertex_at file v + 3) 0 = ap (λ (i : ℕ). get_or file i 0) (add_assoc (vertex_at file v) 2 1) in
-            subst (Right file) is (rw q at t, omega (arith, same, u1))
+            subst (Right file) is (rw q at t)
 
         no : eqb (directive_byte file v) 1 ≡ false → Right file x
         no q = by_test (eqb (directive_byte file v) 2)
@@ -142,7 +97,7 @@ module _ (file : List ℕ) (passed : check40 file ≡ Passed) where
       reference_right : is_right_reference file v byte ≡ true
       unfolding vertex_fields
       reference_right =
-          let back = passed_back file (given_fields file v) (reference_fields file v) (passed_back file (directive_fields file v) _ (vertex_passed v in_v)) in
+          let back = passed_back file (given_fields file v) (reference_fields file v) (passed_back file (directive_fields file v) _ (vertex_passed file passed v in_v)) in
           passed_right_here file _ [] (passed_row file (λ a. byte_field file (reference_at file v a) (is_right_reference file v) ∷ []) (arrays file) back a in_a)
 
       -- 00 or a reference; 00 beside a directive, and in the rows of the entry and the exit
@@ -169,7 +124,7 @@ module _ (file : List ℕ) (passed : check40 file ≡ Passed) where
       → ((edge_of file i).from < exit file) × (0 < (edge_of file i).to) × ((edge_of file i).to < vertices file) × (rises file i ≡ true)
   unfolding edge_fields
   edge_facts i h =
-      let r = edge_passed i h in
+      let r = edge_passed file passed i h in
       let w = word file (edge_at file i + 2) in
       let f : (ltb 0 w && ltb w (vertices file)) ≡ true = passed_right_here file _ _ (behind file 1 (edge_fields file i) r) in (
         ltb-true _ _ (passed_right_here file _ _ r),
@@ -179,7 +134,7 @@ module _ (file : List ℕ) (passed : check40 file ≡ Passed) where
       )
 
   pub edges_size : length (edge_bytes file) ≡ 4 * edges file
-  edges_size = rw length-drop (omega (arith, ends_there))
+  edges_size = rw length-drop (omega (arith, ends_there file passed))
 
   pub edge_from_lem : (i : ℕ) → edge_from (edge_bytes file) i ≡ (edge_of file i).from
   edge_from_lem i = word-drop (edges_at file) file (4 * i)

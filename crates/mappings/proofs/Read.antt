@@ -1,5 +1,6 @@
 -- The converted routine of an accepted file passes 10 to 19: its rows have references or remappings and no calls.
 -- Assumes nothing.
+use Rattle.std.specs.Prelude.{Ok, Option, Some, None}
 use mathlib.Core.Path.{◌≡◌, refl, sym, ap, ap₂, subst, ◌∙◌}
 use mathlib.Core.Bool.{Bool, true, false, not, ◌&&◌, ◌||◌, and-false}
 use mathlib.Core.List.{List}
@@ -11,10 +12,9 @@ use lib.Dec.{T, eqb, lit<}
 use lib.ListN.{length, get_or}
 use Rattle.flow.specs.Paths.{edge_from, edge_to}
 use Rattle.labels.proofs.Rules.Proper as P
-use Rattle.refusal.specs.declared.Verdict.TheVariants.{Passed}
 use Rattle.routine.proofs.Accepted.{accepts}
 use Rattle.routine.proofs.Form.{few_actions}
-use Rattle.routine.proofs.Actions.{known_no_call, reference_family, remap_family}
+use Rattle.routine.proofs.Actions.{known_no_call, differ-none, differ-self, reference_family, remap_family}
 use Rattle.routine.specs.Actions as A
 use Rattle.routine.specs.Actions.{action_of, action_byte, is_known, remaps_below, family_of, differ, is_at_entry_or_exit, is_mixed_in_row, action_check}
 use Rattle.routine.specs.Arrays.{record_check, array_check}
@@ -24,9 +24,10 @@ use Rattle.routine.specs.Layout as R
 use Rattle.routine.specs.Layout.{check10, check11, check12, check13, header_of, record_at}
 use Rattle.routine.specs.Reader.{form_check, read_of, Laid, ChecksPassed}
 use Rattle.routine.specs.declared.action.Access.{Access}
+use Rattle.routine.specs.declared.action.Family.{Family}
+use Rattle.routine.specs.declared.action.Family.TheVariants as F
 use Rattle.routine.specs.declared.action.Action.TheVariants.{Reference, Remap}
 use Rattle.routine.specs.declared.array.ArrayRecord.{ArrayRecord}
-use Rattle.routine.specs.declared.reader.Answer.TheVariants.{Routine}
 use Rattle.sets.specs.Sets.{width}
 use Rattle.words.proofs.Sums.{none_below}
 use Rattle.words.proofs.Tests.{by_test}
@@ -46,33 +47,33 @@ use Rattle.mappings.proofs.Theorem.{stays, byte_either, remaps_to}
 
 -- ---- a byte of a row of family f, for an array of n versions
 
-record RightByte (n f b : ℕ) : Type 0 where
+record RightByte (n : ℕ) (f : Option Family) (b : ℕ) : Type 0 where
   known : is_known (action_of b) ≡ true
   below : remaps_below (action_of b) n ≡ true
-  family : (family_of b ≡ 0) ⊎ (family_of b ≡ f)
+  family : (family_of b ≡ None) ⊎ (family_of b ≡ f)
 
 module _ (n : ℕ) {b : ℕ} where
-  nothing_right : (f : ℕ) → b ≡ 0 → RightByte n f b
+  nothing_right : (f : Option Family) → b ≡ 0 → RightByte n f b
   unfolding action_of
   nothing_right f e = subst (RightByte n f) (sym e) (record { known = refl; below = refl; family = inl refl })
 
-  reference_right : {r : Access} → action_of b ≡ Reference r → RightByte n 1 b
+  reference_right : {r : Access} → action_of b ≡ Reference r → RightByte n (Some F.Reference) b
   reference_right e = record { known = rw e refl; below = rw e refl; family = inr (reference_family b e) }
 
-  remap_right : {k : ℕ} → k < n → action_of b ≡ Remap k → RightByte n 2 b
+  remap_right : {k : ℕ} → k < n → action_of b ≡ Remap k → RightByte n (Some F.Remapping) b
   remap_right {k} h e = record { known = rw e refl; below = rw e (lt-ltb k n h); family = inr (remap_family b e) }
 
 -- two bytes of one row do not differ
-one_family : (f x y : ℕ) → (x ≡ 0) ⊎ (x ≡ f) → (y ≡ 0) ⊎ (y ≡ f) → differ x y ≡ false
+one_family : (f x y : Option Family) → (x ≡ None) ⊎ (x ≡ f) → (y ≡ None) ⊎ (y ≡ f) → differ x y ≡ false
 one_family f x y p q = ⊎_elim
-    (λ (e : x ≡ 0). rw e refl)
+    (λ (e : x ≡ None). rw e refl)
     (λ (e : x ≡ f). ⊎_elim
-    (λ (d : y ≡ 0). rw d (and-false (not (eqb x 0))))
-    (λ (d : y ≡ f). rw (e, d, eq-eqb f f refl) (simp and-false))
+    (λ (d : y ≡ None). rw d (differ-none x))
+    (λ (d : y ≡ f). rw (e, d) (differ-self f))
     q)
     p
 
-module _ (file : List ℕ) (passed : check40 file ≡ Passed) {given : ℕ → ℕ → List Mapping} (accepted : Accepted file given) where
+module _ (file : List ℕ) (passed : check40 file ≡ Ok tt) {given : ℕ → ℕ → List Mapping} (accepted : Accepted file given) where
   abbrev routine : List ℕ
   routine = converted_by file given
 
@@ -92,7 +93,7 @@ module _ (file : List ℕ) (passed : check40 file ≡ Passed) {given : ℕ → �
 
   -- ---- arrays
 
-  array_passes : (a : ℕ) → a < arrays file → array_check routine a ≡ Passed
+  array_passes : (a : ℕ) → a < arrays file → array_check routine a ≡ Ok tt
   unfolding array_check
   array_passes a h =
       ap (λ (r : ArrayRecord). record_check r (record_at a)) (array_is file given a h)
@@ -114,25 +115,25 @@ module _ (file : List ℕ) (passed : check40 file ≡ Passed) {given : ℕ → �
         (λ p. absurd (subst (λ (d : Directive). T (remaps_in (state_by file p.1.before) d a)) (silent file passed v in_v e) p.1.remaps))
         (byte_either accepted a in_a v in_v)
 
-    abbrev RightRow : ℕ → Type 0
+    abbrev RightRow : Option Family → Type 0
     RightRow f = (a : ℕ) → a < arrays file → RightByte (length (versions file given a)) f (action_byte routine a v)
 
     -- it has references; one with a directive has remappings
-    kept_row : directive_byte file v ≡ 0 → RightRow 1
+    kept_row : directive_byte file v ≡ 0 → RightRow (Some F.Reference)
     kept_row e a in_a =
-        subst (RightByte (length (versions file given a)) 1) (sym (kept e a in_a))
-        (⊎_elim (nothing_right _ 1) (λ p. reference_right _ p.1) (stays (get_or file (reference_at file v a) 0) (accepted.formed.references v a in_v in_a)))
+        subst (RightByte (length (versions file given a)) (Some F.Reference)) (sym (kept e a in_a))
+        (⊎_elim (nothing_right _ (Some F.Reference)) (λ p. reference_right _ p.1) (stays (get_or file (reference_at file v a) 0) (accepted.formed.references v a in_v in_a)))
 
-    remapped_row : eqb (directive_byte file v) 0 ≡ false → RightRow 2
+    remapped_row : eqb (directive_byte file v) 0 ≡ false → RightRow (Some F.Remapping)
     remapped_row q a in_a =
-        subst (RightByte (length (versions file given a)) 2) (sym (byte_is file given a v in_a in_v))
+        subst (RightByte (length (versions file given a)) (Some F.Remapping)) (sym (byte_is file given a v in_a in_v))
         (⊎_elim
-        (λ p. nothing_right _ 2 (p.1 ∙ reference_zero file passed v in_v a in_a (ap (λ (b : Bool). b && not (is_entry_or_exit file v)) q)))
+        (λ p. nothing_right _ (Some F.Remapping) (p.1 ∙ reference_zero file passed v in_v a in_a (ap (λ (b : Bool). b && not (is_entry_or_exit file v)) q)))
         (λ p. remap_right _ p.2.0 (ap action_of p.3 ∙ remaps_to accepted a in_a v in_v p.2))
         (byte_either accepted a in_a v in_v))
 
-    right_row : (f : ℕ) × RightRow f
-    right_row = by_test (eqb (directive_byte file v) 0) (λ q. (1, kept_row (eqb-true _ 0 q))) (λ q. (2, remapped_row q))
+    right_row : (f : Option Family) × RightRow f
+    right_row = by_test (eqb (directive_byte file v) 0) (λ q. (Some F.Reference, kept_row (eqb-true _ 0 q))) (λ q. (Some F.Remapping, remapped_row q))
 
     -- the rows of the entry and the exit are all 00
     zero_there : (a : ℕ) → a < arrays file → is_at_entry_or_exit routine a v ≡ false
@@ -143,7 +144,7 @@ module _ (file : List ℕ) (passed : check40 file ≡ Passed) {given : ℕ → �
         ap (λ (b : Bool). A.is_entry_or_exit routine v && not b) (eq-eqb (action_byte routine a v) 0 e) ∙ and-false (A.is_entry_or_exit routine v))
         (λ q. ap (λ (b : Bool). b && not (eqb (action_byte routine a v) 0)) (ap (λ (n : ℕ). eqb v entry || eqb v n) (exit_is file given) ∙ q))
 
-    action-passes : (a : ℕ) → a < arrays file → action_check routine a v ≡ Passed
+    action-passes : (a : ℕ) → a < arrays file → action_check routine a v ≡ Ok tt
     unfolding action_check
     action-passes a in_a =
         let (f, row) = right_row in
@@ -167,7 +168,7 @@ module _ (file : List ℕ) (passed : check40 file ≡ Passed) {given : ℕ → �
   rises_is zero = refl
   rises_is (suc i) = rw (from_is i, to_is i, from_is (suc i), to_is (suc i)) refl
 
-  edge-passes : (i : ℕ) → i < edges file → edge_check routine i ≡ Passed
+  edge-passes : (i : ℕ) → i < edges file → edge_check routine i ≡ Ok tt
   unfolding edge_check
   edge-passes i h =
       let f = edge_facts file passed i h in
@@ -199,7 +200,7 @@ module _ (file : List ℕ) (passed : check40 file ≡ Passed) {given : ℕ → �
   unfolding word
   offset i n h e = ap₂ (λ (x y : ℕ). x + 256 * y) (in_head file given i (omega arith)) (in_head file given (i + 1) h) ∙ e
 
-  form : form_check routine ≡ Passed
+  form : form_check routine ≡ Ok tt
   unfolding form_check check10 check11 check12 check13
   form =
       let l = limits file passed in
@@ -232,5 +233,5 @@ module _ (file : List ℕ) (passed : check40 file ≡ Passed) {given : ℕ → �
   converted_fits = omega (arith, laid.ends, laid.limits.few_arrays, few_actions laid.limits, edges_are file given, (limits file passed).few_edges)
 
   -- the reader accepts it
-  pub converted_read : read_of routine ≡ Routine (header_of routine)
+  pub converted_read : read_of routine ≡ Ok (header_of routine)
   converted_read = accepts routine form passes

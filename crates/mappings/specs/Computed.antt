@@ -7,10 +7,9 @@ use Rattle.words.specs.Tables.{table, rows}
 use Rattle.flow.specs.Solver.{solution}
 use Rattle.sets.specs.Sets.{width, every_version, has, several}
 use Rattle.labels.specs.Reaching.{is_reached_over}
-use Rattle.refusal.specs.Checks.{holds, first_failed}
+use Rattle.refusal.specs.Checks.{holds, first_failed, Verdict}
 use Rattle.refusal.specs.Faults.{first_fault}
 use Rattle.refusal.specs.declared.Refusal.TheVariants.{TooManyMappings, TwoMappings}
-use Rattle.refusal.specs.declared.Verdict.{Verdict}
 use Rattle.directives.specs.Layout.{templates, arrays, vertices, entry, edge_bytes}
 use Rattle.directives.specs.Directives.{directive}
 use Rattle.directives.specs.declared.array.Alignment.{Alignment}
@@ -53,9 +52,9 @@ alignment_of initial (Redistribute t m) = initial
 
 -- as a number, below 16 for 8 templates
 abbrev pub code : Alignment → ℕ
-code x = 2 * x.template + x.exchanged
+code x = 2 * x.template + cond x.exchanged 1 0
 
--- bit 2 t + e in the set of v: some path brings the array aligned with template t, exchanged e
+-- bit 2 t + e in the set of v: some path brings the array aligned with template t, straight (e = 0) or exchanged (1)
 unfoldable pub align_sets : List ℕ → ℕ → List ℕ
 unfolding last_sets directive
 align_sets file a =
@@ -96,7 +95,7 @@ given_by file a v (Realign b x) =
     cond (eqb a b)
     (rows (λ u. cond (has (get_or (spread_sets file x.template) v 0) u) (turned x.exchanged (spread_by file x.template u) ∷ []) []) (vertices file))
     []
-given_by file a v (Redistribute t m) = rows (λ e. cond (has (get_or (align_sets file a) v 0) (2 * t + e)) (turned e m ∷ []) []) 2
+given_by file a v (Redistribute t m) = rows (λ e. cond (has (get_or (align_sets file a) v 0) (2 * t + e)) (turned (eqb e 1) m ∷ []) []) 2
 
 unfoldable pub given_to : List ℕ → ℕ → ℕ → List Mapping
 unfolding directive align_sets spread_sets

@@ -1,14 +1,11 @@
 -- Document 02, request 4: what the call `convert` answers and leaves in the buffer.
 -- Assumes nothing.
-use Rattle.std.specs.Prelude.{◌≡◌, List, ℕ, leb, length}
+use Rattle.std.specs.Prelude.{◌≡◌, List, ℕ, leb, length, Ok}
 use Rattle.labels.specs.Checks.{programmer_check}
-use Rattle.refusal.specs.Checks.{◌and_then◌, holds}
-use Rattle.refusal.specs.Replies.{written, filled_by, reply_outcome}
+use Rattle.refusal.specs.Checks.{◌and_then◌, holds, Verdict}
+use Rattle.refusal.specs.Replies.{written, filled_by, reply_outcome, Reply}
 use Rattle.refusal.specs.declared.Outcome.{Outcome}
 use Rattle.refusal.specs.declared.Refusal.TheVariants.{ShortRoutineBuffer}
-use Rattle.refusal.specs.declared.Reply.{Reply}
-use Rattle.refusal.specs.declared.Verdict.{Verdict}
-use Rattle.refusal.specs.declared.Verdict.TheVariants.{Passed}
 use Rattle.directives.specs.Fields.{check40}
 use Rattle.mappings.specs.Computed.{check41, check42, converted}
 use Rattle.mappings.specs.Demand.{MappingFaults, Demand4}
@@ -42,6 +39,6 @@ pub record Converts (file before : List ℕ) (reply : Reply) (after : List ℕ) 
   pub outcome : reply_outcome reply ≡ convert_outcome file (length before)
   pub buffer : after ≡ convert_into reply file before
   -- what 41 and 42 say where 40 passes
-  pub faults : check40 file ≡ Passed → MappingFaults file
+  pub faults : check40 file ≡ Ok tt → MappingFaults file
   -- where all three pass: at each reference the mapping that the directives give is that of the version which the routine names
-  pub demand : (check40 file and_then check41 file and_then check42 file) ≡ Passed → Demand4 file
+  pub demand : (check40 file and_then check41 file and_then check42 file) ≡ Ok tt → Demand4 file

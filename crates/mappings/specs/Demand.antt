@@ -1,16 +1,14 @@
 -- Document 02, request 4: what 41 and 42 say of every directive file that 40 passes, and what holds of every file that all three pass.
 -- Assumes nothing.
-use Rattle.std.specs.Prelude.{◌≡◌, List, ◌↔◌, ℕ, ◌+◌, ◌≤◌, ◌<◌, length, get_or}
+use Rattle.std.specs.Prelude.{◌≡◌, List, ◌↔◌, ℕ, ◌+◌, ◌≤◌, ◌<◌, length, get_or, Ok, Err}
 use Rattle.labels.specs.Events as L
 use Rattle.refusal.specs.Faults.{FirstOf, FirstFault}
 use Rattle.refusal.specs.declared.Refusal.{Refusal}
 use Rattle.refusal.specs.declared.Refusal.TheVariants.{TooManyMappings, TwoMappings}
-use Rattle.refusal.specs.declared.Verdict.TheVariants.{Passed, Failed}
 use Rattle.routine.specs.Actions.{action_byte}
 use Rattle.routine.specs.Arrays.{array_of}
 use Rattle.routine.specs.Layout as R
 use Rattle.routine.specs.Reader.{read_of}
-use Rattle.routine.specs.declared.reader.Answer.TheVariants.{Routine}
 use Rattle.sets.specs.Sets.{width}
 use Rattle.directives.specs.Layout.{arrays, vertices, array_at, reference_at, edge_bytes}
 use Rattle.directives.specs.declared.spread.Mapping.{Mapping}
@@ -21,19 +19,19 @@ use Rattle.mappings.specs.Theorem.{KeepsMappings}
 -- 41 and 42, of a file that 40 passes
 pub record MappingFaults (file : List ℕ) : Type 0 where
   -- 41 is passed exactly if no array has too many mappings, else it names the first that has
-  pub few : (check41 file ≡ Passed) ↔ ((a : ℕ) → a < arrays file → TooMany file width a → ⊥)
-  pub many : (r : Refusal) → (check41 file ≡ Failed r) ↔ ((a : ℕ) × FirstOf (TooMany file width) (arrays file) a × (r ≡ TooManyMappings a))
+  pub few : (check41 file ≡ Ok tt) ↔ ((a : ℕ) → a < arrays file → TooMany file width a → ⊥)
+  pub many : (r : Refusal) → (check41 file ≡ Err r) ↔ ((a : ℕ) × FirstOf (TooMany file width) (arrays file) a × (r ≡ TooManyMappings a))
   -- where it is passed, 42 is passed exactly if no directive can leave an array that it remaps in two mappings, else it names the first place,
   -- by vertex, then by array
-  pub single : check41 file ≡ Passed → (check42 file ≡ Passed) ↔ ((v a : ℕ) → v < vertices file → a < arrays file → InTwo file a v → ⊥)
+  pub single : check41 file ≡ Ok tt → (check42 file ≡ Ok tt) ↔ ((v a : ℕ) → v < vertices file → a < arrays file → InTwo file a v → ⊥)
   pub double :
-      check41 file ≡ Passed → (r : Refusal)
-      → (check42 file ≡ Failed r) ↔ ((v : ℕ) × (a : ℕ) × FirstFault (λ v a. InTwo file a v) (vertices file) (arrays file) v a × (r ≡ TwoMappings v a))
+      check41 file ≡ Ok tt → (r : Refusal)
+      → (check42 file ≡ Err r) ↔ ((v : ℕ) × (a : ℕ) × FirstFault (λ v a. InTwo file a v) (vertices file) (arrays file) v a × (r ≡ TwoMappings v a))
 
 -- the routine, of a file that 41 and 42 pass too
 pub record Demand4 (file : List ℕ) : Type 0 where
   -- the converted routine passes 10 to 19, and is no longer than 8 arrays, 256 vertices and 1,024 edges make it
-  pub read : read_of (converted file) ≡ Routine (R.header_of (converted file))
+  pub read : read_of (converted file) ≡ Ok (R.header_of (converted file))
   pub fits : length (converted file) ≤ 6194
   -- arrays, vertices and edges keep their numbers
   pub arrays_kept : R.arrays (converted file) ≡ arrays file

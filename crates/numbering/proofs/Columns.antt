@@ -1,5 +1,6 @@
 -- Laws of the numbering: the column of an array vertex by vertex, and array by array.
 -- Assumes nothing.
+use Rattle.std.specs.Prelude.{Ok, Err}
 use mathlib.Core.Path.{◌≡◌, refl, sym, subst, ◌∙◌}
 use mathlib.Core.Bool.{not}
 use mathlib.Core.List.{List, []}
@@ -13,11 +14,9 @@ use lib.Dec.{ltb}
 use lib.ListN.{length, get_or, set, length-set}
 use lib.Seq.{get_or-set_same, get_or-set_other}
 use Rattle.words.proofs.Tests.{by_test}
-use Rattle.refusal.specs.Checks.{holds}
+use Rattle.refusal.specs.Checks.{holds, Verdict}
 use Rattle.refusal.specs.declared.Refusal.{Refusal}
 use Rattle.refusal.specs.declared.Refusal.TheVariants.{TooManyMappings}
-use Rattle.refusal.specs.declared.Verdict.{Verdict}
-use Rattle.refusal.specs.declared.Verdict.TheVariants.{Passed, Failed}
 use Rattle.directives.specs.Layout.{arrays, vertices}
 use Rattle.directives.specs.declared.spread.Mapping.{Mapping}
 use Rattle.mappings.proofs.Lists.{listed_none, extended_longer, extended-set, numbered_all}
@@ -34,7 +33,7 @@ module _ (file : List ℕ) (a : ℕ) where
   up_to v = numbered (initial_mapping file a) (given_to file a) v
 
   -- the column is numbered up to vertex v
-  pub record ColumnTo (before after list : List ℕ) (count v : ℕ) : Type 0 where
+  pub record ColumnTo (before after : List ℕ) (list : List Mapping) (count v : ℕ) : Type 0 where
     pub within : v ≤ vertices file
     pub size : length after ≡ 8 * vertices file
     pub most : count ≤ width + 1
@@ -43,7 +42,7 @@ module _ (file : List ℕ) (a : ℕ) where
     pub others : (b u : ℕ) → b < 8 → (b ≡ a → ⊥) → u < vertices file → get_or after (8 * u + b) 0 ≡ get_or before (8 * u + b) 0
 
 module _ {file : List ℕ} {a : ℕ} where
-  pub column_start : {before list : List ℕ} → length before ≡ 8 * vertices file → Starts (initial_mapping file a) list → ColumnTo file a before before list 1 0
+  pub column_start : {before : List ℕ} {list : List Mapping} → length before ≡ 8 * vertices file → Starts (initial_mapping file a) list → ColumnTo file a before before list 1 0
   unfolding numbered version_set
   column_start size s = record {
     within = omega arith;
@@ -59,7 +58,7 @@ module _ {file : List ℕ} {a : ℕ} where
     others = λ b u in_b other in_u. refl;
   }
 
-  module _ {before after list list' : List ℕ} {count v : ℕ} {q : Numbered} (in_a : a < 8) (in_v : v < vertices file) where
+  module _ {before after : List ℕ} {list list' : List Mapping} {count v : ℕ} {q : Numbered} (in_a : a < 8) (in_v : v < vertices file) where
     pub column_next : ColumnTo file a before after list count v → Grows (given_to file a v) list (record { count = count; given = 0 }) list' q
         → ColumnTo file a before (set after (8 * v + a) q.given) list' q.count (v + 1)
     unfolding numbered version_set
@@ -88,7 +87,7 @@ module _ {file : List ℕ} {a : ℕ} where
               get_or-set_other after (8 * v + a) (8 * u + b) q.given 0 (λ x. other (omega arith)) ∙ c.others b u in_b other in_u;
         })
 
-  pub column_end : {before after list : List ℕ} {count v : ℕ} → vertices file ≤ v → ColumnTo file a before after list count v → ColumnNumbered file a before count after
+  pub column_end : {before after : List ℕ} {list : List Mapping} {count v : ℕ} → vertices file ≤ v → ColumnTo file a before after list count v → ColumnNumbered file a before count after
   unfolding given_set
   column_end {before} {after} {list} {count} all c =
       let t = subst (ColumnTo file a before after list count) (le_antisymm c.within all) c in
@@ -128,10 +127,10 @@ module _ {file : List ℕ} where
         (λ t. absurd (omega (arith, c.many (ltb-true width (length (versions_of file a)) t))))
         (ltb-false width (length (versions_of file a)))
 
-    pub few_passes : count ≤ width → Passed ≡ few_check file a
+    pub few_passes : count ≤ width → (Ok tt) ≡ few_check file a
     few_passes h = rw (le-ltb width (length (versions_of file a)) (column_few h))
 
-    pub many_fails : width < count → Failed (TooManyMappings a) ≡ few_check file a
+    pub many_fails : width < count → Err (TooManyMappings a) ≡ few_check file a
     many_fails h = by_test (ltb width (length (versions_of file a)))
         (λ t. rw t)
         (λ t. let few = ltb-false width (length (versions_of file a)) t in absurd (omega (arith, (c.few few).0)))
@@ -155,15 +154,12 @@ module _ {file : List ℕ} where
               ];
         }
 
-  pub all_end : {given counts : List ℕ} {a : ℕ} → arrays file ≤ a → AllTo file given counts a → AllNumbered file Passed given counts
+  pub all_end : {given counts : List ℕ} {a : ℕ} → arrays file ≤ a → AllTo file given counts a → AllNumbered file (Ok tt) given counts
   all_end all l = record {
     given_are = λ _. record { size = l.given_size; cells = λ b v in_b in_v. l.cells b v (omega arith) in_v };
     counts_are = λ _. record { size = l.counts_size; are = λ b in_b. l.are b (omega arith) };
   }
 
 -- nothing is promised where 41 fails
-pub none_numbered : {file given counts : List ℕ} {r : Refusal} → AllNumbered file (Failed r) given counts
-none_numbered {r = r} = record { given_are = λ e. absurd (never e); counts_are = λ e. absurd (never e) }
-  where
-    never : Failed r ≡ Passed → ⊥
-    never e = let z : ◌≡◌ {A = ℕ} 0 1 = cc in omega arith
+pub none_numbered : {file given counts : List ℕ} {r : Refusal} → AllNumbered file (Err r) given counts
+none_numbered = record { given_are = λ e. cc; counts_are = λ e. cc }

@@ -1,17 +1,18 @@
--- Laws of a list that holds mappings: what stands at each version, how a mapping is found, and what adding one leaves.
+-- Laws of a list that holds mappings: how a mapping is found, and what adding one leaves.
 -- Assumes nothing.
 use mathlib.Core.Path.{◌≡◌, refl, sym, ap, ap₂, subst, ◌∙◌}
-use mathlib.Core.Bool.{Bool, true, false, cond, not}
+use mathlib.Core.Bool.{cond, not}
 use mathlib.Core.List.{List, [], ◌∷◌, ◌++◌}
 use mathlib.Core.Logic.{⊎_elim}
-use Prim.Native.Nat.{ℕ, zero, suc, ◌+◌, ◌*◌, ◌^◌, ◌≤◌, ◌<◌}
-use native.Mathlib.Nat.{le_of_suc-le-suc, eq-or-lt_of_le}
-use native.Mathlib.Numerals.{add-one}
+use Prim.Native.Nat.{ℕ, suc, ◌+◌, ◌^◌, ◌≤◌, ◌<◌}
 use native.Mathlib.Omega.{arith}
+use borrow.Author.Tests.{ltb-false}
 use lib.Bits.{bit_or}
 use lib.Dec.{T, ltb, ltb→lt, nltb→le}
-use lib.ListN.{length, get_or, set, drop, length-append, length-set, length-drop, get_or-append}
-use lib.Seq.{drop-cons, get_or_at, get_or-set_same, get_or-set_other}
+use lib.ListN.{length, take, length-append, length-take}
+use Rattle.std.proofs.lemmas.List.Recursion.{is_position_or_len}
+use Rattle.std.specs.List.{position, position_or_len}
+use Rattle.std.specs.Option.{unwrap_or}
 use Rattle.directives.specs.declared.spread.Mapping.{Mapping}
 use Rattle.mappings.proofs.Lists.{listed_either, number_of, extended_old, extended_new, extended_longer, extended-set}
 use Rattle.mappings.proofs.VersionSets.{extended_listed, extended_unlisted, number_last, number_below, number_within, set_more}
@@ -19,86 +20,29 @@ use Rattle.mappings.specs.Along.{alike}
 use Rattle.mappings.specs.Computed.{version_set}
 use Rattle.mappings.specs.Converted.{is_listed, extended, version_in}
 use Rattle.sets.specs.Sets.{width}
-use Rattle.words.proofs.Tables.{rows_same}
-use Rattle.words.proofs.Tests.{either}
-use Rattle.words.specs.Tables.{rows}
-use Rattle.numbering.specs.Lists.{mapping_at, mappings_of, Holds, Grows}
+use Rattle.words.proofs.Tests.{either, by_test}
+use Rattle.numbering.specs.Lists.{Holds, Grows}
 use Rattle.numbering.specs.declared.list.Numbered.{Numbered}
-
--- ---- what stands in it
-
-pub mappings_length : (list : List ℕ) (n : ℕ) → length (mappings_of list n) ≡ n
-unfolding rows
-mappings_length list zero = refl
-mappings_length list (suc n) = omega (arith, length-append (mappings_of list n) (mapping_at list n ∷ []), mappings_length list n)
-
-pub mappings_at : (list : List ℕ) (n k : ℕ) (d : Mapping) → k < n → get_or (mappings_of list n) k d ≡ mapping_at list k
-unfolding rows
-mappings_at list zero k d h = absurd (omega arith)
-mappings_at list (suc n) k d h =
-    ⊎_elim
-    (λ e. get_or_at (mappings_of list n) (mapping_at list n) [] d k (mappings_length list n ∙ sym e) ∙ ap (mapping_at list) (sym e))
-    (λ l. get_or-append (mappings_of list n) (mapping_at list n ∷ []) d k (omega (arith, mappings_length list n)) ∙ mappings_at list n k d l)
-    (eq-or-lt_of_le (le_of_suc-le-suc h))
-
--- both dimensions of version k stored
-module _ (list : List ℕ) (k : ℕ) (m : Mapping) where
-  abbrev once : List ℕ
-  once = set list (2 * k) m.first
-
-  abbrev twice : List ℕ
-  twice = set once (2 * k + 1) m.second
-
-  abbrev row : ℕ → ℕ → List Mapping
-  row x y = record { first = x; second = y } ∷ []
-
-  before : (j : ℕ) → j < 2 * k → get_or twice j 0 ≡ get_or list j 0
-  before j h = get_or-set_other once (2 * k + 1) j m.second 0 (λ e. omega arith) ∙ get_or-set_other list (2 * k) j m.first 0 (λ e. omega arith)
-
-  pub mappings_put : 2 * k + 1 < length list → mappings_of twice (k + 1) ≡ mappings_of list k ++ m ∷ []
-  unfolding rows
-  mappings_put room =
-      ap (mappings_of twice) (add-one k)
-      ∙ ap₂ ◌++◌
-      (rows_same (λ i. mapping_at twice i ∷ []) (λ i. mapping_at list i ∷ []) k (λ i l. ap₂ row (before (2 * i) (omega arith)) (before (2 * i + 1) (omega arith))))
-      (ap₂ row
-      (get_or-set_other once (2 * k + 1) (2 * k) m.second 0 (λ e. omega arith) ∙ get_or-set_same list (2 * k) m.first 0 (omega arith))
-      (get_or-set_same once (2 * k + 1) m.second 0 (rw length-set room)))
 
 -- ---- how a mapping is found
 
--- none of the first k is alike
-pub record Searching (ms : List Mapping) (m : Mapping) (k : ℕ) : Type 0 where
-  pub within : k ≤ length ms
-  pub is : version_in ms m ≡ k + version_in (drop k ms) m
-
-pub search_begin : (ms : List Mapping) (m : Mapping) → Searching ms m 0
-search_begin ms m = record { within = omega arith; is = omega arith }
-
-module _ {ms : List Mapping} {m : Mapping} {k : ℕ} (s : Searching ms m k) where
-  here : k < length ms → version_in ms m ≡ k + cond (alike (get_or ms k m) m) 0 (suc (version_in (drop (suc k) ms) m))
+-- its number is its place, and the length where it has none
+module _ (ms : List Mapping) (m : Mapping) where
+  place : version_in ms m ≡ position_or_len (λ n. alike n m) ms
   unfolding version_in
-  here l = s.is ∙ ap (λ (xs : List Mapping). k + version_in xs m) (drop-cons ms k m l)
+  place = is_position_or_len (λ ns. version_in ns m) (λ n. alike n m) refl (λ n ns. let z : suc (version_in ns m) ≡ 1 + version_in ns m = omega arith in ap (cond (alike n m) 0) z) ms
 
-  pub search_found : k < length ms → alike (get_or ms k m) m ≡ true → version_in ms m ≡ k
-  search_found l e = here l ∙ ap (λ (b : Bool). k + cond b 0 (suc (version_in (drop (suc k) ms) m))) e ∙ (let z : k + 0 ≡ k = omega arith in z)
-
-  pub search_next : k < length ms → alike (get_or ms k m) m ≡ false → Searching ms m (k + 1)
-  search_next l e = record {
-    within = omega arith;
-    is =
-        let rest = version_in (drop (suc k) ms) m in
-        here l ∙ ap (λ (b : Bool). k + cond b 0 (suc rest)) e
-        ∙ (let z : k + suc rest ≡ k + 1 + rest = omega arith in z) ∙ ap (λ (j : ℕ). k + 1 + version_in (drop j ms) m) (sym (add-one k));
-  }
-
-  pub search_end : length ms ≤ k → version_in ms m ≡ k
-  search_end l = omega (arith, s, number_within m (drop k ms), length-drop k ms)
+  pub number_found : unwrap_or (position (λ n. alike n m) ms) (length ms) ≡ version_in ms m
+  number_found =
+      let k = position_or_len (λ n. alike n m) ms in
+      by_test (ltb k (length ms))
+      (λ t. rw t (sym place))
+      (λ t. rw t (omega (arith, place, number_within m ms, ltb-false k (length ms) t)))
 
 -- ---- what adding one leaves
 
 -- the count says whether all are there
-module _ {ms ns : List Mapping} {list : List ℕ} {p : Numbered} (h : Holds ms ns list p) where
+module _ {ms ns list : List Mapping} {p : Numbered} (h : Holds ms ns list p) where
   large : width < p.count → width < length ms
   large over = ⊎_elim (ltb→lt width (length ms)) (λ f. let few = nltb→le width (length ms) f in absurd (omega (arith, (h.few few).0))) (either (ltb width (length ms)))
 
@@ -110,8 +54,8 @@ module _ {ms ns : List Mapping} {list : List ℕ} {p : Numbered} (h : Holds ms n
   listed_more m x t = ⊎_elim (λ g. extended_old x ms (m ∷ []) (h.listed x g)) (extended_new x ms (m ∷ [])) (listed_either x ns (m ∷ []) t)
 
   -- all are there after it too
-  all_there : (m : Mapping) {list' : List ℕ} {q : Numbered} {xs : List Mapping} → length list' ≡ 2 * width → extended ms (m ∷ []) ≡ xs → length xs ≤ width
-      → q.count ≡ length xs → mappings_of list' (length xs) ≡ xs → q.given ≡ version_set xs (ns ++ m ∷ []) → Holds (extended ms (m ∷ [])) (ns ++ m ∷ []) list' q
+  all_there : (m : Mapping) {list' : List Mapping} {q : Numbered} {xs : List Mapping} → length list' ≡ width → extended ms (m ∷ []) ≡ xs → length xs ≤ width
+      → q.count ≡ length xs → take (length xs) list' ≡ xs → q.given ≡ version_set xs (ns ++ m ∷ []) → Holds (extended ms (m ∷ [])) (ns ++ m ∷ []) list' q
   all_there m {list'} {q} room e few count are given =
       subst (λ (xs : List Mapping). Holds xs (ns ++ m ∷ []) list' q) (sym e) (record {
         room = room;
@@ -121,7 +65,7 @@ module _ {ms ns : List Mapping} {list : List ℕ} {p : Numbered} (h : Holds ms n
       })
 
 -- there are too many already
-pub grows_full : {list : List ℕ} {p : Numbered} (m : Mapping) → length list ≡ 2 * width → width < p.count → p.count ≤ width + 1 → Grows (m ∷ []) list p list p
+pub grows_full : {list : List Mapping} {p : Numbered} (m : Mapping) → length list ≡ width → width < p.count → p.count ≤ width + 1 → Grows (m ∷ []) list p list p
 grows_full m room over most = record {
   room = room;
   most = most;
@@ -134,19 +78,19 @@ grows_full m room over most = record {
 }
 
 -- k is the number of the mapping among those that are there
-pub record Found (list : List ℕ) (p : Numbered) (m : Mapping) (k : ℕ) : Type 0 where
-  pub room : length list ≡ 2 * width
+pub record Found (list : List Mapping) (p : Numbered) (m : Mapping) (k : ℕ) : Type 0 where
+  pub room : length list ≡ width
   pub few : p.count ≤ width
-  pub is : k ≡ version_in (mappings_of list p.count) m
+  pub is : k ≡ version_in (take p.count list) m
 
-module _ {list : List ℕ} {p : Numbered} {m : Mapping} {k : ℕ} (found : Found list p m k) where
+module _ {list : List Mapping} {p : Numbered} {m : Mapping} {k : ℕ} (found : Found list p m k) where
   -- the list that is held
   module _ {ms ns : List Mapping} (h : Holds ms ns list p) where
     size : p.count ≡ length ms
     size = (h.few (small h found.few)).0
 
-    are : mappings_of list p.count ≡ ms
-    are = ap (mappings_of list) size ∙ (h.few (small h found.few)).1
+    are : take p.count list ≡ ms
+    are = ap (λ (n : ℕ). take n list) size ∙ (h.few (small h found.few)).1
 
     number : k ≡ version_in ms m
     number = found.is ∙ ap (λ (xs : List Mapping). version_in xs m) are
@@ -155,7 +99,7 @@ module _ {list : List ℕ} {p : Numbered} {m : Mapping} {k : ℕ} (found : Found
     unlisted l = ⊎_elim (λ t. absurd (omega (arith, size, number, (number_of m ms t).0))) (λ f. f) (either (is_listed m ms))
 
   pub found_within : k ≤ p.count
-  found_within = omega (arith, found.is, number_within m (mappings_of list p.count), mappings_length list p.count)
+  found_within = omega (arith, found.is, number_within m (take p.count list), length-take p.count list, found.room, found.few)
 
   -- one too many
   pub grows_over : {q : Numbered} → k ≡ width → q.count ≡ width + 1 → Grows (m ∷ []) list p list q
@@ -188,7 +132,7 @@ module _ {list : List ℕ} {p : Numbered} {m : Mapping} {k : ℕ} (found : Found
   }
 
   -- a new one
-  pub grows_new : {list' : List ℕ} {q : Numbered} → length list' ≡ 2 * width → k < width → p.count ≤ k → mappings_of list' (k + 1) ≡ mappings_of list k ++ m ∷ []
+  pub grows_new : {list' : List Mapping} {q : Numbered} → length list' ≡ width → k < width → p.count ≤ k → take (k + 1) list' ≡ take k list ++ m ∷ []
       → q.count ≡ k + 1 → q.given ≡ bit_or p.given (2 ^ k) → Grows (m ∷ []) list p list' q
   grows_new {list'} room' below new put count given = record {
     room = room';
@@ -200,6 +144,6 @@ module _ {list : List ℕ} {p : Numbered} {m : Mapping} {k : ℕ} (found : Found
         let old : version_set (ms ++ m ∷ []) ns ≡ p.given = ap (λ (xs : List Mapping). version_set xs ns) (sym e) ∙ extended-set ms (m ∷ []) ns h.listed ∙ sym (h.few (small h found.few)).2 in
         let behind : version_in (ms ++ m ∷ []) m ≡ k = number_last m ms (λ t. omega (arith, (number_of m ms t).0, number h, size h)) ∙ sym (last ∙ size h) in
         all_there h m room' e (omega arith) (count ∙ sym longer)
-        (ap (mappings_of list') longer ∙ put ∙ ap (λ (xs : List Mapping). xs ++ m ∷ []) (ap (mappings_of list) last ∙ are h))
+        (ap (λ (n : ℕ). take n list') longer ∙ put ∙ ap (λ (xs : List Mapping). xs ++ m ∷ []) (ap (λ (n : ℕ). take n list) last ∙ are h))
         (given ∙ sym (set_more (ms ++ m ∷ []) ns m ∙ ap₂ (λ (s k : ℕ). bit_or s (2 ^ k)) old behind));
   }

@@ -1,40 +1,30 @@
--- How the code keeps it: the mappings of one array as a list of numbers, and what numbering leaves.
+-- How the code keeps it: the mappings of one array in a list with room for `width`, and what numbering leaves.
 -- Assumes nothing.
-use Rattle.std.specs.Prelude.{◌≡◌, List, [], ◌∷◌, ◌++◌, ℕ, ◌+◌, ◌*◌, ◌≤◌, ◌<◌, T, length, get_or}
-use Rattle.words.specs.Tables.{rows}
+use Rattle.std.specs.Prelude.{◌≡◌, List, [], ◌∷◌, ◌++◌, ℕ, ◌+◌, ◌*◌, ◌≤◌, ◌<◌, T, length, get_or, take, Ok}
 use Rattle.directives.specs.Layout.{vertices}
 use Rattle.directives.specs.declared.spread.Mapping.{Mapping}
 use Rattle.mappings.specs.Computed.{versions_of, version_set, given_set}
 use Rattle.mappings.specs.Converted.{is_listed, extended}
 use Rattle.mappings.specs.Tables.{Given, VersionCounts}
 use Rattle.numbering.specs.declared.list.Numbered.{Numbered}
-use Rattle.refusal.specs.declared.Verdict.{Verdict}
-use Rattle.refusal.specs.declared.Verdict.TheVariants.{Passed}
+use Rattle.refusal.specs.Checks.{Verdict}
 use Rattle.sets.specs.Sets.{width}
 
--- the mapping of version k
-abbrev pub mapping_at : List ℕ → ℕ → Mapping
-mapping_at list k = record { first = get_or list (2 * k) 0; second = get_or list (2 * k + 1) 0 }
-
--- the first n
-abbrev pub mappings_of : List ℕ → ℕ → List Mapping
-mappings_of list n = rows (λ k. mapping_at list k ∷ []) n
-
 -- the list holds the mappings ms; those at hand, ns, are listed, and are a set of versions; of more than `width` only that is known
-pub record Holds (ms ns : List Mapping) (list : List ℕ) (p : Numbered) : Type 0 where
-  pub room : length list ≡ 2 * width
+pub record Holds (ms ns list : List Mapping) (p : Numbered) : Type 0 where
+  pub room : length list ≡ width
   pub listed : (m : Mapping) → T (is_listed m ns) → T (is_listed m ms)
-  pub few : length ms ≤ width → (p.count ≡ length ms) × (mappings_of list (length ms) ≡ ms) × (p.given ≡ version_set ms ns)
+  pub few : length ms ≤ width → (p.count ≡ length ms) × (take (length ms) list ≡ ms) × (p.given ≡ version_set ms ns)
   pub many : width < length ms → p.count ≡ width + 1
 
 -- one mapping alone
-pub record Starts (m : Mapping) (list : List ℕ) : Type 0 where
-  pub room : length list ≡ 2 * width
-  pub is : mappings_of list 1 ≡ m ∷ []
+pub record Starts (m : Mapping) (list : List Mapping) : Type 0 where
+  pub room : length list ≡ width
+  pub is : take 1 list ≡ m ∷ []
 
 -- what the list held, extended by `more`
-pub record Grows (more : List Mapping) (list : List ℕ) (p : Numbered) (list' : List ℕ) (q : Numbered) : Type 0 where
-  pub room : length list' ≡ 2 * width
+pub record Grows (more list : List Mapping) (p : Numbered) (list' : List Mapping) (q : Numbered) : Type 0 where
+  pub room : length list' ≡ width
   pub most : q.count ≤ width + 1
   pub holds : (ms ns : List Mapping) → Holds ms ns list p → Holds (extended ms more) (ns ++ more) list' q
 
@@ -47,5 +37,5 @@ pub record ColumnNumbered (file : List ℕ) (a : ℕ) (before : List ℕ) (count
 
 -- where 41 passes: the versions that directives give, and how many each array has
 pub record AllNumbered (file : List ℕ) (answer : Verdict) (given counts : List ℕ) : Type 0 where
-  pub given_are : answer ≡ Passed → Given file given
-  pub counts_are : answer ≡ Passed → VersionCounts file counts
+  pub given_are : answer ≡ Ok tt → Given file given
+  pub counts_are : answer ≡ Ok tt → VersionCounts file counts

@@ -1,73 +1,41 @@
-// The mappings of one array by version: the dimensions of version k at 2 k and 2 k + 1. Of more than `width` only that is kept.
-ghost use Rattle.std.specs.Prelude.{◌≡◌, [], ◌∷◌, ◌++◌, ◌+◌, ◌*◌, ◌≤◌, ◌<◌, length};
+// The mappings of one array, each at its version. Of more than `width` only that is kept.
+ghost use Rattle.std.specs.Prelude.{◌≡◌, [], ◌∷◌, ◌+◌, ◌≤◌, length, take};
 ghost use Rattle.mappings.specs.Converted.{version_in};
-ghost use Rattle.numbering.specs.Lists.{mapping_at, mappings_of, Starts, Grows};
+ghost use Rattle.numbering.specs.Lists.{Starts, Grows};
 ghost use Rattle.sets.specs.Sets.{width};
 
-use crate::mapping;
 use directives::spread::Mapping;
 use sets::Set;
 
 // How many versions there are, `width` + 1 for more, and the set of those that the directive at hand gives.
-#[derive(Clone, Copy)]
+#[derive(Clone, Copy, Debug, PartialEq, Eq)]
 pub struct Numbered {
     pub count: usize,
     pub given: Set,
 }
 
-// Entries of a list.
-pub const SIZE: usize = 2 * sets::WIDTH;
-
-// The mapping of version k.
-fn at(list: &[usize], k: usize) -> Mapping
-    requires k_lt_width { k < width }
-    requires list_len { length list.now ≡ 2 * width }
-    ensures { result ≡ mapping_at list.now k }
-{
-    Mapping {
-        first: list[2 * k],
-        second: list[2 * k + 1],
-    }
-}
-
-// Makes m version k.
-fn put(list: &mut [usize], k: usize, m: Mapping)
-    requires k_lt_width { k < width }
-    requires list_len { length list.old ≡ 2 * width }
-    ensures list_len_2 { length list.new ≡ 2 * width }
-    ensures k_after { mappings_of list.new (k + 1) ≡ mappings_of list.old k ++ (m ∷ []) }
-{
-    list[2 * k] = m.first;
-    list[2 * k + 1] = m.second;
-}
-
 // The version of m among the first `count`, or `count` if it is none.
-fn number_of(list: &[usize], count: usize, m: Mapping) -> usize
-    requires count_le_width { count ≤ width }
-    requires list_len { length list.now ≡ 2 * width }
-    ensures { result ≡ version_in (mappings_of list.now count) m }
+fn number_of(list: &[Mapping], count: usize, m: Mapping) -> usize
+    requires { count ≤ length list.now }
+    ensures { result ≡ version_in (take count list.now) m }
 {
-    let mut k = 0;
-    while k < count {
-        if mapping::alike(at(list, k), m) {
-            return k;
-        }
-        k += 1;
-    }
-    count
+    list[..count]
+        .iter()
+        .position(|mapping| *mapping == m)
+        .unwrap_or(count)
 }
 
 // Starts the list with a first mapping.
-pub fn start(list: &mut [usize], m: Mapping)
-    requires { length list.old ≡ 2 * width }
+pub fn start(list: &mut [Mapping], m: Mapping)
+    requires { length list.old ≡ width }
     ensures { Starts m list.new }
 {
-    put(list, 0, m);
+    list[0] = m;
 }
 
 // Adds a mapping that the directive at hand gives, if it is not listed.
-pub fn add(list: &mut [usize], p: Numbered, m: Mapping) -> Numbered
-    requires list_len { length list.old ≡ 2 * width }
+pub fn add(list: &mut [Mapping], p: Numbered, m: Mapping) -> Numbered
+    requires list_len { length list.old ≡ width }
     requires count_bound { p.count ≤ width + 1 }
     ensures { Grows (m ∷ []) list.old p list.new result }
 {
@@ -88,7 +56,7 @@ pub fn add(list: &mut [usize], p: Numbered, m: Mapping) -> Numbered
             given,
         };
     }
-    put(list, k, m);
+    list[k] = m;
     Numbered {
         count: k + 1,
         given,

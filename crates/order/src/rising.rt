@@ -1,5 +1,5 @@
 // Whether the edges may be taken by their numbers.
-ghost use Rattle.std.specs.Prelude.{◌≡◌, cond, ◌||◌, ◌≤◌, ◌<◌, leb, ltb};
+ghost use Rattle.std.specs.Prelude.{◌≡◌, ◌||◌, ◌≤◌, ◌<◌, leb, ltb};
 ghost use Rattle.flow.specs.Order.{max_edges};
 ghost use Rattle.flow.specs.Paths.{edge_count};
 ghost use Rattle.order.specs.Falling.{is_falling};
@@ -11,15 +11,12 @@ const FEW: usize = 16;
 // Of so many edges the search costs more than it saves on most routines.
 const MANY: usize = 768;
 
-// 1 if edge i leads to a vertex below the one that it leaves, else 0.
-fn falling(edges: &[u8], i: usize) -> usize
+// Whether edge i leads to a vertex below the one that it leaves.
+fn falls(edges: &[u8], i: usize) -> bool
     requires { i < edge_count edges.now }
-    ensures { result ≡ cond (is_falling edges.now i) 1 0 }
+    ensures { result ≡ is_falling edges.now i }
 {
-    if words::at(edges, 4 * i + 2) < words::at(edges, 4 * i) {
-        return 1;
-    }
-    0
+    words::at(edges, 4 * i + 2) < words::at(edges, 4 * i)
 }
 
 // How many edges fall.
@@ -27,12 +24,9 @@ fn count_falling(edges: &[u8]) -> usize
     requires { edge_count edges.now ≤ max_edges }
     ensures { result ≡ count_of (is_falling edges.now) (edge_count edges.now) }
 {
-    let n = edges.len() / 4;
     let mut count = 0;
-    let mut i = 0;
-    while i < n {
-        count += falling(edges, i);
-        i += 1;
+    for i in 0..edges.len() / 4 {
+        count += usize::from(falls(edges, i));
     }
     count
 }

@@ -4,11 +4,14 @@ ghost use Rattle.flow.specs.Order.{max_edges};
 ghost use Rattle.flow.specs.Paths.{edge_count};
 ghost use Rattle.order.specs.Places.{Placed};
 
-// What the table of entering edges holds for a vertex that no search has met.
-const NEW: u16 = 0xffff;
-
-// What it holds for a vertex that a search starts from.
-const ROOT: u16 = 0xfffe;
+// How the searches came to a vertex.
+#[derive(Clone, Copy)]
+enum Entered {
+    Never,
+    // one starts from it
+    AsRoot,
+    By(u16),
+}
 
 // An edge's number as an index.
 fn number(i: u16) -> usize {
@@ -70,32 +73,38 @@ fn settle(
     ensures placed_2 { Placed (edge_count edges.now) order.new place.new }
     ensures upper_bound { result ≤ edge_count edges.now }
 {
-    let mut left = slot;
     let mut i = at(start, v);
-    while left > 0 {
+    for left in (0..slot).rev() {
         if !leaves(edges, i, v) {
-            return left;
+            return left + 1;
         }
-        left -= 1;
         swap(order, place, left, i);
         i += 1;
     }
-    left
+    0
 }
 
-// Enters a vertex by edge i, if it is new. Says whether it was.
-fn enter(entered: &mut [u16; 256], v: u8, i: u16) -> bool {
+// Enters a vertex, if it is new. Says whether it was.
+fn enter(entered: &mut [Entered; 256], v: u8, how: Entered) -> bool {
     let index = v as usize;
-    if entered[index] != NEW {
-        return false;
+    match entered[index] {
+        Entered::Never => {
+            entered[index] = how;
+            true
+        }
+        _ => false,
     }
-    entered[index] = i;
-    true
 }
 
 // Goes on from a vertex at its edge `first`, always to a new vertex, and returns the one that no edge leads on from. Each step takes an
 // edge.
-fn descend(edges: &[u8], start: &[u16; 256], entered: &mut [u16; 256], from: u8, first: usize) -> u8
+fn descend(
+    edges: &[u8],
+    start: &[u16; 256],
+    entered: &mut [Entered; 256],
+    from: u8,
+    first: usize,
+) -> u8
     requires { edge_count edges.now ≤ max_edges }
 {
     let mut v = from;
@@ -105,7 +114,7 @@ fn descend(edges: &[u8], start: &[u16; 256], entered: &mut [u16; 256], from: u8,
             return v;
         }
         let to = edges[4 * i + 2];
-        if enter(entered, to, i as u16) {
+        if enter(entered, to, Entered::By(i as u16)) {
             v = to;
             i = at(start, to);
             continue;
@@ -116,9 +125,9 @@ fn descend(edges: &[u8], start: &[u16; 256], entered: &mut [u16; 256], from: u8,
 }
 
 // Enters the first new vertex from v on, as a root.
-fn enter_root(entered: &mut [u16; 256], v: u8) -> u8 {
+fn enter_root(entered: &mut [Entered; 256], v: u8) -> u8 {
     for root in v as usize..256 {
-        if enter(entered, root as u8, ROOT) {
+        if enter(entered, root as u8, Entered::AsRoot) {
             return root as u8;
         }
     }
@@ -126,12 +135,14 @@ fn enter_root(entered: &mut [u16; 256], v: u8) -> u8 {
 }
 
 // The vertex that is finished after v. At first v is the entry, which is new.
-fn after(edges: &[u8], start: &[u16; 256], entered: &mut [u16; 256], v: u8) -> u8
+fn after(edges: &[u8], start: &[u16; 256], entered: &mut [Entered; 256], v: u8) -> u8
     requires { edge_count edges.now ≤ max_edges }
 {
-    let i = at(entered, v);
-    if i < edges.len() / 4 {
-        return descend(edges, start, entered, edges[4 * i], i + 1);
+    if let Entered::By(edge) = entered[v as usize] {
+        let i = number(edge);
+        if i < edges.len() / 4 {
+            return descend(edges, start, entered, edges[4 * i], i + 1);
+        }
     }
     let root = enter_root(entered, v);
     descend(edges, start, entered, root, at(start, root))
@@ -141,7 +152,7 @@ fn after(edges: &[u8], start: &[u16; 256], entered: &mut [u16; 256], v: u8) -> u
 fn search(
     edges: &[u8],
     start: &[u16; 256],
-    entered: &mut [u16; 256],
+    entered: &mut [Entered; 256],
     order: &mut [u16],
     place: &mut [u16],
 )
@@ -166,6 +177,6 @@ pub fn settle_all(edges: &[u8], order: &mut [u16], place: &mut [u16])
 {
     let mut start = [0u16; 256];
     fill_starts(edges, &mut start);
-    let mut entered = [NEW; 256];
+    let mut entered = [Entered::Never; 256];
     search(edges, &start, &mut entered, order, place);
 }

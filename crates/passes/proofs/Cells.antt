@@ -1,26 +1,23 @@
--- Laws of tables with a column for each array; the part of a file that holds its edges; what the solver is lent.
+-- Laws of tables with a column for each array; what the solver is lent.
 -- Assumes nothing.
-use mathlib.Core.Path.{◌≡◌, refl, sym, ap, ap₂, subst, ◌∙◌}
+use mathlib.Core.Path.{◌≡◌, refl, sym, ap, subst, ◌∙◌}
 use mathlib.Core.Bool.{Bool, cond}
 use mathlib.Core.List.{List}
 use Prim.Native.Nat.{ℕ, ◌+◌, ◌*◌, ◌≤◌, ◌<◌}
 use native.Mathlib.Omega.{arith}
 use borrow.Author.Tests.{ne_eqb}
 use lib.Dec.{eqb}
-use lib.ListN.{length, drop}
+use lib.ListN.{length}
 use Rattle.flow.specs.Cells.{NoneBeyond}
 use Rattle.flow.specs.Solver.{row_count, Ends, Tables, Solved}
 use Rattle.flow.proofs.Cells.{in_cells, cells_table, cells_row, none_table, none_row, rows_to, rows_none, rows_next, rows_all}
 use Rattle.routine.specs.Actions.{action}
-use Rattle.routine.specs.Layout.{arrays, vertices, entry, exit, edges_at}
+use Rattle.routine.specs.Layout.{arrays, vertices, entry, exit}
 use Rattle.routine.specs.Reader.{WellFormed}
 use Rattle.routine.specs.declared.action.Action.{Action}
-use Rattle.routine.specs.declared.header.Header.{Header}
 use Rattle.words.specs.Tables.{table, with_row}
 use Rattle.words.proofs.Tests.{at_cond}
-use Rattle.words.proofs.Written.{part_from, part_is}
-use Rattle.labels.specs.Events.{edge_bytes, event}
-use Rattle.labels.specs.Routines.{ReadAs}
+use Rattle.labels.specs.Events.{event}
 use Rattle.labels.proofs.Rules.Events.{inner_event}
 use Rattle.passes.specs.Tables.{Cells, CellsAlone}
 
@@ -86,27 +83,13 @@ module _ {file : List ℕ} (well : WellFormed file) where
       (λ a in_a. refl)
       (λ a v in_a other. ap (λ (b : Bool). cond b (f (action file a v)) (f (event file a v))) (ne_eqb v (exit file) other)))
 
--- ---- by the header
+  -- a cell's place is small, and lies in a table of all vertices
+  module _ {a v : ℕ} (in_a : a < arrays file) (in_v : v < vertices file) where
+    pub few_cells : 8 * v + a < 2048
+    few_cells = omega (arith, in_cells few_columns in_a in_v, well.laid.limits.few_vertices)
 
-module _ {file : List ℕ} {h : Header} (is : ReadAs file h) {a v : ℕ} (in_a : a < arrays file) (in_v : v < vertices file) where
-  pub few_cells : 8 * v + a < 2048
-  few_cells = omega (arith, in_cells (few_columns is.well) in_a in_v, is.well.laid.limits.few_vertices)
-
-  -- the cell is in a table of all vertices
-  pub in_table : (s : List ℕ) → length s ≡ 8 * vertices file → 8 * v + a < length s
-  in_table s e = omega (arith, e, in_cells (few_columns is.well) in_a in_v)
-
--- ---- what is lent of a file from the edges on is the bytes of its edges
-
-module _ {file : List ℕ} {h : Header} (is : ReadAs file h) {at : ℕ} (e : at ≡ 18 + 4 * h.arrays + h.vertices * h.arrays) where
-  at_edges : at ≡ edges_at file
-  at_edges = e ∙ ap₂ (λ (m n : ℕ). 18 + 4 * m + n * m) is.heads.arrays_are is.heads.vertices_are
-
-  pub edges_inside : at ≤ length file
-  edges_inside = omega (arith, at_edges, is.well.laid.ends)
-
-  pub edges_part : part_from file at ≡ edge_bytes file
-  edges_part = part_is file at ∙ ap (λ (n : ℕ). drop n file) at_edges
+    pub in_table : (s : List ℕ) → length s ≡ 8 * vertices file → 8 * v + a < length s
+    in_table s e = omega (arith, e, in_cells few_columns in_a in_v)
 
 -- ---- what the solver is lent: edges among n vertices, and tables with a row for each
 

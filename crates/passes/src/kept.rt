@@ -21,14 +21,11 @@ pub fn fill(versions: &[Set], letters: &[u8], gives: &mut [Set], passes: &mut [H
         ≡ table (λ i. cond (eqb (get_or versions.now i 0) 0 || is_n_or_r (use_of_byte (get_or letters.now i 0))) every_half 0)
         (length versions.now) }
 {
-    let n = versions.len();
-    let mut i = 0;
-    while i < n {
+    for i in 0..versions.len() {
         let version = versions[i];
         let letter = letters[i];
-        gives[i] = event::set_if(letter::leaves(letter), version);
+        gives[i] = event::only_if(letter::leaves(letter), version);
         passes[i] = event::every_if((version == 0) | letter::goes_on(letter));
-        i += 1;
     }
 }
 
@@ -40,12 +37,9 @@ pub fn join(versions: &[Set], letters: &[u8], sets: &mut [Set])
         ≡ table (λ i. bit_or (cond (not (is_n (use_of_byte (get_or letters.now i 0)))) (get_or versions.now i 0) 0) (cond (is_n_or_r (use_of_byte (get_or letters.now i 0))) (get_or sets.old i 0) 0))
         (length sets.old) }
 {
-    let n = sets.len();
-    let mut i = 0;
-    while i < n {
+    for i in 0..sets.len() {
         let letter = letters[i];
-        let leaving = event::set_if(letter::leaves(letter), versions[i]);
-        sets[i] = leaving | event::set_if(letter::goes_on(letter), sets[i]);
-        i += 1;
+        let leaving = event::only_if(letter::leaves(letter), versions[i]);
+        sets[i] = leaving | event::only_if(letter::goes_on(letter), sets[i]);
     }
 }

@@ -3,16 +3,14 @@ ghost use Rattle.std.specs.Prelude.{◌≡◌, cond, not, ◌||◌, ◌≤◌, �
 ghost use Rattle.routine.specs.Arrays.{kind, initial, is_in_or_inout};
 ghost use Rattle.labels.specs.Letters.{use_of_byte};
 ghost use Rattle.labels.specs.Reaching.{reaching_of};
-ghost use Rattle.labels.specs.Routines.{ReadAs};
 ghost use Rattle.passes.specs.Tables.{reached_cell};
 ghost use Rattle.labels.specs.Uses.{is_n};
 ghost use Rattle.routine.specs.Layout.{arrays, entry};
 ghost use Rattle.words.specs.Tables.{table, with_row};
 ghost use Rattle.sets.specs.Sets.{every_half};
 
+use labels::read::Routine;
 use labels::{event, letter};
-use routine::array;
-use routine::header::Header;
 use sets::{Half, Set};
 
 // The entry gives, in each of m columns.
@@ -20,10 +18,8 @@ fn enter_reached(m: usize, gives: &mut [Half])
     requires { m ≤ length gives.old }
     ensures { gives.new ≡ with_row gives.old entry (λ a. 1) m }
 {
-    let mut a = 0;
-    while a < m {
+    for a in 0..m {
         gives[a] = 1;
-        a += 1;
     }
 }
 
@@ -42,7 +38,7 @@ pub fn fill_reached(m: usize, gives: &mut [Half], passes: &mut [Half])
     ensures gives_after { gives.new ≡ table (λ i. cond (ltb i m) 1 0) (length gives.old) }
     ensures passes_after { passes.new ≡ table (λ i. 1) (length passes.old) }
 {
-    flow::clear(gives);
+    gives.fill(0);
     enter_reached(m, gives);
     pass_reached(passes);
 }
@@ -63,13 +59,10 @@ pub fn fill_brought_everywhere(versions: &[Set], gives: &mut [Set], passes: &mut
     ensures passes_after { passes.new
         ≡ table (λ i. cond (eqb (get_or versions.now i 0) 0) every_half 0) (length versions.now) }
 {
-    let n = versions.len();
-    let mut i = 0;
-    while i < n {
+    for i in 0..versions.len() {
         let version = versions[i];
         gives[i] = version;
         passes[i] = event::every_if(version == 0);
-        i += 1;
     }
 }
 
@@ -83,13 +76,10 @@ pub fn fill_brought(versions: &[Set], reached: &[Half], gives: &mut [Set], passe
     ensures passes_after { passes.new
         ≡ table (λ i. cond (eqb (get_or versions.now i 0) 0) every_half 0) (length versions.now) }
 {
-    let n = versions.len();
-    let mut i = 0;
-    while i < n {
+    for i in 0..versions.len() {
         let version = versions[i];
-        gives[i] = event::set_if(is_reached(i, reached[i]), version);
+        gives[i] = event::only_if(is_reached(i, reached[i]), version);
         passes[i] = event::every_if(version == 0);
-        i += 1;
     }
 }
 
@@ -112,13 +102,10 @@ pub fn fill(
         ≡ table (λ i. cond (eqb (cond (not (is_n (use_of_byte (get_or letters.now i 0)))) (get_or versions.now i 0) 0) 0) every_half 0)
         (length versions.now) }
 {
-    let n = versions.len();
-    let mut i = 0;
-    while i < n {
-        let kept = event::set_if(letter::leaves(letters[i]), versions[i]);
-        gives[i] = event::set_if(is_reached(i, reached[i]), kept);
+    for i in 0..versions.len() {
+        let kept = event::only_if(letter::leaves(letters[i]), versions[i]);
+        gives[i] = event::only_if(is_reached(i, reached[i]), kept);
         passes[i] = event::every_if(kept == 0);
-        i += 1;
     }
 }
 
@@ -133,56 +120,44 @@ pub fn fill_everywhere(versions: &[Set], letters: &[u8], gives: &mut [Set], pass
         ≡ table (λ i. cond (eqb (cond (not (is_n (use_of_byte (get_or letters.now i 0)))) (get_or versions.now i 0) 0) 0) every_half 0)
         (length versions.now) }
 {
-    let n = versions.len();
-    let mut i = 0;
-    while i < n {
-        let given = event::set_if(letter::leaves(letters[i]), versions[i]);
+    for i in 0..versions.len() {
+        let given = event::only_if(letter::leaves(letters[i]), versions[i]);
         gives[i] = given;
         passes[i] = event::every_if(given == 0);
-        i += 1;
     }
 }
 
 // The entry's row of what is given: the initial version of an array that comes with it, or whose entry label is kept.
-pub fn enter_gives(file: &[u8], h: Header, letters: &[u8], gives: &mut [Set])
-    requires read_as { ReadAs file.now h }
+pub fn enter_gives(routine: &Routine, letters: &[u8], gives: &mut [Set])
     requires in_bounds { 8 ≤ length letters.now }
     requires in_bounds_2 { 8 ≤ length gives.old }
     ensures { gives.new
         ≡ with_row gives.old entry
-        (λ a. cond (not (is_n (use_of_byte (get_or letters.now a 0))) || is_in_or_inout (kind file.now a)) (2 ^ initial file.now a) 0)
-        (arrays file.now) }
+        (λ a. cond (not (is_n (use_of_byte (get_or letters.now a 0))) || is_in_or_inout (kind routine.now.bytes a)) (2 ^ initial routine.now.bytes a) 0)
+        (arrays routine.now.bytes) }
 {
-    let m = h.arrays;
-    let mut a = 0;
-    while a < m {
-        let r = array::record_of(file, a);
+    for a in 0..routine.arrays() {
+        let r = routine.array(a);
         let given = letter::leaves(letters[a]) | r.is_in_or_inout();
-        gives[a] = event::set_if(given, sets::single(r.initial));
-        a += 1;
+        gives[a] = event::only_if(given, sets::single(r.initial));
     }
 }
 
 // The entry's own set: what the path of no edge brings.
-fn at_entry(file: &[u8], h: Header, a: usize) -> Set
-    requires read_as { ReadAs file.now h }
-    requires a_bound { a < arrays file.now }
-    ensures { result ≡ reaching_of file.now a entry }
+fn at_entry(routine: &Routine, a: usize) -> Set
+    requires a_bound { a < arrays routine.now.bytes }
+    ensures { result ≡ reaching_of routine.now.bytes a entry }
 {
-    let r = array::record_of(file, a);
-    event::set_if(r.is_in_or_inout(), sets::single(r.initial))
+    let r = routine.array(a);
+    event::only_if(r.is_in_or_inout(), sets::single(r.initial))
 }
 
 // The entry's row of the reaching sets.
-pub fn enter(file: &[u8], h: Header, sets: &mut [Set])
-    requires read_as { ReadAs file.now h }
+pub fn enter(routine: &Routine, sets: &mut [Set])
     requires in_bounds { 8 ≤ length sets.old }
-    ensures { sets.new ≡ with_row sets.old entry (λ a. reaching_of file.now a entry) (arrays file.now) }
+    ensures { sets.new ≡ with_row sets.old entry (λ a. reaching_of routine.now.bytes a entry) (arrays routine.now.bytes) }
 {
-    let m = h.arrays;
-    let mut a = 0;
-    while a < m {
-        sets[a] = at_entry(file, h, a);
-        a += 1;
+    for a in 0..routine.arrays() {
+        sets[a] = at_entry(routine, a);
     }
 }

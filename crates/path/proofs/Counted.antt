@@ -1,5 +1,6 @@
 -- The path while it is checked: what the test says of each step, and the counts, none at the start, and one more for the edge of each step.
 -- Assumes nothing.
+use Rattle.std.specs.Prelude.{Ok, Err}
 use mathlib.Core.Path.{◌≡◌, sym, ap, ◌∙◌}
 use mathlib.Core.Bool.{Bool, true, false, cond, true≢false}
 use mathlib.Core.List.{List}
@@ -15,8 +16,7 @@ use Rattle.path.specs.Paths.{vertex_at, joins, is_edge, arrival_check}
 use Rattle.path.proofs.Rising.{only}
 use Rattle.refusal.specs.declared.Refusal.{Refusal}
 use Rattle.refusal.specs.declared.Refusal.TheVariants.{NoSuchEdge}
-use Rattle.refusal.specs.declared.Verdict.{Verdict}
-use Rattle.refusal.specs.declared.Verdict.TheVariants.{Passed, Failed}
+use Rattle.refusal.specs.Checks.{Verdict}
 use Rattle.routine.specs.Layout.{edges}
 use Rattle.routine.specs.Reader.{WellFormed}
 use Rattle.words.specs.Sums.{total}
@@ -39,11 +39,11 @@ passes_more file path k n e = ap (λ (b : Bool). total (λ i. cond (joins file (
 
 -- ---- what the test says of a step
 
-pub no_arrival : (file path : List ℕ) (i : ℕ) → is_edge file (vertex_at path i) (vertex_at path (i + 1)) ≡ false → Failed (NoSuchEdge (i + 1)) ≡ arrival_check file path (i + 1)
+pub no_arrival : (file path : List ℕ) (i : ℕ) → is_edge file (vertex_at path i) (vertex_at path (i + 1)) ≡ false → Err (NoSuchEdge (i + 1)) ≡ arrival_check file path (i + 1)
 unfolding arrival_check
 no_arrival file path i e = let back : i + 1 - 1 ≡ i = omega arith in rw (back, e)
 
-pub arrival : (file path : List ℕ) (i : ℕ) {n : ℕ} → n < edges file → joins file (vertex_at path i) (vertex_at path (i + 1)) n ≡ true → Passed ≡ arrival_check file path (i + 1)
+pub arrival : (file path : List ℕ) (i : ℕ) {n : ℕ} → n < edges file → joins file (vertex_at path i) (vertex_at path (i + 1)) n ≡ true → (Ok tt) ≡ arrival_check file path (i + 1)
 unfolding arrival_check is_edge
 arrival file path i {n} h joined =
     let back : i + 1 - 1 ≡ i = omega arith in
@@ -53,7 +53,7 @@ arrival file path i {n} h joined =
     rw (back, there)
 
 -- a check that fails does not pass
-pub never : {v : Verdict} {r : Refusal} → v ≡ Failed r → v ≡ Passed → ⊥
+pub never : {v : Verdict} {r : Refusal} → v ≡ Err r → v ≡ Ok tt → ⊥
 never e f = let z : ◌≡◌ {A = ℕ} 0 1 = cc in omega arith
 
 -- ---- the counts

@@ -1,5 +1,6 @@
 -- An accepted path passes one edge at each step but the first: the passes of all edges are its length less one.
 -- Assumes nothing.
+use Rattle.std.specs.Prelude.{Ok}
 use mathlib.Core.Path.{◌≡◌, sym, ap, ◌∙◌}
 use mathlib.Core.Bool.{Bool, true, cond, true≢false, and-eq-true_iff}
 use mathlib.Core.List.{List}
@@ -13,7 +14,6 @@ use Rattle.path.specs.Paths.{steps, vertex_at, joins, path_check}
 use Rattle.path.proofs.Counted.{passes_few}
 use Rattle.path.proofs.Paths.{walk}
 use Rattle.path.proofs.Rising.{only}
-use Rattle.refusal.specs.declared.Verdict.TheVariants.{Passed}
 use Rattle.routine.specs.Layout.{edges}
 use Rattle.routine.specs.Reader.{WellFormed}
 use Rattle.words.specs.Sums.{count_of}
@@ -24,7 +24,7 @@ use Rattle.words.proofs.Tests.{by_test}
 count_one : (test : ℕ → Bool) (n p : ℕ) → p < n → ((i : ℕ) → i < n → test i ≡ eqb p i) → count_of test n ≡ 1
 count_one test n p h same = total_same (λ i. cond (test i) 1 0) (λ i. cond (eqb p i) 1 0) n (λ i l. rw (same i l)) ∙ count_once p n h
 
-module _ {file : List ℕ} (path : List ℕ) (well : WellFormed file) (passed : path_check file path ≡ Passed) where
+module _ {file : List ℕ} (path : List ℕ) (well : WellFormed file) (passed : path_check file path ≡ Ok tt) where
   -- each step passes one edge
   one_edge : (i : ℕ) → i < steps path - 1 → count_of (joins file (vertex_at path i) (vertex_at path (suc i))) (edges file) ≡ 1
   one_edge i h =

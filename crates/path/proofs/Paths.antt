@@ -1,5 +1,6 @@
 -- An accepted path: 1 to 4,096 vertices of the routine from the entry on, each joined to the next by an edge.
 -- Assumes nothing.
+use Rattle.std.specs.Prelude.{Ok}
 use mathlib.Core.Path.{◌≡◌, sym, ap₂, ◌∙◌}
 use mathlib.Core.Bool.{true, false≢true, and-eq-true_iff}
 use mathlib.Core.List.{List}
@@ -14,7 +15,6 @@ use Rattle.routine.specs.Edges.{edge_of}
 use Rattle.routine.specs.Layout.{vertices, edges, entry}
 use Rattle.routine.specs.Reader.{WellFormed}
 use Rattle.refusal.specs.Checks.{first_failed}
-use Rattle.refusal.specs.declared.Verdict.TheVariants.{Passed}
 use Rattle.refusal.proofs.Checks.{holds_true, parts, shift, each_passed}
 use Rattle.words.specs.Sums.{any_below}
 use Rattle.words.proofs.Tests.{or_cases}
@@ -49,14 +49,14 @@ pub arrivals : (file path : List ℕ) → first_failed (λ i. arrival_check file
 unfolding check32
 arrivals file path = sym (shift (arrival_check file path) 0 (steps path - 1))
 
-arrives : (file path : List ℕ) (i : ℕ) → arrival_check file path (i + 1) ≡ Passed → is_edge file (vertex_at path i) (vertex_at path (suc i)) ≡ true
+arrives : (file path : List ℕ) (i : ℕ) → arrival_check file path (i + 1) ≡ Ok tt → is_edge file (vertex_at path i) (vertex_at path (suc i)) ≡ true
 unfolding arrival_check
 arrives file path i e =
     let here : i ≡ i + 1 - 1 = omega arith in
     let there : suc i ≡ i + 1 = omega arith in
     ap₂ (λ (j k : ℕ). is_edge file (vertex_at path j) (vertex_at path k)) here there ∙ holds_true _ _ e
 
-pub walk : {file path : List ℕ} → WellFormed file → path_check file path ≡ Passed → Walk file path
+pub walk : {file path : List ℕ} → WellFormed file → path_check file path ≡ Ok tt → Walk file path
 unfolding path_check is_edge
 walk {file} {path} w e =
     record {
@@ -64,7 +64,7 @@ walk {file} {path} w e =
       short = search parts;
       begins = search parts;
       joined = λ i h.
-          let all : check32 file path ≡ Passed = search parts in
+          let all : check32 file path ≡ Ok tt = search parts in
           let passed = each_passed (λ i. arrival_check file path (i + 1)) (steps path - 1) (arrivals file path ∙ all) i (omega arith) in
           edge_there w (vertex_at path i) (vertex_at path (suc i)) (edges file) (omega arith) (arrives file path i passed);
     }

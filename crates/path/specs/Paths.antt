@@ -1,11 +1,10 @@
 -- Document 01, "Who can cause a refusal", the path's writer: a path is 16-bit vertices; an odd last byte is ignored.
 -- Assumes nothing.
 use Rattle.std.specs.Prelude.{Bool, ◌&&◌, List, ℕ, ◌-◌, ◌*◌, ◌/◌, eqb, length}
-use Rattle.refusal.specs.Checks.{◌and_then◌, holds, first_failed}
+use Rattle.refusal.specs.Checks.{◌and_then◌, holds, first_failed, Verdict}
 use Rattle.routine.specs.Edges.{edge_of}
 use Rattle.routine.specs.Layout.{edges, within, entry}
 use Rattle.refusal.specs.declared.Refusal.TheVariants.{PathLengthOutsideLimits, WrongStart, NoSuchEdge}
-use Rattle.refusal.specs.declared.Verdict.{Verdict}
 use Rattle.words.specs.Sums.{any_below}
 use Rattle.words.specs.Words.{word}
 

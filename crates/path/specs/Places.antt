@@ -1,16 +1,14 @@
 -- Document 02, request 8: the place of an edge in the list.
 -- Assumes nothing.
-use Rattle.std.specs.Prelude.{◌≡◌, true, false, List, ℕ, ◌≤◌, ◌<◌, length, get_or}
+use Rattle.std.specs.Prelude.{◌≡◌, true, false, List, ℕ, ◌≤◌, ◌<◌, length, get_or, Option, None, Some}
 use Rattle.path.specs.Paths.{joins, is_edge}
-use Rattle.path.specs.declared.edges.Found.{Found}
-use Rattle.path.specs.declared.edges.Found.TheVariants.{At, Nothing}
 use Rattle.routine.specs.Edges.{edge_of}
 use Rattle.routine.specs.Layout.{vertices, edges}
 
 -- what the test whether an edge joins v to w yields: its place, or that there is none
-abbrev pub Finds : List ℕ → ℕ → ℕ → Found → Type 0
-Finds file v w (At n) = (n < edges file) × (joins file v w n ≡ true)
-Finds file v w Nothing = is_edge file v w ≡ false
+abbrev pub Finds : List ℕ → ℕ → ℕ → Option ℕ → Type 0
+Finds file v w (Some n) = (n < edges file) × (joins file v w n ≡ true)
+Finds file v w None = is_edge file v w ≡ false
 
 -- ---- how the code keeps it: where the edges from each vertex start
 

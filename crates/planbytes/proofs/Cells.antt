@@ -6,21 +6,18 @@ use mathlib.Core.List.{List, [], ◌++◌}
 use Prim.Native.Nat.{ℕ, ◌+◌, ◌*◌, ◌≤◌, ◌<◌, ◌^◌, zero-le}
 use borrow.Author.Tests.{eq-eqb, ne_eqb, not-true, not-false}
 use lib.Dec.{eqb}
-use lib.ListN.{length, get_or, drop}
+use lib.ListN.{get_or, drop}
 use Rattle.labels.specs.Events.{event, is_label, version, version_of, version_set}
 use Rattle.labels.specs.Letters.{letter_byte, use_of_byte}
-use Rattle.labels.specs.Routines.{ReadAs}
 use Rattle.labels.specs.Uses.{use_of, is_n, leaving_byte}
 use Rattle.planbytes.specs.Plan.{twelve_bytes, label_bytes, label_entry}
 use Rattle.planbytes.specs.Tables.{Tabled, Leaving}
-use Rattle.routine.specs.declared.header.Header.{Header}
 use Rattle.routine.specs.Layout.{arrays, vertices}
 use Rattle.sets.specs.Sets.{has}
 use Rattle.sets.proofs.Laws.{single_is}
 use Rattle.words.specs.Tables.{wrote}
 use Rattle.words.proofs.Sums.{at_most_one}
 use Rattle.words.proofs.Tests.{at_cond, cond-not}
-use Rattle.passes.proofs.Cells.{few_cells, in_table}
 use Rattle.passes.proofs.Steps.{single_none}
 use Rattle.labels.proofs.Letters.{letter_use}
 
@@ -34,15 +31,6 @@ module _ (file : List ℕ) (a v : ℕ) where
   pub unlabelled_bytes : is_label file a v ≡ false → label_entry file a v ≡ []
   unfolding label_entry
   unlabelled_bytes e = rw e
-
--- ---- the tables' entries
-
-pub record CellWithin (at : ℕ) (versions letters reaching kept : List ℕ) : Type 0 where
-  pub few : at < 2048
-  pub in_versions : at < length versions
-  pub in_letters : at < length letters
-  pub in_reaching : at < length reaching
-  pub in_kept : at < length kept
 
 -- a version stands in the cell of a label, and in no other
 module _ (file : List ℕ) (a v : ℕ) {x : ℕ} (e : x ≡ version_set (event file a v)) where
@@ -84,22 +72,12 @@ leaving_is file a v {x} {letter} {byte} l e f h =
     single : x ≡ 2 ^ version_of (event file a v)
     single = e ∙ ap (λ (b : Bool). cond b (2 ^ version_of (event file a v)) 0) l
 
-module _ {h : Header} {file : List ℕ} (is : ReadAs file h) {a v : ℕ} (in_a : a < arrays file) (in_v : v < vertices file) where
-  module _ {versions letters reaching kept : List ℕ} (t : Tabled file versions letters reaching kept) where
-    pub cells_within : CellWithin (8 * v + a) versions letters reaching kept
-    cells_within = record {
-      few = few_cells is in_a in_v;
-      in_versions = in_table is in_a in_v versions t.versions_are.size;
-      in_letters = in_table is in_a in_v letters t.letters_and_kept.letters_are.size;
-      in_reaching = in_table is in_a in_v reaching t.reaching_are.size;
-      in_kept = in_table is in_a in_v kept t.letters_and_kept.kept_are.size;
-    }
-
-    -- the label made of the entries is the one that the plan has
-    pub made : {leaving : ℕ} (old : List ℕ) {new : List ℕ} → is_label file a v ≡ true → Leaving (get_or versions (8 * v + a) 0) (get_or letters (8 * v + a) 0) leaving
-        → new ≡ twelve_bytes a (get_or letters (8 * v + a) 0) leaving (get_or reaching (8 * v + a) 0) (get_or kept (8 * v + a) 0) ++ drop 12 old
-        → new ≡ wrote old (label_bytes file a v)
-    unfolding label_bytes
-    made old l f g =
-        let letter = t.letters_and_kept.letters_are.cells a v in_a in_v in
-        g ∙ rw (leaving_is file a v l (t.versions_are.cells a v in_a in_v) letter f, letter, t.reaching_are.cells a v in_a in_v, t.letters_and_kept.kept_are.cells a v in_a in_v)
+module _ {file : List ℕ} {a v : ℕ} (in_a : a < arrays file) (in_v : v < vertices file) {versions letters reaching kept : List ℕ} (t : Tabled file versions letters reaching kept) where
+  -- the label made of the tables' entries is the one that the plan has
+  pub made : {leaving : ℕ} (old : List ℕ) {new : List ℕ} → is_label file a v ≡ true → Leaving (get_or versions (8 * v + a) 0) (get_or letters (8 * v + a) 0) leaving
+      → new ≡ twelve_bytes a (get_or letters (8 * v + a) 0) leaving (get_or reaching (8 * v + a) 0) (get_or kept (8 * v + a) 0) ++ drop 12 old
+      → new ≡ wrote old (label_bytes file a v)
+  unfolding label_bytes
+  made old l f g =
+      let letter = t.letters_and_kept.letters_are.cells a v in_a in_v in
+      g ∙ rw (leaving_is file a v l (t.versions_are.cells a v in_a in_v) letter f, letter, t.reaching_are.cells a v in_a in_v, t.letters_and_kept.kept_are.cells a v in_a in_v)

@@ -1,6 +1,6 @@
 -- How the code keeps it: what the tables of a planned routine hold, the cell of vertex v and array a at 8 v + a.
 -- Assumes nothing.
-use Rattle.std.specs.Prelude.{◌≡◌, true, false, List, ℕ, ◌≤◌, ◌<◌, length, get_or}
+use Rattle.std.specs.Prelude.{◌≡◌, true, false, List, ℕ, ◌≤◌, ◌<◌, length, get_or, Option, None, Some}
 use Rattle.labels.specs.Letters.{use_of_byte}
 use Rattle.labels.specs.Reaching.{reaching_of}
 use Rattle.passes.specs.Tables.{Cells, Versions, LettersAndKept}
@@ -19,6 +19,11 @@ pub record Tabled (file versions letters reaching kept : List ℕ) : Type 0 wher
 pub record Firsts (file firsts : List ℕ) : Type 0 where
   pub size : vertices file < length firsts
   pub first : (v : ℕ) → v ≤ vertices file → get_or firsts v 0 ≡ labels_before file v
+
+-- the byte of a version, or of none
+abbrev pub or_none : Option ℕ → ℕ
+or_none None = 255
+or_none (Some k) = k
 
 -- the leaving byte of a label with this version, as a set, and this letter
 pub record Leaving (version letter byte : ℕ) : Type 0 where

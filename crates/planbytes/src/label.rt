@@ -1,6 +1,7 @@
 // One label of the plan: twelve bytes (document 01, "Plan and report").
 ghost use Rattle.std.specs.Prelude.{◌≡◌, ◌++◌, ◌≤◌, length, drop};
 ghost use Rattle.planbytes.specs.Plan.{twelve_bytes};
+ghost use Rattle.planbytes.specs.Tables.{or_none};
 
 use sets::Set;
 
@@ -8,8 +9,7 @@ use sets::Set;
 pub struct Label {
     pub array: u8,
     pub letter: u8,
-    // 255 for none
-    pub leaving: u8,
+    pub leaving: Option<u8>,
     pub reaching: Set,
     pub kept: Set,
 }
@@ -19,21 +19,18 @@ impl Label {
     pub const SIZE: usize = 12;
 }
 
+// The byte of no version.
+const NONE: u8 = 255;
+
 // Writes a label at the front of what is lent.
 pub fn write(out: &mut [u8], l: Label)
     requires { 12 ≤ length out.old }
-    ensures { out.new ≡ twelve_bytes l.array l.letter l.leaving l.reaching l.kept ++ drop 12 out.old }
+    ensures { out.new ≡ twelve_bytes l.array l.letter (or_none l.leaving) l.reaching l.kept ++ drop 12 out.old }
 {
     out[0] = l.array;
     out[1] = l.letter;
-    out[2] = l.leaving;
+    out[2] = l.leaving.unwrap_or(NONE);
     out[3] = 0;
-    out[4] = (l.reaching % 256) as u8;
-    out[5] = (l.reaching / 256 % 256) as u8;
-    out[6] = (l.reaching / 65536 % 256) as u8;
-    out[7] = (l.reaching / 16777216) as u8;
-    out[8] = (l.kept % 256) as u8;
-    out[9] = (l.kept / 256 % 256) as u8;
-    out[10] = (l.kept / 65536 % 256) as u8;
-    out[11] = (l.kept / 16777216) as u8;
+    words::write32(&mut out[4..], l.reaching);
+    words::write32(&mut out[8..], l.kept);
 }

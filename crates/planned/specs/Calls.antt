@@ -1,6 +1,6 @@
 -- What the call `plan` answers, and what it leaves in the buffer, for every list of bytes.
 -- Assumes nothing.
-use Rattle.std.specs.Prelude.{◌≡◌, List, ℕ, leb, length}
+use Rattle.std.specs.Prelude.{◌≡◌, List, ℕ, leb, length, Ok}
 use Rattle.calls.specs.Checks.{check22, calls_check}
 use Rattle.calls.specs.Expanded.{routine_of}
 use Rattle.calls.specs.Referring.{referring}
@@ -8,15 +8,11 @@ use Rattle.labels.specs.Checks.{programmer_check}
 use Rattle.labels.specs.Demand.{Demand2}
 use Rattle.planbytes.specs.Plan.{plan_bytes, plan_length}
 use Rattle.planbytes.specs.Tables.{Firsts}
-use Rattle.refusal.specs.Checks.{◌and_then◌, holds}
+use Rattle.refusal.specs.Checks.{◌and_then◌, holds, Verdict}
 use Rattle.routine.specs.Reader.{read_check}
-use Rattle.refusal.specs.Replies.{written, filled_by, reply_outcome}
+use Rattle.refusal.specs.Replies.{written, filled_by, reply_outcome, Reply}
 use Rattle.refusal.specs.declared.Outcome.{Outcome}
 use Rattle.refusal.specs.declared.Refusal.TheVariants.{ShortPlanBuffer}
-use Rattle.refusal.specs.declared.Reply.{Reply}
-use Rattle.refusal.specs.declared.Reply.TheVariants.{Written}
-use Rattle.refusal.specs.declared.Verdict.{Verdict}
-use Rattle.refusal.specs.declared.Verdict.TheVariants.{Passed}
 
 -- ---- the call; a file with calls is planned as the routine that it expands to
 
@@ -46,7 +42,7 @@ pub record Planned (file before : List ℕ) (reply : Reply) (after : List ℕ) :
   pub answer : reply ≡ plan_of file (length before)
   pub outcome : reply_outcome reply ≡ plan_outcome file (length before)
   pub buffer : after ≡ plan_into reply file before
-  pub demand : (read_check file and_then check22 file) ≡ Passed → Demand2 (routine_of file) (referring file)
+  pub demand : (read_check file and_then check22 file) ≡ Ok tt → Demand2 (routine_of file) (referring file)
 
 -- ---- how the code keeps it: of a routine of document 01
 
@@ -58,7 +54,7 @@ planner_check routine size = programmer_check routine and_then holds (leb (plan_
 -- the reply, and where that is no refusal the table of first labels
 pub record Replied (routine : List ℕ) (size : ℕ) (reply : Reply) (firsts : List ℕ) : Type 0 where
   pub answer : reply ≡ written (planner_check routine size) (plan_length routine)
-  pub counts : (n : ℕ) → reply ≡ Written n → Firsts routine firsts
+  pub counts : (n : ℕ) → reply ≡ Ok n → Firsts routine firsts
 
 -- the reply and the buffer
 pub record PlannedRead (routine before : List ℕ) (reply : Reply) (after : List ℕ) : Type 0 where

@@ -3,38 +3,33 @@
 
 ghost use Rattle.std.specs.Prelude.{◌≡◌, ◌<◌, length};
 ghost use Rattle.labels.specs.Checks.{programmer_check};
-ghost use Rattle.labels.specs.Routines.{ReadAs};
 ghost use Rattle.passes.specs.Tables.{Versions};
 ghost use Rattle.planned.specs.Calls.{Replied};
 ghost use Rattle.routine.specs.Layout.{vertices};
 
+use labels::read::Routine;
 use planbytes::contents;
-use refusal::{Refusal, Reply, Verdict};
-use routine::header::Header;
+use refusal::Refusal;
 use sets::Set;
 
 // The reply, with a buffer of `size` bytes: 20 and 21 as they were answered, then 1. Fills in the index of each vertex's first label.
 pub fn reply(
-    file: &[u8],
-    h: Header,
+    routine: &Routine,
     size: usize,
-    checked: Verdict,
+    checked: Result<(), Refusal>,
     versions: &[Set],
     firsts: &mut [u16],
-) -> Reply
-    requires read_as { ReadAs file.now h }
-    requires checked_value { checked ≡ programmer_check file.now }
-    requires versions { Versions file.now versions.now }
-    requires file_in_bounds { vertices file.now < length firsts.old }
-    ensures { Replied file.now size result firsts.new }
+) -> Result<usize, Refusal>
+    requires is_checked { checked ≡ programmer_check routine.now.bytes }
+    requires versions { Versions routine.now.bytes versions.now }
+    requires firsts_room { vertices routine.now.bytes < length firsts.old }
+    ensures { Replied routine.now.bytes size result firsts.new }
 {
-    if let Verdict::Failed(r) = checked {
-        return Reply::Denied(r);
-    }
-    let count = contents::label_count(file, h, versions, firsts);
-    let needed = contents::plan_length(h, count);
+    checked?;
+    let count = contents::label_count(routine, versions, firsts);
+    let needed = contents::plan_length(routine.header(), count);
     if size < needed {
-        return Reply::Denied(Refusal::ShortPlanBuffer { needed });
+        return Err(Refusal::ShortPlanBuffer { needed });
     }
-    Reply::Written(needed)
+    Ok(needed)
 }

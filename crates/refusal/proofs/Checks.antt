@@ -1,5 +1,7 @@
 -- Laws of checks in a row, and of scans for the first item that fails.
 -- Assumes nothing.
+use Rattle.std.specs.Prelude.{Result, Ok, Err, IsErr, IsErrAnd}
+use Rattle.std.proofs.lemmas.Result.{err_from_is_err_and}
 use mathlib.Core.Path.{◌≡◌, refl, sym, ap, ap₂, ◌∙◌}
 use mathlib.Core.Bool.{Bool, true, false, not, ◌||◌, cond}
 use mathlib.Core.Logic.{◌↔◌}
@@ -9,34 +11,38 @@ use native.Mathlib.Omega.{arith}
 use borrow.Author.Tests.{leb-true, ltb-true, eqb-true, eqb-false, not-true, not-false}
 use Rattle.words.proofs.Tests.{and_left, and_right}
 use Rattle.refusal.specs.declared.Refusal.{Refusal}
-use Rattle.refusal.specs.declared.Verdict.{Verdict}
-use Rattle.refusal.specs.declared.Verdict.TheVariants.{Passed, Failed}
-use Rattle.refusal.specs.Checks.{◌and_then◌, holds, first_failed}
+use Rattle.refusal.specs.Checks.{Verdict, ◌and_then◌, holds, first_failed}
 use Rattle.refusal.specs.Replies.{written}
-use Rattle.refusal.specs.declared.Reply.TheVariants.{Written}
 
 -- ---- checks in a row
 
 -- v is what the first check says: a failure is the row's answer, and after a pass the rest answers
-pub fails : {v w : Verdict} {r : Refusal} (rest : Verdict) → v ≡ w → v ≡ Failed r → v ≡ (w and_then rest)
+pub fails : {v w : Verdict} {r : Refusal} (rest : Verdict) → v ≡ w → v ≡ Err r → v ≡ (w and_then rest)
 fails rest is e = rw (← is, e)
 
-pub passes : {v w x rest : Verdict} → v ≡ w → v ≡ Passed → x ≡ rest → x ≡ (w and_then rest)
+pub passes : {v w x rest : Verdict} → v ≡ w → v ≡ Ok tt → x ≡ rest → x ≡ (w and_then rest)
 passes is e next = rw (← is, e) next
 
+-- at the exit of a `?` the result is the refusal of the check that failed
+pub exits : {A : Type 0} {r : Result A Refusal} {e : Refusal} → IsErr r × IsErrAnd r (λ x. x ≡ e) → r ≡ Err e
+exits {r} p = let q = err_from_is_err_and r p.1 in q.1 ∙ ap Err q.2
+
+pub exit_fails : {v w r : Verdict} {e : Refusal} (rest : Verdict) → v ≡ w → v ≡ Err e → IsErr r × IsErrAnd r (λ x. x ≡ e) → r ≡ (w and_then rest)
+exit_fails rest is e p = exits p ∙ sym e ∙ fails rest is e
+
 -- a check that passes adds nothing behind others
-pub then_passed : (v : Verdict) → (v and_then Passed) ≡ v
-then_passed Passed = refl
-then_passed (Failed r) = refl
+pub then_passed : (v : Verdict) → (v and_then (Ok tt)) ≡ v
+then_passed (Ok tt) = refl
+then_passed (Err r) = refl
 
 pub then_assoc : (u v w : Verdict) → ((u and_then v) and_then w) ≡ (u and_then v and_then w)
-then_assoc Passed v w = refl
-then_assoc (Failed r) v w = refl
+then_assoc (Ok tt) v w = refl
+then_assoc (Err r) v w = refl
 
 -- a call that writes has passed its checks
-pub written_passed : (v : Verdict) (m : ℕ) {n : ℕ} → written v m ≡ Written n → v ≡ Passed
-written_passed Passed m e = refl
-written_passed (Failed r) m e = cc
+pub written_passed : (v : Verdict) (m : ℕ) {n : ℕ} → written v m ≡ Ok n → v ≡ Ok tt
+written_passed (Ok tt) m e = refl
+written_passed (Err r) m e = cc
 
 -- two tests are one, with the refusal of the first that fails
 pub holds_or : (a b : Bool) (r s : Refusal) → (holds (not a) r and_then holds (not b) s) ≡ holds (not (a || b)) (cond a r s)
@@ -45,15 +51,15 @@ holds_or false b r s = refl
 
 -- ---- what a row that passes tells of its parts
 
-pub passed_left : (v w : Verdict) → (v and_then w) ≡ Passed → v ≡ Passed
-passed_left Passed w e = refl
-passed_left (Failed r) w e = e
+pub passed_left : (v w : Verdict) → (v and_then w) ≡ Ok tt → v ≡ Ok tt
+passed_left (Ok tt) w e = refl
+passed_left (Err r) w e = e
 
-pub passed_right : (v w : Verdict) → (v and_then w) ≡ Passed → w ≡ Passed
-passed_right Passed w e = e
-passed_right (Failed r) w e = cc
+pub passed_right : (v w : Verdict) → (v and_then w) ≡ Ok tt → w ≡ Ok tt
+passed_right (Ok tt) w e = e
+passed_right (Err r) w e = cc
 
-pub holds_true : (b : Bool) (r : Refusal) → holds b r ≡ Passed → b ≡ true
+pub holds_true : (b : Bool) (r : Refusal) → holds b r ≡ Ok tt → b ≡ true
 holds_true true r e = refl
 holds_true false r e = cc
 
@@ -76,13 +82,17 @@ module _ {item : ℕ → Verdict} {n i : ℕ} (u : Undecided item n i) where
       u.rest ∙ ap (first_failed item i) e
 
   -- v is what the item at i says
-  pub scan_stop : {v : Verdict} {r : Refusal} → i < n → v ≡ item i → v ≡ Failed r → v ≡ first_failed item 0 n
+  pub scan_stop : {v : Verdict} {r : Refusal} → i < n → v ≡ item i → v ≡ Err r → v ≡ first_failed item 0 n
   scan_stop h is e = fails _ is e ∙ sym (head h)
 
-  pub scan_next : {v : Verdict} → i < n → v ≡ item i → v ≡ Passed → Undecided item n (i + 1)
+  -- the same at the exit of a `?`
+  pub scan_exit : {v r : Verdict} {e : Refusal} → i < n → v ≡ item i → v ≡ Err e → IsErr r × IsErrAnd r (λ x. x ≡ e) → r ≡ first_failed item 0 n
+  scan_exit h is e p = exits p ∙ sym e ∙ scan_stop h is e
+
+  pub scan_next : {v : Verdict} → i < n → v ≡ item i → v ≡ Ok tt → Undecided item n (i + 1)
   scan_next h is e = record { within = omega arith; rest = head h ∙ sym (passes is e refl) }
 
-  pub scan_done : n ≤ i → Passed ≡ first_failed item 0 n
+  pub scan_done : n ≤ i → (Ok tt) ≡ first_failed item 0 n
   unfolding first_failed
   scan_done h =
       let e : n - i ≡ 0 = omega arith in
@@ -105,8 +115,8 @@ scan_alike same from (suc n) = ap₂ ◌and_then◌ (same from) (scan_alike same
 record FirstAt (item : ℕ → Verdict) (from n : ℕ) (r : Refusal) : Type 0 where
   at : ℕ
   within : at < n
-  fails_there : item (from + at) ≡ Failed r
-  passed_before : (i : ℕ) → i < at → item (from + i) ≡ Passed
+  fails_there : item (from + at) ≡ Err r
+  passed_before : (i : ℕ) → i < at → item (from + i) ≡ Ok tt
 
 module _ (item : ℕ → Verdict) where
   -- an item counted from the next one on
@@ -131,30 +141,30 @@ module _ (item : ℕ → Verdict) where
   shift from (suc n) = ap (λ (v : Verdict). item (from + 1) and_then v) (shift (from + 1) n)
 
   -- the first item passes, and so do those from the next one on
-  onward : (from n : ℕ) → item from ≡ Passed → ((i : ℕ) → i < n → item (from + 1 + i) ≡ Passed) → (i : ℕ) → i < suc n → item (from + i) ≡ Passed
+  onward : (from n : ℕ) → item from ≡ Ok tt → ((i : ℕ) → i < n → item (from + 1 + i) ≡ Ok tt) → (i : ℕ) → i < suc n → item (from + i) ≡ Ok tt
   onward from n p all zero h = rw add-zero p
   onward from n p all (suc i) h = next_item from i ∙ all i (omega arith)
 
-  scan_passed : (from n : ℕ) → first_failed item from n ≡ Passed → (i : ℕ) → i < n → item (from + i) ≡ Passed
+  scan_passed : (from n : ℕ) → first_failed item from n ≡ Ok tt → (i : ℕ) → i < n → item (from + i) ≡ Ok tt
   unfolding first_failed
   scan_passed from zero e = λ i h. absurd (omega arith)
   scan_passed from (suc n) e =
       onward from n (passed_left (item from) _ e) (scan_passed (from + 1) n (passed_right (item from) _ e))
 
-  passed_scan : (from n : ℕ) → ((i : ℕ) → i < n → item (from + i) ≡ Passed) → first_failed item from n ≡ Passed
+  passed_scan : (from n : ℕ) → ((i : ℕ) → i < n → item (from + i) ≡ Ok tt) → first_failed item from n ≡ Ok tt
   unfolding first_failed
   passed_scan from zero all = refl
   passed_scan from (suc n) all =
       rw (rw add-zero at (all 0 (omega arith)))
       (passed_scan (from + 1) n (λ i h. sym (next_item from i) ∙ all (suc i) (omega arith)))
 
-  scan_failed : (from n : ℕ) {r : Refusal} → first_failed item from n ≡ Failed r → FirstAt item from n r
+  scan_failed : (from n : ℕ) {r : Refusal} → first_failed item from n ≡ Err r → FirstAt item from n r
   unfolding first_failed
   scan_failed from zero e = absurd (let z : ◌≡◌ {A = ℕ} 0 1 = cc in omega arith)
   scan_failed from (suc n) {r} e = go (item from) refl e (scan_failed (from + 1) n)
     where
-      go : (v : Verdict) → item from ≡ v → (v and_then first_failed item (from + 1) n) ≡ Failed r → (first_failed item (from + 1) n ≡ Failed r → FirstAt item (from + 1) n r) → FirstAt item from (suc n) r
-      go Passed p e later =
+      go : (v : Verdict) → item from ≡ v → (v and_then first_failed item (from + 1) n) ≡ Err r → (first_failed item (from + 1) n ≡ Err r → FirstAt item (from + 1) n r) → FirstAt item from (suc n) r
+      go (Ok tt) p e later =
           let f = later e in
           record {
             at = suc f.at;
@@ -162,7 +172,7 @@ module _ (item : ℕ → Verdict) where
             fails_there = next_item from f.at ∙ f.fails_there;
             passed_before = onward from f.at p f.passed_before;
           }
-      go (Failed s) p e later =
+      go (Err s) p e later =
           record {
             at = 0;
             within = omega arith;
@@ -170,7 +180,7 @@ module _ (item : ℕ → Verdict) where
             passed_before = λ i h. absurd (omega arith);
           }
 
-  failed_from : (from n k : ℕ) {r : Refusal} → k < n → item (from + k) ≡ Failed r → ((i : ℕ) → i < k → item (from + i) ≡ Passed) → first_failed item from n ≡ Failed r
+  failed_from : (from n k : ℕ) {r : Refusal} → k < n → item (from + k) ≡ Err r → ((i : ℕ) → i < k → item (from + i) ≡ Ok tt) → first_failed item from n ≡ Err r
   unfolding first_failed
   failed_from from zero k h e all = absurd (omega arith)
   failed_from from (suc n) zero h e all =
@@ -181,14 +191,14 @@ module _ (item : ℕ → Verdict) where
       (failed_from (from + 1) n k (omega arith) (sym (next_item from k) ∙ e) (λ i h. sym (next_item from i) ∙ all (suc i) (omega arith)))
 
   -- from the first item on
-  pub each_passed : (n : ℕ) → first_failed item 0 n ≡ Passed → (i : ℕ) → i < n → item i ≡ Passed
+  pub each_passed : (n : ℕ) → first_failed item 0 n ≡ Ok tt → (i : ℕ) → i < n → item i ≡ Ok tt
   each_passed n e i h = rw zero-add at (scan_passed 0 n e i h)
 
-  pub all_passed : (n : ℕ) → ((i : ℕ) → i < n → item i ≡ Passed) → first_failed item 0 n ≡ Passed
+  pub all_passed : (n : ℕ) → ((i : ℕ) → i < n → item i ≡ Ok tt) → first_failed item 0 n ≡ Ok tt
   all_passed n all = passed_scan 0 n (λ i h. rw zero-add (all i h))
 
   pub scan_failed_iff : (n : ℕ) (r : Refusal)
-      → (first_failed item 0 n ≡ Failed r) ↔ ((i : ℕ) × (i < n) × (item i ≡ Failed r) × ((j : ℕ) → j < i → item j ≡ Passed))
+      → (first_failed item 0 n ≡ Err r) ↔ ((i : ℕ) × (i < n) × (item i ≡ Err r) × ((j : ℕ) → j < i → item j ≡ Ok tt))
   scan_failed_iff n r = (
     λ e. let f = scan_failed 0 n e in (f.at, f.within, rw zero-add at f.fails_there, λ j h. rw zero-add at (f.passed_before j h)),
     λ p. failed_from 0 n p.0 p.1 (rw zero-add p.2) (λ j h. rw zero-add (p.3 j h)),

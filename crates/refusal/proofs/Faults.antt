@@ -1,5 +1,6 @@
 -- A check of each item, or of each vertex with each array, passes exactly if none has a fault, and else names the first that has.
 -- Assumes nothing.
+use Rattle.std.specs.Prelude.{Ok, Err}
 use mathlib.Core.Path.{◌≡◌, refl, sym, ap}
 use mathlib.Core.Bool.{Bool, true, false, not}
 use mathlib.Core.Logic.{◌↔◌}
@@ -8,21 +9,19 @@ use native.Mathlib.Nat.{lt_trans}
 use native.Mathlib.Omega.{arith}
 use lib.Dec.{T}
 use Rattle.refusal.specs.declared.Refusal.{Refusal}
-use Rattle.refusal.specs.declared.Verdict.{Verdict}
-use Rattle.refusal.specs.declared.Verdict.TheVariants.{Passed, Failed}
-use Rattle.refusal.specs.Checks.{holds, first_failed}
+use Rattle.refusal.specs.Checks.{Verdict, holds, first_failed}
 use Rattle.refusal.specs.Faults.{FirstOf, first_fault, FirstFault}
 use Rattle.refusal.proofs.Checks.{each_passed, all_passed, scan_failed_iff}
 
 -- ---- one item
 
 module _ {F : Type 0} where
-  item_passed : (b : Bool) (r : Refusal) → T b ↔ F → (holds (not b) r ≡ Passed) ↔ (F → ⊥)
+  item_passed : (b : Bool) (r : Refusal) → T b ↔ F → (holds (not b) r ≡ Ok tt) ↔ (F → ⊥)
   item_passed true r f = (λ e x. let z : ◌≡◌ {A = ℕ} 0 1 = cc in omega arith, λ n. absurd (n (f.0 tt)))
   item_passed false r f = (λ e. f.1, λ n. refl)
 
-  item_failed : (b : Bool) (r s : Refusal) → T b ↔ F → (holds (not b) r ≡ Failed s) ↔ (F × (s ≡ r))
-  item_failed true r s f = (λ e. (f.0 tt, cc), λ p. ap Failed (sym p.1))
+  item_failed : (b : Bool) (r s : Refusal) → T b ↔ F → (holds (not b) r ≡ Err s) ↔ (F × (s ≡ r))
+  item_failed true r s f = (λ e. (f.0 tt, cc), λ p. ap Err (sym p.1))
   item_failed false r s f = (λ e. absurd (let z : ◌≡◌ {A = ℕ} 0 1 = cc in omega arith), λ p. absurd (f.1 p.0))
 
 -- ---- a row of n items
@@ -32,14 +31,14 @@ module _ (fault : ℕ → Bool) (refusal : ℕ → Refusal) (n : ℕ) (Fault : �
   item i = holds (not (fault i)) (refusal i)
 
   -- passed: none has a fault
-  pub row_passed : (first_failed item 0 n ≡ Passed) ↔ ((i : ℕ) → i < n → Fault i → ⊥)
+  pub row_passed : (first_failed item 0 n ≡ Ok tt) ↔ ((i : ℕ) → i < n → Fault i → ⊥)
   row_passed = (
     λ e i h. (item_passed (fault i) _ (exact i h)).0 (each_passed item n e i h),
     λ none. all_passed item n (λ i h. (item_passed (fault i) _ (exact i h)).1 (none i h)),
   )
 
   -- failed: the first that has
-  pub row_failed : (r : Refusal) → (first_failed item 0 n ≡ Failed r) ↔ ((i : ℕ) × FirstOf Fault n i × (r ≡ refusal i))
+  pub row_failed : (r : Refusal) → (first_failed item 0 n ≡ Err r) ↔ ((i : ℕ) × FirstOf Fault n i × (r ≡ refusal i))
   row_failed r = (
     λ e. let (i, within, there, before) = (scan_failed_iff item n r).0 e in
         let f = (item_failed (fault i) _ r (exact i within)).0 there in
@@ -60,11 +59,11 @@ module _ (fault : ℕ → ℕ → Bool) (refusal : ℕ → ℕ → Refusal) (ver
   abbrev row : ℕ → Verdict
   row v = first_failed (λ a. holds (not (fault v a)) (refusal v a)) 0 arrays
 
-  passed_at : (v : ℕ) → (row v ≡ Passed) ↔ ((a : ℕ) → a < arrays → Fault v a → ⊥)
+  passed_at : (v : ℕ) → (row v ≡ Ok tt) ↔ ((a : ℕ) → a < arrays → Fault v a → ⊥)
   passed_at v = row_passed (fault v) (refusal v) arrays (Fault v) (exact v)
 
   -- passed: no vertex has a fault with an array
-  pub fault_passed : (first_fault fault refusal vertices arrays ≡ Passed) ↔ ((v a : ℕ) → v < vertices → a < arrays → Fault v a → ⊥)
+  pub fault_passed : (first_fault fault refusal vertices arrays ≡ Ok tt) ↔ ((v a : ℕ) → v < vertices → a < arrays → Fault v a → ⊥)
   unfolding first_fault
   fault_passed = (
     λ e v a h. (passed_at v).0 (each_passed row vertices e v h) a,
@@ -72,7 +71,7 @@ module _ (fault : ℕ → ℕ → Bool) (refusal : ℕ → ℕ → Refusal) (ver
   )
 
   -- failed: the first that has, by vertex, then by array
-  pub fault_failed : (r : Refusal) → (first_fault fault refusal vertices arrays ≡ Failed r) ↔ ((v : ℕ) × (a : ℕ) × FirstFault Fault vertices arrays v a × (r ≡ refusal v a))
+  pub fault_failed : (r : Refusal) → (first_fault fault refusal vertices arrays ≡ Err r) ↔ ((v : ℕ) × (a : ℕ) × FirstFault Fault vertices arrays v a × (r ≡ refusal v a))
   unfolding first_fault
   fault_failed r = (
     λ e. let (v, in_v, there, before) = (scan_failed_iff row vertices r).0 e in

@@ -2,8 +2,7 @@
 -- Assumes nothing.
 use Rattle.std.specs.Prelude.{Bool, not, ℕ, ◌<◌}
 use Rattle.refusal.specs.declared.Refusal.{Refusal}
-use Rattle.refusal.specs.declared.Verdict.{Verdict}
-use Rattle.refusal.specs.Checks.{holds, first_failed}
+use Rattle.refusal.specs.Checks.{Verdict, holds, first_failed}
 
 -- item i is the first of n at which a fault stands
 pub record FirstOf (Fault : ℕ → Type 0) (n i : ℕ) : Type 0 where

@@ -2,11 +2,11 @@
 #![tactic(auto)]
 
 ghost use Rattle.std.specs.Prelude.{◌≡◌};
-ghost use Rattle.refusal.specs.Checks.{◌and_then◌};
-ghost use Rattle.refusal.specs.Refusals.{outcome_of};
+ghost use Rattle.refusal.specs.Refusals.{refused, outcome_of};
 ghost use Rattle.refusal.specs.Replies.{reply_outcome};
 
-#[derive(Clone, Copy)]
+// Why a call answers `Err`.
+#[derive(Clone, Copy, Debug, PartialEq, Eq)]
 pub enum Refusal {
     // The file's writer.
     TooShort { length: usize },
@@ -40,179 +40,68 @@ pub enum Refusal {
     ShortReportBuffer { needed: usize },
 }
 
-// What one check, or a row of them, says.
-#[derive(Clone, Copy)]
-pub enum Verdict {
-    Passed,
-    Failed(Refusal),
-}
-
-impl Verdict {
-    // The first failure of the two.
-    pub fn and_then(self, rest: Verdict) -> Verdict
-        ensures { result ≡ (self and_then rest) }
-    {
-        match self {
-            Verdict::Passed => rest,
-            Verdict::Failed(_) => self,
-        }
-    }
-}
-
-// What a public call answers: the length written, or the refusal.
-#[derive(Clone, Copy)]
-pub enum Reply {
-    Written(usize),
-    Denied(Refusal),
-}
-
 // What a public call answers, in numbers: its number and two places; number 0 is success, with the length written as the first place.
 #[repr(C)]
-#[derive(Clone, Copy)]
+#[derive(Clone, Copy, Debug, PartialEq, Eq)]
 pub struct Outcome {
     pub number: u64,
     pub first: u64,
     pub second: u64,
 }
 
-// The number and the places of a refusal.
-pub fn outcome_of(r: Refusal) -> Outcome
-    ensures { result ≡ outcome_of r }
+// A refusal's number and places.
+fn refused(number: u64, first: usize, second: usize) -> Outcome
+    ensures { result ≡ refused number first second }
 {
-    match r {
-        Refusal::TooShort { length } => Outcome {
-            number: 10,
-            first: length as u64,
-            second: 0,
-        },
-        Refusal::WrongMark => Outcome {
-            number: 10,
-            first: 0,
-            second: 0,
-        },
-        Refusal::WrongEdition => Outcome {
-            number: 11,
-            first: 4,
-            second: 0,
-        },
-        Refusal::CountOutsideLimits { byte } => Outcome {
-            number: 12,
-            first: byte as u64,
-            second: 0,
-        },
-        Refusal::WrongOffset { byte } => Outcome {
-            number: 13,
-            first: byte as u64,
-            second: 0,
-        },
-        Refusal::WrongLength => Outcome {
-            number: 13,
-            first: 18,
-            second: 0,
-        },
-        Refusal::WrongArrayByte { byte } => Outcome {
-            number: 14,
-            first: byte as u64,
-            second: 0,
-        },
-        Refusal::UnknownAction { byte } => Outcome {
-            number: 15,
-            first: byte as u64,
-            second: 0,
-        },
-        Refusal::VersionTooLarge { byte } => Outcome {
-            number: 17,
-            first: byte as u64,
-            second: 0,
-        },
-        Refusal::ActionAtEntryOrExit { byte } => Outcome {
-            number: 18,
-            first: byte as u64,
-            second: 0,
-        },
-        Refusal::MixedActions { byte } => Outcome {
-            number: 19,
-            first: byte as u64,
-            second: 0,
-        },
-        Refusal::WrongEdge { byte } => Outcome {
-            number: 16,
-            first: byte as u64,
-            second: 0,
-        },
-        Refusal::TooManyVertices { vertices } => Outcome {
-            number: 22,
-            first: vertices as u64,
-            second: 0,
-        },
-        Refusal::WritesInArgument { vertex, array } => Outcome {
-            number: 20,
-            first: vertex as u64,
-            second: array as u64,
-        },
-        Refusal::AmbiguousReference { vertex, array } => Outcome {
-            number: 21,
-            first: vertex as u64,
-            second: array as u64,
-        },
-        Refusal::PathLengthOutsideLimits { length } => Outcome {
-            number: 30,
-            first: length as u64,
-            second: 0,
-        },
-        Refusal::WrongStart => Outcome {
-            number: 31,
-            first: 0,
-            second: 0,
-        },
-        Refusal::NoSuchEdge { index } => Outcome {
-            number: 32,
-            first: index as u64,
-            second: 0,
-        },
-        Refusal::MalformedDirectives { byte } => Outcome {
-            number: 40,
-            first: byte as u64,
-            second: 0,
-        },
-        Refusal::TooManyMappings { array } => Outcome {
-            number: 41,
-            first: array as u64,
-            second: 0,
-        },
-        Refusal::TwoMappings { vertex, array } => Outcome {
-            number: 42,
-            first: vertex as u64,
-            second: array as u64,
-        },
-        Refusal::ShortRoutineBuffer { needed } => Outcome {
-            number: 1,
-            first: needed as u64,
-            second: 0,
-        },
-        Refusal::ShortPlanBuffer { needed } => Outcome {
-            number: 1,
-            first: needed as u64,
-            second: 0,
-        },
-        Refusal::ShortReportBuffer { needed } => Outcome {
-            number: 2,
-            first: needed as u64,
-            second: 0,
-        },
+    Outcome {
+        number,
+        first: first as u64,
+        second: second as u64,
     }
 }
 
-// The same of a call's answer.
-pub fn reply_outcome(reply: Reply) -> Outcome
-    ensures { result ≡ reply_outcome reply }
-{
-    match reply {
-        Reply::Written(length) => Outcome {
-            number: 0,
-            first: length as u64,
-            second: 0,
-        },
-        Reply::Denied(r) => outcome_of(r),
+// Those of each reason.
+impl From<Refusal> for Outcome {
+    ghost from_gives = { λ r outcome. outcome ≡ outcome_of r };
+
+    fn from(r: Refusal) -> Outcome {
+        match r {
+            Refusal::TooShort { length } => refused(10, length, 0),
+            Refusal::WrongMark => refused(10, 0, 0),
+            Refusal::WrongEdition => refused(11, 4, 0),
+            Refusal::CountOutsideLimits { byte } => refused(12, byte, 0),
+            Refusal::WrongOffset { byte } => refused(13, byte, 0),
+            Refusal::WrongLength => refused(13, 18, 0),
+            Refusal::WrongArrayByte { byte } => refused(14, byte, 0),
+            Refusal::UnknownAction { byte } => refused(15, byte, 0),
+            Refusal::VersionTooLarge { byte } => refused(17, byte, 0),
+            Refusal::ActionAtEntryOrExit { byte } => refused(18, byte, 0),
+            Refusal::MixedActions { byte } => refused(19, byte, 0),
+            Refusal::WrongEdge { byte } => refused(16, byte, 0),
+            Refusal::TooManyVertices { vertices } => refused(22, vertices, 0),
+            Refusal::WritesInArgument { vertex, array } => refused(20, vertex, array),
+            Refusal::AmbiguousReference { vertex, array } => refused(21, vertex, array),
+            Refusal::PathLengthOutsideLimits { length } => refused(30, length, 0),
+            Refusal::WrongStart => refused(31, 0, 0),
+            Refusal::NoSuchEdge { index } => refused(32, index, 0),
+            Refusal::MalformedDirectives { byte } => refused(40, byte, 0),
+            Refusal::TooManyMappings { array } => refused(41, array, 0),
+            Refusal::TwoMappings { vertex, array } => refused(42, vertex, array),
+            Refusal::ShortRoutineBuffer { needed } => refused(1, needed, 0),
+            Refusal::ShortPlanBuffer { needed } => refused(1, needed, 0),
+            Refusal::ShortReportBuffer { needed } => refused(2, needed, 0),
+        }
+    }
+}
+
+// What a public call answers: success is 0, with the length written as the first place.
+impl From<Result<usize, Refusal>> for Outcome {
+    ghost from_gives = { λ reply outcome. outcome ≡ reply_outcome reply };
+
+    fn from(reply: Result<usize, Refusal>) -> Outcome {
+        match reply {
+            Ok(length) => refused(0, length, 0),
+            Err(r) => Outcome::from(r),
+        }
     }
 }

@@ -1,6 +1,6 @@
 -- What the C interface answers, and what it leaves in the buffer, for all bytes: the definitions' answers in numbers.
 -- Assumes nothing.
-use Rattle.std.specs.Prelude.{◌≡◌, List, ℕ, length}
+use Rattle.std.specs.Prelude.{◌≡◌, List, ℕ, length, Ok, Err}
 use Rattle.calls.specs.Checks.{check22}
 use Rattle.calls.specs.Expanded.{routine_of}
 use Rattle.calls.specs.Referring.{referring}
@@ -13,8 +13,6 @@ use Rattle.planned.specs.Calls.{plan_of, plan_outcome, plan_into}
 use Rattle.refusal.specs.Checks.{◌and_then◌}
 use Rattle.refusal.specs.declared.Outcome.{Outcome}
 use Rattle.refusal.specs.declared.Refusal.{Refusal}
-use Rattle.refusal.specs.declared.Reply.TheVariants.{Written, Denied}
-use Rattle.refusal.specs.declared.Verdict.TheVariants.{Passed}
 use Rattle.rounds.specs.Calls.{PassBytes, rounds_of, rounds_outcome}
 use Rattle.routine.specs.Reader.{read_check}
 use Rattle.run.specs.Calls.{run_of, run_outcome, run_into, DemandMet, CountsMet}
@@ -24,13 +22,13 @@ use Rattle.words.specs.Tables.{wrote}
 pub record PlannedC (file before : List ℕ) (outcome : Outcome) (after : List ℕ) : Type 0 where
   pub answer : outcome ≡ plan_outcome file (length before)
   pub buffer : after ≡ plan_into (plan_of file (length before)) file before
-  pub demand : (read_check file and_then check22 file) ≡ Passed → Demand2 (routine_of file) (referring file)
+  pub demand : (read_check file and_then check22 file) ≡ Ok tt → Demand2 (routine_of file) (referring file)
 
 -- what hpf_rounds answers and leaves
 pub record RoundedC (file before : List ℕ) (outcome : Outcome) (after : List ℕ) : Type 0 where
   pub answer : outcome ≡ rounds_outcome file (length before)
-  pub numbers : (n : ℕ) → rounds_of file (length before) ≡ Written n → (bytes : List ℕ) × PassBytes file bytes × (after ≡ wrote before bytes)
-  pub unwritten : (r : Refusal) → rounds_of file (length before) ≡ Denied r → after ≡ before
+  pub numbers : (n : ℕ) → rounds_of file (length before) ≡ Ok n → (bytes : List ℕ) × PassBytes file bytes × (after ≡ wrote before bytes)
+  pub unwritten : (r : Refusal) → rounds_of file (length before) ≡ Err r → after ≡ before
 
 -- what hpf_run answers and leaves
 pub record RanC (file path before : List ℕ) (outcome : Outcome) (after : List ℕ) : Type 0 where
@@ -43,5 +41,5 @@ pub record RanC (file path before : List ℕ) (outcome : Outcome) (after : List 
 pub record ConvertedC (file before : List ℕ) (outcome : Outcome) (after : List ℕ) : Type 0 where
   pub answer : outcome ≡ convert_outcome file (length before)
   pub buffer : after ≡ convert_into (convert_of file (length before)) file before
-  pub faults : check40 file ≡ Passed → MappingFaults file
-  pub demand : (check40 file and_then check41 file and_then check42 file) ≡ Passed → Demand4 file
+  pub faults : check40 file ≡ Ok tt → MappingFaults file
+  pub demand : (check40 file and_then check41 file and_then check42 file) ≡ Ok tt → Demand4 file

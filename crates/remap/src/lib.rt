@@ -8,23 +8,23 @@ use refusal::Outcome;
 pub fn hpf_plan(file: &[u8], out: &mut [u8]) -> Outcome
     ensures { PlannedC file.now out.old result out.new }
 {
-    refusal::reply_outcome(plan::plan(file, out))
+    Outcome::from(plan::plan(file, out))
 }
 
 pub fn hpf_rounds(file: &[u8], out: &mut [u8]) -> Outcome
     ensures { RoundedC file.now out.old result out.new }
 {
-    refusal::reply_outcome(rounds::rounds(file, out))
+    Outcome::from(rounds::rounds(file, out))
 }
 
 pub fn hpf_run(file: &[u8], path: &[u8], out: &mut [u8]) -> Outcome
     ensures { RanC file.now path.now out.old result out.new }
 {
-    refusal::reply_outcome(run::run(file, path, out))
+    Outcome::from(run::run(file, path, out))
 }
 
 pub fn hpf_convert(file: &[u8], out: &mut [u8]) -> Outcome
     ensures { ConvertedC file.now out.old result out.new }
 {
-    refusal::reply_outcome(convert::convert(file, out))
+    Outcome::from(convert::convert(file, out))
 }

@@ -1,6 +1,7 @@
 -- Document 01, "Plan and report": the bytes of an array's entry and of a record; document 02, request 8: those of counts.
 -- Assumes nothing.
 use Rattle.std.specs.Prelude.{List, [], ◌∷◌, ◌++◌, ℕ, length, get_or}
+use Rattle.report.specs.Records.{kind_of}
 use Rattle.report.specs.declared.record.Record.{Record}
 use Rattle.state.specs.Carrying.{bare}
 use Rattle.state.specs.States.{State}
@@ -22,7 +23,7 @@ entries_of states m = rows (λ a. entry_bytes (bare (carried_of states a))) m
 
 -- ten bytes for each reference: step, array, version, kind, zero, stamp seen, new stamp
 abbrev pub record_bytes : Record → List ℕ
-record_bytes r = bytes16 r.step ++ (r.array ∷ r.version ∷ r.kind ∷ 0 ∷ (bytes16 r.seen ++ bytes16 r.new))
+record_bytes r = bytes16 r.step ++ (r.array ∷ r.version ∷ kind_of r.access ∷ 0 ∷ (bytes16 r.seen ++ bytes16 r.new))
 
 -- records, one after the other
 abbrev pub records_bytes : List Record → List ℕ

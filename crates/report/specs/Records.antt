@@ -32,7 +32,7 @@ new_by Kill step = 0
 -- the record of a reference to an array, of the version that is used and the stamp that stood before this step
 abbrev pub record_of : Access → ℕ → ℕ → ℕ → ℕ → Record
 record_of x step array version stamp =
-    record { step = step; array = array; version = version; kind = kind_of x; seen = seen_by x stamp; new = new_by x step }
+    record { step = step; array = array; version = version; access = x; seen = seen_by x stamp; new = new_by x step }
 
 -- an event's records: one if it is a reference
 abbrev pub records_at : Action → ℕ → ℕ → ℕ → ℕ → List Record

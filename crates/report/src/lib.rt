@@ -6,22 +6,19 @@ pub mod record;
 
 ghost use Rattle.std.specs.Prelude.{◌≡◌, cond, ◌*◌, ◌<◌, ◌≤◌, length};
 ghost use Rattle.labels.specs.Events.{event};
-ghost use Rattle.labels.specs.Routines.{ReadAs};
 ghost use Rattle.routine.specs.Actions.{is_reference};
 ghost use Rattle.routine.specs.Layout.{arrays, vertices};
 ghost use Rattle.report.specs.Bytes.{entry_bytes, entries_of, record_bytes, records_bytes, counts_of};
-ghost use Rattle.report.specs.Records.{record_of, records_at};
+ghost use Rattle.report.specs.Records.{kind_of, record_of, records_at};
 ghost use Rattle.report.specs.References.{references_at};
 ghost use Rattle.state.specs.Carrying.{bare};
 ghost use Rattle.words.specs.Tables.{table, wrote};
 ghost use Rattle.words.specs.Words.{bytes16};
 
 use crate::record::Record;
-use labels::event;
+use labels::read::Routine;
 use routine::action::{Access, Action};
-use routine::array;
 use routine::array::ArrayRecord;
-use routine::header::Header;
 use state::Carried;
 
 // Bytes of an array's entry.
@@ -31,13 +28,12 @@ pub const ENTRY: usize = 8;
 pub const COUNT: usize = 2;
 
 // Whether vertex v refers to array a, 1 or 0.
-fn reference_at(file: &[u8], h: Header, a: usize, v: usize) -> usize
-    requires read_as { ReadAs file.now h }
-    requires v_bound { v < vertices file.now }
-    requires a_bound { a < arrays file.now }
-    ensures { result ≡ cond (is_reference (event file.now a v)) 1 0 }
+fn reference_at(routine: &Routine, a: usize, v: usize) -> usize
+    requires v_bound { v < vertices routine.now.bytes }
+    requires a_bound { a < arrays routine.now.bytes }
+    ensures { result ≡ cond (is_reference (event routine.now.bytes a v)) 1 0 }
 {
-    let reference = event::at(file, h, array::record_of(file, a), a, v).is_reference();
+    let reference = routine.event(a, v).is_reference();
     if reference {
         return 1;
     }
@@ -45,33 +41,25 @@ fn reference_at(file: &[u8], h: Header, a: usize, v: usize) -> usize
 }
 
 // How many arrays vertex v refers to.
-fn references_at(file: &[u8], h: Header, v: usize) -> usize
-    requires read_as { ReadAs file.now h }
-    requires v_bound { v < vertices file.now }
-    ensures value { result ≡ references_at file.now v }
+fn references_at(routine: &Routine, v: usize) -> usize
+    requires v_bound { v < vertices routine.now.bytes }
+    ensures value { result ≡ references_at routine.now.bytes v }
     ensures upper_bound { result ≤ 8 }
 {
-    let m = h.arrays;
     let mut count = 0;
-    let mut a = 0;
-    while a < m {
-        count += reference_at(file, h, a, v);
-        a += 1;
+    for a in 0..routine.arrays() {
+        count += reference_at(routine, a, v);
     }
     count
 }
 
 // How many references each vertex has.
-pub fn fill(file: &[u8], h: Header, counts: &mut [u8])
-    requires read_as { ReadAs file.now h }
-    requires counts_len { length counts.old ≡ vertices file.now }
-    ensures { counts.new ≡ table (references_at file.now) (vertices file.now) }
+pub fn fill(routine: &Routine, counts: &mut [u8])
+    requires counts_len { length counts.old ≡ vertices routine.now.bytes }
+    ensures { counts.new ≡ table (references_at routine.now.bytes) (vertices routine.now.bytes) }
 {
-    let n = h.vertices;
-    let mut v = 0;
-    while v < n {
-        counts[v] = references_at(file, h, v) as u8;
-        v += 1;
+    for v in 0..routine.vertices() {
+        counts[v] = references_at(routine, v) as u8;
     }
 }
 
@@ -80,12 +68,8 @@ fn write_entry(out: &mut [u8], s: Carried)
     requires { 8 ≤ length out.old }
     ensures { out.new ≡ wrote out.old (entry_bytes (bare s)) }
 {
-    out[0] = (s.copies % 256) as u8;
-    out[1] = (s.copies / 256) as u8;
-    out[2] = (s.live % 256) as u8;
-    out[3] = (s.live / 256 % 256) as u8;
-    out[4] = (s.live / 65536 % 256) as u8;
-    out[5] = (s.live / 16777216) as u8;
+    words::write16(out, s.copies as usize);
+    words::write32(&mut out[2..], s.live);
     out[6] = s.current;
     out[7] = 0;
 }
@@ -96,11 +80,21 @@ pub fn write_entries(states: [Carried; ArrayRecord::MAX], m: usize, out: &mut [u
     requires m_in_bounds { 8 * m ≤ length out.old }
     ensures { out.new ≡ wrote out.old (entries_of states m) }
 {
-    let mut a = 0;
-    while a < m {
+    for a in 0..m {
         let at = ENTRY * a;
         write_entry(&mut out[at..], states[a]);
-        a += 1;
+    }
+}
+
+// The byte that stands for an access.
+fn kind_byte(access: Access) -> u8
+    ensures { result ≡ kind_of access }
+{
+    match access {
+        Access::Read => 1,
+        Access::Define => 2,
+        Access::Modify => 3,
+        Access::Kill => 4,
     }
 }
 
@@ -109,16 +103,12 @@ fn write_record(out: &mut [u8], r: Record)
     requires { 10 ≤ length out.old }
     ensures { out.new ≡ wrote out.old (record_bytes r) }
 {
-    out[0] = (r.step % 256) as u8;
-    out[1] = (r.step / 256) as u8;
+    words::write16(out, r.step as usize);
     out[2] = r.array;
     out[3] = r.version;
-    out[4] = r.kind;
+    out[4] = kind_byte(r.access);
     out[5] = 0;
-    out[6] = (r.seen % 256) as u8;
-    out[7] = (r.seen / 256) as u8;
-    out[8] = (r.new % 256) as u8;
-    out[9] = (r.new / 256) as u8;
+    words::write_pair(&mut out[6..], r.seen as usize, r.new as usize);
 }
 
 // The record of a reference.
@@ -130,7 +120,7 @@ fn made(x: Access, step: u16, array: u8, version: u8, stamp: u16) -> Record
             step,
             array,
             version,
-            kind: 1,
+            access: Access::Read,
             seen: stamp,
             new: 0,
         },
@@ -138,7 +128,7 @@ fn made(x: Access, step: u16, array: u8, version: u8, stamp: u16) -> Record
             step,
             array,
             version,
-            kind: 2,
+            access: Access::Define,
             seen: 0,
             new: step,
         },
@@ -146,7 +136,7 @@ fn made(x: Access, step: u16, array: u8, version: u8, stamp: u16) -> Record
             step,
             array,
             version,
-            kind: 3,
+            access: Access::Modify,
             seen: stamp,
             new: step,
         },
@@ -154,7 +144,7 @@ fn made(x: Access, step: u16, array: u8, version: u8, stamp: u16) -> Record
             step,
             array,
             version,
-            kind: 4,
+            access: Access::Kill,
             seen: 0,
             new: 0,
         },
@@ -179,26 +169,14 @@ pub fn put(x: Action, step: usize, a: usize, version: u8, stamp: u16, out: &mut 
     }
 }
 
-// Writes a count at the front of what is lent.
-fn write_count(out: &mut [u8], count: u16)
-    requires { 2 ≤ length out.old }
-    ensures { out.new ≡ wrote out.old (bytes16 count) }
-{
-    out[0] = (count % 256) as u8;
-    out[1] = (count / 256) as u8;
-}
-
 // Writes counts at the front of what is lent.
 pub fn write_counts(counts: &[u16], out: &mut [u8])
     requires counts_len_bound { length counts.now ≤ 65535 }
     requires counts_in_bounds { 2 * length counts.now ≤ length out.old }
     ensures { out.new ≡ wrote out.old (counts_of counts.now) }
 {
-    let n = counts.len();
-    let mut i = 0;
-    while i < n {
+    for i in 0..counts.len() {
         let at = COUNT * i;
-        write_count(&mut out[at..], counts[i]);
-        i += 1;
+        words::write16(&mut out[at..], counts[i] as usize);
     }
 }

@@ -1,5 +1,6 @@
 -- Where a path through the expanded routine arrives at a call, the source names the version to which the call remaps the array back.
 -- Assumes nothing.
+use Rattle.std.specs.Prelude.{Ok}
 use mathlib.Core.Path.{◌≡◌, ap, subst, ◌∙◌}
 use mathlib.Core.Bool.{true}
 use mathlib.Core.List.{List, [], ◌∷◌}
@@ -12,7 +13,6 @@ use Rattle.labels.specs.Events.{edge_bytes}
 use Rattle.labels.specs.Reaching.{ArrivesBy}
 use Rattle.path.proofs.Paths.{Walk}
 use Rattle.path.specs.Paths.{steps, vertex_at}
-use Rattle.refusal.specs.declared.Verdict.TheVariants.{Passed}
 use Rattle.routine.specs.Layout.{arrays, vertices}
 use Rattle.routine.specs.Reader.{WellFormed}
 use Rattle.words.specs.Tables.{table, rows}
@@ -37,7 +37,7 @@ module _ (file : List ℕ) (can : Expandable file) {a : ℕ} (in_a : a < arrays 
     leads zero h = walk.begins
     leads (suc i) h = arrives_append (edge_bytes (expanded file)) (table (vertex_at path) i) (vertex_at path i) [] (vertex_at path (suc i)) (leads i (omega arith)) (walk.joined i h)
 
-    pub names_return : check21 (referring file) ≡ Passed → (i v : ℕ) → i < steps path → v < vertices file → vertex_at path i ≡ first_vertex_of file v → passes file a v ≡ true
+    pub names_return : check21 (referring file) ≡ Ok tt → (i v : ℕ) → i < steps path → v < vertices file → vertex_at path i ≡ first_vertex_of file v → passes file a v ≡ true
         → named file can in_a (table (vertex_at path) i) ≡ some (return_version file a v)
     names_return sure i v h in_v at passed = go (table (vertex_at path) i) (subst (ArrivesBy (expanded file) (table (vertex_at path) i)) at (leads i h))
       where

@@ -1,5 +1,6 @@
 -- Request 3: demand 3 of the routine that is run, and the version that a call gives back.
 -- Assumes nothing.
+use Rattle.std.specs.Prelude.{Ok}
 use mathlib.Core.Path.{◌≡◌, refl, sym, ◌∙◌}
 use mathlib.Core.Bool.{Bool, true, false, true≢false}
 use mathlib.Core.List.{List}
@@ -16,15 +17,14 @@ use Rattle.demand.specs.Demand.{Demand3}
 use Rattle.labels.specs.Checks.{check20, check21}
 use Rattle.path.proofs.Paths.{walk}
 use Rattle.path.specs.Paths.{path_check}
-use Rattle.refusal.specs.declared.Verdict.TheVariants.{Passed}
 use Rattle.returns.specs.Returns.{ReturnsNamed}
 use Rattle.returns.proofs.Named.{names_return}
 
-module _ (file : List ℕ) (can : Expandable file) {path : List ℕ} (accepted : path_check (routine_of file) path ≡ Passed) where
-  pub demand3_calls : check20 (referring file) ≡ Passed → Demand3 (routine_of file) path
+module _ (file : List ℕ) (can : Expandable file) {path : List ℕ} (accepted : path_check (routine_of file) path ≡ Ok tt) where
+  pub demand3_calls : check20 (referring file) ≡ Ok tt → Demand3 (routine_of file) path
   demand3_calls unwritten = demand3 (routine_of file) path (routine_formed file can) accepted (routine_unwritten file can unwritten)
 
-  pub return_named : check21 (referring file) ≡ Passed → ReturnsNamed file path
+  pub return_named : check21 (referring file) ≡ Ok tt → ReturnsNamed file path
   unfolding routine_of
   return_named sure = go (has_calls file) refl
     where

@@ -1,22 +1,18 @@
 -- Document 02, request 5: what the call `rounds` answers and leaves in the buffer, for every list of bytes. A number is the rounds of a pass;
 -- the rules leave open in which order a round takes the edges, and so which number it is (`StopsAfter`).
 -- Assumes nothing.
-use Rattle.std.specs.Prelude.{◌≡◌, true, false, cond, List, ◌++◌, ℕ, leb, length}
+use Rattle.std.specs.Prelude.{◌≡◌, true, false, cond, List, ◌++◌, ℕ, leb, length, Ok, Err}
 use Rattle.calls.specs.Calls.{has_calls}
 use Rattle.calls.specs.Checks.{calls_check}
 use Rattle.calls.specs.Expanded.{expanded}
 use Rattle.calls.specs.Referring.{referring}
 use Rattle.labels.specs.Checks.{programmer_check}
 use Rattle.passes.specs.Counted.{LettersStop, ReachingStops, KeptStops, BroughtStops, ReachedFirst}
-use Rattle.refusal.specs.Checks.{◌and_then◌, holds}
-use Rattle.refusal.specs.Replies.{written, reply_outcome}
+use Rattle.refusal.specs.Checks.{◌and_then◌, holds, Verdict}
+use Rattle.refusal.specs.Replies.{written, reply_outcome, Reply}
 use Rattle.refusal.specs.declared.Outcome.{Outcome}
 use Rattle.refusal.specs.declared.Refusal.{Refusal}
 use Rattle.refusal.specs.declared.Refusal.TheVariants.{ShortPlanBuffer}
-use Rattle.refusal.specs.declared.Reply.{Reply}
-use Rattle.refusal.specs.declared.Reply.TheVariants.{Written, Denied}
-use Rattle.refusal.specs.declared.Verdict.{Verdict}
-use Rattle.refusal.specs.declared.Verdict.TheVariants.{Passed}
 use Rattle.routine.specs.Reader.{read_check}
 use Rattle.words.specs.Tables.{wrote}
 use Rattle.words.specs.Words.{bytes16}
@@ -79,14 +75,14 @@ rounds_outcome file size = reply_outcome (rounds_of file size)
 pub record Rounded (file before : List ℕ) (reply : Reply) (after : List ℕ) : Type 0 where
   pub answer : reply ≡ rounds_of file (length before)
   pub outcome : reply_outcome reply ≡ rounds_outcome file (length before)
-  pub numbers : (n : ℕ) → reply ≡ Written n → (bytes : List ℕ) × PassBytes file bytes × (after ≡ wrote before bytes)
-  pub unwritten : (r : Refusal) → reply ≡ Denied r → after ≡ before
+  pub numbers : (n : ℕ) → reply ≡ Ok n → (bytes : List ℕ) × PassBytes file bytes × (after ≡ wrote before bytes)
+  pub unwritten : (r : Refusal) → reply ≡ Err r → after ≡ before
 
 -- ---- how the code keeps it: 20 and 21 of a routine without calls, and where both pass the numbers
 
 pub record Counted (routine : List ℕ) (p : Passes) : Type 0 where
   pub answers : p.verdict ≡ programmer_check routine
-  pub letters_stop : p.verdict ≡ Passed → LettersStop routine p.letters
-  pub reached_first : p.verdict ≡ Passed → ReachedFirst routine p.reached
-  pub reaching_stops : p.verdict ≡ Passed → ReachingStops routine p.reaching
-  pub kept_stops : p.verdict ≡ Passed → KeptStops routine p.kept
+  pub letters_stop : p.verdict ≡ Ok tt → LettersStop routine p.letters
+  pub reached_first : p.verdict ≡ Ok tt → ReachedFirst routine p.reached
+  pub reaching_stops : p.verdict ≡ Ok tt → ReachingStops routine p.reaching
+  pub kept_stops : p.verdict ≡ Ok tt → KeptStops routine p.kept

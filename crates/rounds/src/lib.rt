@@ -4,8 +4,6 @@
 ghost use Rattle.std.specs.Prelude.{◌≡◌, false, ◌++◌, ◌*◌, ◌≤◌, ◌<◌, length};
 ghost use Rattle.calls.specs.Calls.{has_calls};
 ghost use Rattle.calls.specs.Checks.{CallsRead};
-ghost use Rattle.labels.specs.Routines.{ReadAs};
-ghost use Rattle.refusal.specs.declared.Verdict.TheVariants.{Passed};
 ghost use Rattle.rounds.specs.Calls.{four_bytes, Counted, Rounded};
 ghost use Rattle.routine.specs.Layout.{vertices, edges};
 ghost use Rattle.routine.specs.Reader.{read_check};
@@ -13,11 +11,11 @@ ghost use Rattle.words.specs.Tables.{wrote};
 ghost use Rattle.words.specs.Words.{bytes16};
 
 use calls::scan;
+use checks::Tables;
+use labels::read::Routine;
 use passes::tables;
-use refusal::{Refusal, Reply, Verdict};
-use routine::header::Header;
+use refusal::Refusal;
 use routine::reader;
-use routine::reader::Answer;
 use sets::{Half, Set};
 
 // Bytes of the numbers of four passes, and of six.
@@ -28,7 +26,7 @@ const SIX: usize = 12;
 // Refusals 20 and 21, and the rounds of the four passes, 0 where 20 or 21 refuses; that of the reached vertices also if it was not needed.
 #[derive(Clone, Copy)]
 pub struct Passes {
-    pub verdict: Verdict,
+    pub verdict: Result<(), Refusal>,
     pub letters: usize,
     pub reached: usize,
     pub reaching: usize,
@@ -37,8 +35,7 @@ pub struct Passes {
 
 // Makes the passes of a routine that was read. `order` holds an entry for each edge, the other tables eight for each vertex.
 fn count_with(
-    file: &[u8],
-    h: Header,
+    routine: &Routine,
     order: &mut [u16],
     versions: &mut [Set],
     uses: &mut [Half],
@@ -48,22 +45,21 @@ fn count_with(
     passes: &mut [Half],
     halves: &mut [Half],
 ) -> Passes
-    requires read_as { ReadAs file.now h }
-    requires order_len { length order.old ≡ edges file.now }
-    requires versions_len { length versions.old ≡ 8 * vertices file.now }
-    requires uses_len { length uses.old ≡ 8 * vertices file.now }
-    requires letters_len { length letters.old ≡ 8 * vertices file.now }
-    requires reaching_len { length reaching.old ≡ 8 * vertices file.now }
-    requires gives_len { length gives.old ≡ 8 * vertices file.now }
-    requires passes_len { length passes.old ≡ 8 * vertices file.now }
-    requires halves_len { length halves.old ≡ 8 * vertices file.now }
-    ensures { Counted file.now result }
+    requires order_len { length order.old ≡ edges routine.now.bytes }
+    requires versions_len { length versions.old ≡ 8 * vertices routine.now.bytes }
+    requires uses_len { length uses.old ≡ 8 * vertices routine.now.bytes }
+    requires letters_len { length letters.old ≡ 8 * vertices routine.now.bytes }
+    requires reaching_len { length reaching.old ≡ 8 * vertices routine.now.bytes }
+    requires gives_len { length gives.old ≡ 8 * vertices routine.now.bytes }
+    requires passes_len { length passes.old ≡ 8 * vertices routine.now.bytes }
+    requires halves_len { length halves.old ≡ 8 * vertices routine.now.bytes }
+    ensures { Counted routine.now.bytes result }
 {
     let checked = checks::prepare(
-        file, h, order, versions, uses, letters, reaching, gives, passes, halves,
+        routine, order, versions, uses, letters, reaching, gives, passes, halves,
     );
     let verdict = checked.verdict;
-    if let Verdict::Failed(_) = verdict {
+    if let Err(_) = verdict {
         return Passes {
             verdict,
             letters: 0,
@@ -74,7 +70,7 @@ fn count_with(
     }
     // from here on `reaching` holds the kept sets
     let last = tables::kept(
-        file, h, order, versions, letters, reaching, gives, passes, halves,
+        routine, order, versions, letters, reaching, gives, passes, halves,
     );
     Passes {
         verdict,
@@ -85,93 +81,34 @@ fn count_with(
     }
 }
 
-// The same with work slices that are large enough.
-fn count_within(
-    file: &[u8],
-    h: Header,
-    order: &mut [u16],
-    versions: &mut [Set],
-    uses: &mut [Half],
-    letters: &mut [u8],
-    reaching: &mut [Set],
-    gives: &mut [Half],
-    passes: &mut [Half],
-    halves: &mut [Half],
-) -> Passes
-    requires read_as { ReadAs file.now h }
-    requires file_in_bounds { edges file.now ≤ length order.old }
-    requires file_in_bounds_2 { 8 * vertices file.now ≤ length versions.old }
-    requires file_in_bounds_3 { 8 * vertices file.now ≤ length uses.old }
-    requires file_in_bounds_4 { 8 * vertices file.now ≤ length letters.old }
-    requires file_in_bounds_5 { 8 * vertices file.now ≤ length reaching.old }
-    requires file_in_bounds_6 { 8 * vertices file.now ≤ length gives.old }
-    requires file_in_bounds_7 { 8 * vertices file.now ≤ length passes.old }
-    requires file_in_bounds_8 { 8 * vertices file.now ≤ length halves.old }
-    ensures { Counted file.now result }
-{
-    let all = flow::COLUMNS * h.vertices;
-    let m = h.edges;
-    count_with(
-        file,
-        h,
-        &mut order[..m],
-        &mut versions[..all],
-        &mut uses[..all],
-        &mut letters[..all],
-        &mut reaching[..all],
-        &mut gives[..all],
-        &mut passes[..all],
-        &mut halves[..all],
-    )
-}
-
 // With tables for any routine.
-fn count(file: &[u8], h: Header) -> Passes
-    requires { ReadAs file.now h }
-    ensures { Counted file.now result }
+fn count(routine: &Routine) -> Passes
+    ensures { Counted routine.now.bytes result }
 {
-    let mut order = [0u16; flow::MAX_EDGES];
-    let mut versions = [0 as Set; 2048];
-    let mut uses = [0 as Half; 2048];
-    let mut letters = [0u8; 2048];
-    let mut reaching = [0 as Set; 2048];
-    let mut gives = [0 as Half; 2048];
-    let mut passes = [0 as Half; 2048];
-    let mut halves = [0 as Half; 2048];
-    count_within(
-        file,
-        h,
-        &mut order,
-        &mut versions,
-        &mut uses,
-        &mut letters,
-        &mut reaching,
-        &mut gives,
-        &mut passes,
-        &mut halves,
+    let mut tables = Tables::<2048, 1192>::new();
+    let all = flow::COLUMNS * routine.vertices();
+    let m = routine.edges();
+    count_with(
+        routine,
+        &mut tables.order[..m],
+        &mut tables.versions[..all],
+        &mut tables.uses[..all],
+        &mut tables.letters[..all],
+        &mut tables.reaching[..all],
+        &mut tables.gives[..all],
+        &mut tables.passes[..all],
+        &mut tables.halves[..all],
     )
-}
-
-// Writes two numbers.
-fn write_two(out: &mut [u8], first: usize, second: usize)
-    requires in_bounds { 4 ≤ length out.old }
-    requires first_bound { (first < 65536) × (second < 65536) }
-    ensures { out.new ≡ wrote out.old (bytes16 first ++ bytes16 second) }
-{
-    out[0] = (first % 256) as u8;
-    out[1] = (first / 256) as u8;
-    out[2] = (second % 256) as u8;
-    out[3] = (second / 256) as u8;
 }
 
 // Writes the numbers of the four passes.
 fn write_four(out: &mut [u8], letters: usize, reached: usize, reaching: usize, kept: usize)
-    requires in_bounds { 8 ≤ length out.old }
-    requires letters_bound { (letters < 65536) × (reached < 65536) × (reaching < 65536) × (kept < 65536) }
+    requires out_room { 8 ≤ length out.old }
+    requires four_fit { (letters < 65536) × (reached < 65536) × (reaching < 65536) × (kept < 65536) }
     ensures { out.new ≡ wrote out.old (four_bytes letters reached reaching kept) }
 {
-    write_two(out, letters, reached);
-    write_two(&mut out[4..], reaching, kept);
+    words::write_pair(out, letters, reached);
+    words::write_pair(&mut out[4..], reaching, kept);
 }
 
 // Writes the numbers of the two passes of a file with calls, then of the four of its expanded routine.
@@ -184,50 +121,44 @@ fn write_six(
     reaching: usize,
     kept: usize,
 )
-    requires in_bounds { 12 ≤ length out.old }
-    requires first_bound { (first < 65536) × (arriving < 65536) }
-    requires letters_bound { (letters < 65536) × (reached < 65536) × (reaching < 65536) × (kept < 65536) }
+    requires out_room { 12 ≤ length out.old }
+    requires two_fit { (first < 65536) × (arriving < 65536) }
+    requires four_fit { (letters < 65536) × (reached < 65536) × (reaching < 65536) × (kept < 65536) }
     ensures { out.new ≡ wrote out.old (bytes16 first ++ (bytes16 arriving ++ four_bytes letters reached reaching kept)) }
 {
-    write_two(out, first, arriving);
+    words::write_pair(out, first, arriving);
     write_four(&mut out[4..], letters, reached, reaching, kept);
 }
 
 // A routine without calls.
-fn rounds_plain(file: &[u8], h: Header, out: &mut [u8]) -> Reply
-    requires read_as { ReadAs file.now h }
-    requires file_value { read_check file.now ≡ Passed }
-    requires file_value_2 { has_calls file.now ≡ false }
-    ensures { Rounded file.now out.old result out.new }
+fn rounds_plain(routine: &Routine, out: &mut [u8]) -> Result<usize, Refusal>
+    requires is_read { read_check routine.now.bytes ≡ Ok tt }
+    requires no_calls { has_calls routine.now.bytes ≡ false }
+    ensures { Rounded routine.now.bytes out.old result out.new }
 {
-    let p = count(file, h);
-    let verdict = p.verdict;
-    if let Verdict::Failed(r) = verdict {
-        return Reply::Denied(r);
-    }
+    let p = count(routine);
+    p.verdict?;
     if out.len() < FOUR {
-        return Reply::Denied(Refusal::ShortPlanBuffer { needed: FOUR });
+        return Err(Refusal::ShortPlanBuffer { needed: FOUR });
     }
     write_four(out, p.letters, p.reached, p.reaching, p.kept);
-    Reply::Written(FOUR)
+    Ok(FOUR)
 }
 
 // A file with calls: its own passes, and those of the routine that it expands to, which `work` is for.
-fn rounds_expanded(file: &[u8], h: Header, out: &mut [u8], work: &mut [u8]) -> Reply
-    requires calls_read { CallsRead file.now h }
+fn rounds_expanded(routine: &Routine, out: &mut [u8], work: &mut [u8]) -> Result<usize, Refusal>
+    requires calls_read { CallsRead routine.now.bytes }
     requires work_len { length work.old ≡ 6866 }
-    ensures { Rounded file.now out.old result out.new }
+    ensures { Rounded routine.now.bytes out.old result out.new }
 {
-    let expanded = expansion::expand(file, h, work);
-    let answer = expanded.answer;
-    let Answer::Routine(e) = answer else {
-        return reader::denied(answer);
-    };
+    let expanded = expansion::expand(routine, work);
+    let e = expanded.answer?;
     if out.len() < SIX {
-        return Reply::Denied(Refusal::ShortPlanBuffer { needed: SIX });
+        return Err(Refusal::ShortPlanBuffer { needed: SIX });
     }
     let n = e.end_at();
-    let p = count(&work[..n], e);
+    let routine = Routine::new(&work[..n], e);
+    let p = count(&routine);
     write_six(
         out,
         expanded.reached,
@@ -237,29 +168,26 @@ fn rounds_expanded(file: &[u8], h: Header, out: &mut [u8], work: &mut [u8]) -> R
         p.reaching,
         p.kept,
     );
-    Reply::Written(SIX)
+    Ok(SIX)
 }
 
 // The same with bytes for any expanded routine.
-fn rounds_calls(file: &[u8], h: Header, out: &mut [u8]) -> Reply
-    requires { CallsRead file.now h }
-    ensures { Rounded file.now out.old result out.new }
+fn rounds_calls(routine: &Routine, out: &mut [u8]) -> Result<usize, Refusal>
+    requires { CallsRead routine.now.bytes }
+    ensures { Rounded routine.now.bytes out.old result out.new }
 {
     let mut work = [0u8; 6866];
-    rounds_expanded(file, h, out, &mut work)
+    rounds_expanded(routine, out, &mut work)
 }
 
 // Writes into `out` how many rounds each pass over `file` takes.
-pub fn rounds(file: &[u8], out: &mut [u8]) -> Reply
+pub fn rounds(file: &[u8], out: &mut [u8]) -> Result<usize, Refusal>
     ensures { Rounded file.now out.old result out.new }
 {
-    let answer = reader::read(file);
-    let Answer::Routine(h) = answer else {
-        return reader::denied(answer);
-    };
-    let calls = scan::any(file, h);
-    if calls {
-        return rounds_calls(file, h, out);
+    let header = reader::read(file)?;
+    let routine = Routine::new(file, header);
+    if scan::any(&routine) {
+        return rounds_calls(&routine, out);
     }
-    rounds_plain(file, h, out)
+    rounds_plain(&routine, out)
 }

@@ -1,5 +1,6 @@
 -- What a byte's action says of its other tests: 40+k remaps, a call is no action, and only the byte 0 does nothing.
 -- Assumes nothing.
+use Rattle.std.specs.Prelude.{Option, Some, None}
 use mathlib.Core.Path.{◌≡◌, refl, sym, ap, ◌∙◌}
 use mathlib.Core.Bool.{Bool, true, false, cond, true≢false}
 use Prim.Native.Nat.{ℕ, ◌+◌, ◌-◌, ◌≤◌, ◌<◌}
@@ -9,7 +10,9 @@ use lib.Dec.{leb, eqb}
 use Rattle.routine.specs.declared.action.Access.{Access}
 use Rattle.routine.specs.declared.action.Action.{Action}
 use Rattle.routine.specs.declared.action.Action.TheVariants.{Nothing, Reference, Remap, Unknown}
-use Rattle.routine.specs.Actions.{action_of, is_call, is_known, family_of}
+use Rattle.routine.specs.Actions.{action_of, is_call, is_known, family_of, alike, differ}
+use Rattle.routine.specs.declared.action.Family.{Family}
+use Rattle.routine.specs.declared.action.Family.TheVariants as F
 use Rattle.routine.specs.Layout.{within}
 use Rattle.sets.specs.Sets.{width}
 use Rattle.words.proofs.Tests.{and_left, and_right, or_cases, by_test}
@@ -86,14 +89,40 @@ module _ (b : ℕ) where
 
   -- ---- families
 
-  pub nothing_family : action_of b ≡ Nothing → family_of b ≡ 0
+  pub nothing_family : action_of b ≡ Nothing → family_of b ≡ None
   nothing_family e = rw (e, known_no_call b (ap is_known e))
 
-  pub reference_family : {r : Access} → action_of b ≡ Reference r → family_of b ≡ 1
+  pub reference_family : {r : Access} → action_of b ≡ Reference r → family_of b ≡ Some F.Reference
   reference_family e = rw e
 
-  pub remap_family : {k : ℕ} → action_of b ≡ Remap k → family_of b ≡ 2
+  pub remap_family : {k : ℕ} → action_of b ≡ Remap k → family_of b ≡ Some F.Remapping
   remap_family e = rw e
 
-  pub call_family : is_call b ≡ true → family_of b ≡ 3
+  pub call_family : is_call b ≡ true → family_of b ≡ Some F.Call
   call_family c = rw (call_unknown b c, c)
+
+-- nothing differs from none
+pub differ-none : (f : Option Family) → differ f None ≡ false
+differ-none None = refl
+differ-none (Some f) = refl
+
+alike-self : (f : Family) → alike f f ≡ true
+alike-self F.Reference = refl
+alike-self F.Remapping = refl
+alike-self F.Call = refl
+
+-- nor from itself
+pub differ-self : (f : Option Family) → differ f f ≡ false
+differ-self None = refl
+differ-self (Some f) = rw (alike-self f) refl
+
+pub alike-is : (f g : Family) → alike f g ≡ true → f ≡ g
+alike-is F.Reference F.Reference e = refl
+alike-is F.Reference F.Remapping e = absurd (true≢false (sym e))
+alike-is F.Reference F.Call e = absurd (true≢false (sym e))
+alike-is F.Remapping F.Reference e = absurd (true≢false (sym e))
+alike-is F.Remapping F.Remapping e = refl
+alike-is F.Remapping F.Call e = absurd (true≢false (sym e))
+alike-is F.Call F.Reference e = absurd (true≢false (sym e))
+alike-is F.Call F.Remapping e = absurd (true≢false (sym e))
+alike-is F.Call F.Call e = refl

@@ -1,39 +1,39 @@
--- What checks 10 to 13 leave when they pass; where the bodies stand, by a header and by its file, and that every place is inside the file.
+-- What checks 10 to 13 leave when they pass; files that are alike in a record; the limits of a header.
 -- Assumes nothing.
-use mathlib.Core.Path.{◌≡◌, sym, ap, ap₂, ◌∙◌}
+use Rattle.std.specs.Prelude.{Ok}
+use mathlib.Core.Path.{◌≡◌, sym, ◌∙◌}
 use mathlib.Core.List.{List}
 use Prim.Native.Nat.{ℕ, ◌+◌, ◌*◌, ◌≤◌, ◌<◌}
-use native.Mathlib.Nat.{mul-le-mul, mul-le-mul_right}
+use native.Mathlib.Nat.{mul-le-mul}
 use native.Mathlib.Omega.{arith}
 use lib.Dec.{lit<}
 use lib.ListN.{length, get_or, take, drop}
 use lib.Seq.{get_or-take, get_or-drop}
-use Rattle.refusal.specs.declared.Verdict.TheVariants.{Passed}
 use Rattle.routine.specs.declared.header.Header.{Header}
 use Rattle.routine.specs.Arrays.{array_of}
-use Rattle.routine.specs.Layout.{arrays, vertices, edges, record_at, action_at, edge_at, end_at, header_of, check10, check12, check13}
+use Rattle.routine.specs.Layout.{edges, record_at, end_at, header_of, check10, check12, check13}
 use Rattle.routine.specs.Reader.{form_check, Limits, Laid, Heads}
 use Rattle.refusal.proofs.Checks.{parts}
 
 module _ (file : List ℕ) where
-  pub long_enough : check10 file ≡ Passed → 18 ≤ length file
+  pub long_enough : check10 file ≡ Ok tt → 18 ≤ length file
   unfolding check10
   long_enough e = search parts
 
-  pub few_edges : check12 file ≡ Passed → edges file ≤ 1024
+  pub few_edges : check12 file ≡ Ok tt → edges file ≤ 1024
   unfolding check12
   few_edges e = search parts
 
-  pub in_limits : check12 file ≡ Passed → Limits (header_of file)
+  pub in_limits : check12 file ≡ Ok tt → Limits (header_of file)
   unfolding check12
   in_limits e =
       record { some_array = search parts; few_arrays = search parts; two_vertices = search parts; few_vertices = search parts; few_edges = omega (arith, few_edges e) }
 
-  ends_there : check13 file ≡ Passed → length file ≡ end_at file
+  ends_there : check13 file ≡ Ok tt → length file ≡ end_at file
   unfolding check13
   ends_there e = search parts
 
-  pub laid : form_check file ≡ Passed → Laid file
+  pub laid : form_check file ≡ Ok tt → Laid file
   unfolding form_check
   laid e = record { limits = in_limits (search parts); ends = ends_there (search parts) }
 
@@ -66,17 +66,3 @@ header_limits is = record {
 -- at most 256 vertices of 8 arrays
 pub few_actions : {h : Header} → Limits h → h.vertices * h.arrays ≤ 2048
 few_actions l = mul-le-mul l.few_vertices l.few_arrays
-
-module _ {h : Header} {file : List ℕ} (is : Heads h file) where
-  pub action_place : {v a : ℕ} → v < vertices file → a < arrays file →
-      (18 + 4 * h.arrays + v * h.arrays + a ≡ action_at file a v) × (action_at file a v < length file)
-  action_place {v} {a} in_v in_a =
-      omega (
-        arith,
-        ap (λ (n : ℕ). v * n) is.arrays_are,
-        mul-le-mul_right (arrays file) in_v,
-      )
-
-  pub edge_place : {i : ℕ} → i < edges file →
-      (18 + 4 * h.arrays + h.vertices * h.arrays + 4 * i ≡ edge_at file i) × (edge_at file i + 3 < length file)
-  edge_place in_i = omega (arith, ap₂ ◌*◌ is.vertices_are is.arrays_are)

@@ -1,6 +1,7 @@
 -- A file that passed the checks is well formed: array records and edges within their limits, known actions, rows of one family, edges that
 -- rise; and its call rows hold calls and 00 only, in versions that there are.
 -- Assumes nothing.
+use Rattle.std.specs.Prelude.{Ok, Option}
 use mathlib.Core.Path.{◌≡◌, refl, sym, ap, ap₂, ◌∙◌}
 use mathlib.Core.Bool.{Bool, true, false, not, ◌&&◌, true≢false, false≢true, or-true}
 use mathlib.Core.List.{List}
@@ -13,14 +14,14 @@ use borrow.Author.Tests.{ltb-true, eqb-true, eq-eqb, not-true, not-false}
 use Rattle.routine.specs.declared.action.Access.{Access}
 use Rattle.routine.specs.declared.action.Action.{Action}
 use Rattle.routine.specs.declared.action.Action.TheVariants.{Nothing, Reference, Remap, Unknown}
-use Rattle.refusal.specs.declared.Verdict.TheVariants.{Passed}
+use Rattle.routine.specs.declared.action.Family.{Family}
 use Rattle.routine.specs.Actions.{action_of, is_call, called_version, action, action_byte, is_known, is_known_byte, names_below, family_of, differ, is_entry_or_exit, action_check}
 use Rattle.routine.specs.Arrays.{array_of, array_check}
 use Rattle.routine.specs.Edges.{edge_of, before, rises, edge_check}
 use Rattle.routine.specs.Layout.{arrays, vertices, edges}
 use Rattle.routine.specs.Reader.{ArrayLimits, EdgeLimits, WellFormed, ChecksPassed}
 use Rattle.refusal.proofs.Checks.{parts}
-use Rattle.routine.proofs.Actions.{known_no_call, zero_if_nothing, reference_family, remap_family, call_family}
+use Rattle.routine.proofs.Actions.{known_no_call, zero_if_nothing, reference_family, remap_family, call_family, differ-self}
 use Rattle.words.proofs.Sums.{each_fails}
 
 -- ---- an action byte that passed
@@ -39,7 +40,7 @@ zero_nothing : (file : List ℕ) (a v : ℕ) → action_byte file a v ≡ 0 → 
 unfolding action
 zero_nothing file a v e = ap action_of e
 
-passed_action : (file : List ℕ) (a v : ℕ) → action_check file a v ≡ Passed → PassedAction file a v
+passed_action : (file : List ℕ) (a v : ℕ) → action_check file a v ≡ Ok tt → PassedAction file a v
 unfolding action_check
 passed_action file a v e =
     record {
@@ -84,13 +85,13 @@ module _ {file : List ℕ} (p : ChecksPassed file) where
       (passed_here {v = last} (omega (arith, p.laid.limits)) in_a).zero_there (rw (eq-eqb last last refl, or-true))
 
   -- 19: no row has two families
-  two_families : {v a b f g : ℕ} → v < vertices file → a < arrays file → b < arrays file →
+  two_families : {v a b : ℕ} {f g : Option Family} → v < vertices file → a < arrays file → b < arrays file →
       family_of (action_byte file a v) ≡ f → family_of (action_byte file b v) ≡ g →
-      (f ≡ g → ⊥) → differ f g ≡ true → differ g f ≡ true → ⊥
-  two_families {v} {a} {b} in_v in_a in_b is_f is-g other there back =
+      differ f g ≡ true → differ g f ≡ true → ⊥
+  two_families {v} {a} {b} {f} {g} in_v in_a in_b is_f is-g there back =
       ⊎_elim
       (λ (none : b - a ≡ 0). ⊎_elim
-      (λ (same : b ≡ a). other (sym is_f ∙ ap (λ (c : ℕ). family_of (action_byte file c v)) (sym same) ∙ is-g))
+      (λ (same : b ≡ a). let e : f ≡ g = sym is_f ∙ ap (λ (c : ℕ). family_of (action_byte file c v)) (sym same) ∙ is-g in true≢false (sym there ∙ ap (differ f) (sym e) ∙ differ-self f))
       (λ less. true≢false (sym there ∙ ap₂ differ (sym is_f) (sym is-g) ∙ (passed_here in_v in_a).alike b less))
       (eq-or-lt_of_le {n = b} {m = a} (omega arith)))
       (λ (some : 0 < b - a). true≢false (sym back ∙ ap₂ differ (sym is-g) (sym is_f) ∙ (passed_here in_v in_b).alike a (omega arith)))
@@ -101,7 +102,7 @@ module _ {file : List ℕ} (p : ChecksPassed file) where
       action file a v ≡ Reference r → action file b v ≡ Remap k → ⊥
   unfolding action
   never_both {v} {a} {b} in_v in_a in_b reference remap =
-      two_families in_v in_a in_b (reference_family (action_byte file a v) reference) (remap_family (action_byte file b v) remap) (λ e. omega arith) refl refl
+      two_families in_v in_a in_b (reference_family (action_byte file a v) reference) (remap_family (action_byte file b v) remap) refl refl
 
   -- a row with a call holds calls and 00 only
   pub beside_call : {v a b : ℕ} → v < vertices file → a < arrays file → b < arrays file →
@@ -115,9 +116,9 @@ module _ {file : List ℕ} (p : ChecksPassed file) where
       go : (x : Action) → action_of byte ≡ x → byte ≡ 0
       go Nothing e = eqb-true byte 0 (zero_if_nothing byte e)
       go (Reference r) e =
-          absurd (two_families in_v in_a in_b (reference_family byte e) (call_family (action_byte file b v) call) (λ e. omega arith) refl refl)
+          absurd (two_families in_v in_a in_b (reference_family byte e) (call_family (action_byte file b v) call) refl refl)
       go (Remap k) e =
-          absurd (two_families in_v in_a in_b (remap_family byte e) (call_family (action_byte file b v) call) (λ e. omega arith) refl refl)
+          absurd (two_families in_v in_a in_b (remap_family byte e) (call_family (action_byte file b v) call) refl refl)
       go Unknown e = absurd (action_known in_v in_a none e)
 
   edge_limits : {i : ℕ} → i < edges file → EdgeLimits (edge_of file i) (vertices file)

@@ -1,13 +1,14 @@
 -- Document 01, "Routine file": vertices, one action byte for each array; with the calls and the kill of document 02, requests 3 and 6.
 -- Assumes nothing.
-use Rattle.std.specs.Prelude.{Bool, true, false, not, ◌&&◌, ◌||◌, cond, List, ℕ, ◌+◌, ◌-◌, ◌%◌, eqb, ltb, get_or}
+use Rattle.std.specs.Prelude.{Bool, true, false, not, ◌&&◌, ◌||◌, cond, List, ℕ, ◌+◌, ◌-◌, ◌%◌, eqb, ltb, get_or, Option, Some, None}
 use Rattle.routine.specs.declared.action.Access.TheVariants.{Read, Define, Modify, Kill}
 use Rattle.routine.specs.declared.action.Action.{Action}
 use Rattle.routine.specs.declared.action.Action.TheVariants.{Nothing, Reference, Remap, Unknown}
+use Rattle.routine.specs.declared.action.Family.{Family}
+use Rattle.routine.specs.declared.action.Family.TheVariants as F
 use Rattle.refusal.specs.declared.Refusal.TheVariants.{UnknownAction, VersionTooLarge, ActionAtEntryOrExit, MixedActions}
-use Rattle.refusal.specs.declared.Verdict.{Verdict}
+use Rattle.refusal.specs.Checks.{Verdict, ◌and_then◌, holds, first_failed}
 use Rattle.routine.specs.Arrays.{array_of}
-use Rattle.refusal.specs.Checks.{◌and_then◌, holds, first_failed}
 use Rattle.routine.specs.Layout.{arrays, vertices, entry, exit, action_at, within}
 use Rattle.sets.specs.Sets.{width}
 use Rattle.words.specs.Sums.{any_below}
@@ -85,13 +86,30 @@ is_known_byte b = is_known (action_of b) || is_call b
 abbrev pub names_below : ℕ → ℕ → Bool
 names_below b n = cond (is_call b) (ltb (called_version b) n) (remaps_below (action_of b) n)
 
--- a byte's family: 1 a reference, 2 a remapping, 3 a call; 0 none of them
-abbrev pub family_of : ℕ → ℕ
-family_of b = cond (is_reference (action_of b)) 1 (cond (is_remap (action_of b)) 2 (cond (is_call b) 3 0))
+-- a byte's family, or none
+abbrev pub family_of : ℕ → Option Family
+family_of b =
+    cond (is_reference (action_of b)) (Some F.Reference)
+    (cond (is_remap (action_of b)) (Some F.Remapping)
+    (cond (is_call b) (Some F.Call) None))
+
+-- one family
+abbrev pub alike : Family → Family → Bool
+alike F.Reference F.Reference = true
+alike F.Reference F.Remapping = false
+alike F.Reference F.Call = false
+alike F.Remapping F.Reference = false
+alike F.Remapping F.Remapping = true
+alike F.Remapping F.Call = false
+alike F.Call F.Reference = false
+alike F.Call F.Remapping = false
+alike F.Call F.Call = true
 
 -- two families that differ
-abbrev pub differ : ℕ → ℕ → Bool
-differ f g = not (eqb f 0) && (not (eqb g 0) && not (eqb g f))
+abbrev pub differ : Option Family → Option Family → Bool
+differ None g = false
+differ (Some f) None = false
+differ (Some f) (Some g) = not (alike g f)
 
 -- ---- the faults of the byte of array a at vertex v, each with its number (document 02, requests 2 and 3)
 

@@ -3,8 +3,7 @@
 use Rattle.std.specs.Prelude.{Bool, not, ◌||◌, List, ℕ, ◌+◌, eqb, leb, ltb, get_or, take, drop}
 use Rattle.routine.specs.declared.array.ArrayRecord.{ArrayRecord}
 use Rattle.refusal.specs.declared.Refusal.TheVariants.{WrongArrayByte}
-use Rattle.refusal.specs.declared.Verdict.{Verdict}
-use Rattle.refusal.specs.Checks.{◌and_then◌, holds, first_failed}
+use Rattle.refusal.specs.Checks.{Verdict, ◌and_then◌, holds, first_failed}
 use Rattle.routine.specs.Layout.{arrays, record_at, within}
 use Rattle.sets.specs.Sets.{width}
 

@@ -4,8 +4,7 @@ use Rattle.std.specs.Prelude.{Bool, true, not, ◌&&◌, ◌||◌, List, ℕ, ze
 use Rattle.words.specs.Words.{word}
 use Rattle.routine.specs.declared.edge.Edge.{Edge}
 use Rattle.refusal.specs.declared.Refusal.TheVariants.{WrongEdge}
-use Rattle.refusal.specs.declared.Verdict.{Verdict}
-use Rattle.refusal.specs.Checks.{◌and_then◌, holds, first_failed}
+use Rattle.refusal.specs.Checks.{Verdict, ◌and_then◌, holds, first_failed}
 use Rattle.routine.specs.Layout.{vertices, edges, edge_at}
 
 -- edge i: from, to

@@ -1,10 +1,9 @@
 -- Document 02, request 2, one claim about a whole file: the action byte refused is the first that document 01's test of 15, with the calls of
 -- request 3, finds at fault, and the number is the lowest of the faults that meet in it.
 -- Assumes nothing.
-use Rattle.std.specs.Prelude.{◌≡◌, Bool, ◌||◌, cond, List, ◌↔◌, ℕ, ◌≤◌, ◌<◌, T}
+use Rattle.std.specs.Prelude.{◌≡◌, Bool, ◌||◌, cond, List, ◌↔◌, ℕ, ◌≤◌, ◌<◌, T, Ok, Err}
 use Rattle.refusal.specs.declared.Refusal.{Refusal}
 use Rattle.refusal.specs.declared.Refusal.TheVariants.{UnknownAction, VersionTooLarge, ActionAtEntryOrExit, MixedActions}
-use Rattle.refusal.specs.declared.Verdict.TheVariants.{Passed, Failed}
 use Rattle.refusal.specs.Faults.{FirstFault}
 use Rattle.refusal.specs.Refusals.{refused, outcome_of}
 use Rattle.routine.specs.Actions.{is_unknown, is_too_large, is_at_entry_or_exit, is_mixed_in_row, actions_check}
@@ -40,10 +39,10 @@ pub record NamesLowest (file : List ℕ) (a v : ℕ) (r : Refusal) : Type 0 wher
 -- request 2
 pub record FourFaults (file : List ℕ) : Type 0 where
   -- passed exactly if no byte is at fault
-  pub passed : (actions_check file ≡ Passed) ↔ ((v a : ℕ) → v < vertices file → a < arrays file → T (is_faulty file a v) → ⊥)
+  pub passed : (actions_check file ≡ Ok tt) ↔ ((v a : ℕ) → v < vertices file → a < arrays file → T (is_faulty file a v) → ⊥)
   -- else the first that is, by vertex, then by array, is refused
   pub failed :
-      (r : Refusal) → (actions_check file ≡ Failed r)
+      (r : Refusal) → (actions_check file ≡ Err r)
       ↔ ((v : ℕ) × (a : ℕ) × FirstFault (λ v a. T (is_faulty file a v)) (vertices file) (arrays file) v a × (r ≡ reason_at file a v))
   -- by the lowest number of its faults
   pub lowest : (a v : ℕ) → T (is_faulty file a v) → NamesLowest file a v (reason_at file a v)

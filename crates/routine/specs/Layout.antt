@@ -4,8 +4,7 @@ use Rattle.std.specs.Prelude.{Bool, ◌&&◌, List, ℕ, ◌+◌, ◌-◌, ◌*�
 use Rattle.words.specs.Words.{word}
 use Rattle.routine.specs.declared.header.Header.{Header}
 use Rattle.refusal.specs.declared.Refusal.TheVariants.{TooShort, WrongMark, WrongEdition, CountOutsideLimits, WrongOffset, WrongLength}
-use Rattle.refusal.specs.declared.Verdict.{Verdict}
-use Rattle.refusal.specs.Checks.{◌and_then◌, holds}
+use Rattle.refusal.specs.Checks.{Verdict, ◌and_then◌, holds}
 
 -- ---- contents at byte 6: offset and count, 16 bits each, of arrays, vertices, edges
 

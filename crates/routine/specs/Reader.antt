@@ -1,21 +1,16 @@
 -- The reader's answer, and what a routine that was read has.
 -- Assumes nothing.
-use Rattle.std.specs.Prelude.{◌≡◌, true, List, ℕ, ◌+◌, ◌-◌, ◌≤◌, ◌<◌, length}
+use Rattle.std.specs.Prelude.{◌≡◌, true, List, ℕ, ◌+◌, ◌-◌, ◌≤◌, ◌<◌, length, Result, Ok, Err}
 use Rattle.routine.specs.declared.action.Access.{Access}
 use Rattle.routine.specs.declared.action.Action.TheVariants.{Nothing, Reference, Remap}
 use Rattle.routine.specs.declared.array.ArrayRecord.{ArrayRecord}
 use Rattle.routine.specs.declared.edge.Edge.{Edge}
 use Rattle.routine.specs.declared.header.Header.{Header}
-use Rattle.routine.specs.declared.reader.Answer.{Answer}
-use Rattle.routine.specs.declared.reader.Answer.TheVariants.{Routine, Refused}
 use Rattle.flow.specs.Order.{max_edges}
-use Rattle.refusal.specs.declared.Reply.{Reply}
-use Rattle.refusal.specs.declared.Reply.TheVariants.{Written, Denied}
-use Rattle.refusal.specs.declared.Verdict.{Verdict}
-use Rattle.refusal.specs.declared.Verdict.TheVariants.{Passed, Failed}
+use Rattle.refusal.specs.declared.Refusal.{Refusal}
 use Rattle.routine.specs.Actions.{action, action_check, actions_check}
 use Rattle.routine.specs.Arrays.{array_of, array_check, check14}
-use Rattle.refusal.specs.Checks.{◌and_then◌}
+use Rattle.refusal.specs.Checks.{Verdict, ◌and_then◌}
 use Rattle.routine.specs.Edges.{edge_of, before, edge_check, check16}
 use Rattle.routine.specs.Layout.{arrays, vertices, edges, entry, exit, end_at, header_of, check10, check11, check12, check13}
 use Rattle.sets.specs.Sets.{width}
@@ -35,21 +30,19 @@ unfoldable pub read_check : List ℕ → Verdict
 unfolding form_check body_check
 read_check file = form_check file and_then body_check file
 
+-- what the reader answers: the routine's header, or the refusal
+abbrev pub Answer : Type 0
+Answer = Result Header Refusal
+
 -- a routine where the checks pass, else the refusal
 abbrev pub answered : Verdict → Header → Answer
-answered Passed h = Routine h
-answered (Failed r) h = Refused r
+answered (Ok _) h = Ok h
+answered (Err r) h = Err r
 
 -- the header, or the first refusal
 unfoldable pub read_of : List ℕ → Answer
 unfolding read_check
 read_of file = answered (read_check file) (header_of file)
-
--- a refusal of the reader's, handed on. `plan` and `run` ask for it only where the answer is a refusal; `Written 0` is never an answer of
--- theirs, and stands here so that each case has a value
-abbrev pub denied_of : Answer → Reply
-denied_of (Routine h) = Written 0
-denied_of (Refused r) = Denied r
 
 -- ---- how the code keeps it: what a routine has, and a file that passed
 
@@ -65,6 +58,11 @@ pub record Limits (h : Header) : Type 0 where
 pub record Laid (file : List ℕ) : Type 0 where
   pub limits : Limits (header_of file)
   pub ends : length file ≡ end_at file
+
+-- a laid file: its bytes
+pub record LaidBytes : Type 0 where
+  pub bytes : List ℕ
+  pub laid : Laid bytes
 
 -- what 14 leaves of an array record
 pub record ArrayLimits (r : ArrayRecord) : Type 0 where
@@ -99,9 +97,9 @@ pub record WellFormed (file : List ℕ) : Type 0 where
 -- what checks 10 to 19 leave of a file; it is well formed (`well_formed`)
 pub record ChecksPassed (file : List ℕ) : Type 0 where
   pub laid : Laid file
-  pub arrays_pass : (a : ℕ) → a < arrays file → array_check file a ≡ Passed
-  pub actions_pass : (a v : ℕ) → a < arrays file → v < vertices file → action_check file a v ≡ Passed
-  pub edges_pass : (i : ℕ) → i < edges file → edge_check file i ≡ Passed
+  pub arrays_pass : (a : ℕ) → a < arrays file → array_check file a ≡ Ok tt
+  pub actions_pass : (a v : ℕ) → a < arrays file → v < vertices file → action_check file a v ≡ Ok tt
+  pub edges_pass : (i : ℕ) → i < edges file → edge_check file i ≡ Ok tt
 
 -- a laid file with its own header
 pub record Heads (h : Header) (file : List ℕ) : Type 0 where

@@ -1,19 +1,17 @@
 // Action bytes, one for each vertex and array (document 01, "Routine file"), calls among them (document 02, request 3); checks 15, 17, 18 and
 // 19 (request 2).
-ghost use Rattle.std.specs.Prelude.{◌≡◌, not, ◌&&◌, ◌||◌, ◌<◌, ◌-◌, eqb, length};
+ghost use Rattle.std.specs.Prelude.{◌≡◌, ◌<◌, Some};
 ghost use Rattle.routine.specs.declared.action.Action.TheVariants.{Unknown};
-ghost use Rattle.routine.specs.Actions.{action_of, is_call, called_version, action_byte, action, is_reference, is_remap, row_check, actions_check};
+ghost use Rattle.routine.specs.Actions.{action_of, is_call, called_version, is_reference, is_remap, is_entry_or_exit, differ, row_check, actions_check};
 ghost use Rattle.routine.specs.Faults.{FourFaults};
-ghost use Rattle.routine.specs.Layout.{arrays, vertices, action_at};
-ghost use Rattle.routine.specs.Reader.{Heads, Limits};
+ghost use Rattle.routine.specs.Layout.{vertices};
 ghost use Rattle.routine.specs.Rows.{is_wrong, known_reason, reason_of, family_after};
 
-use crate::array;
-use crate::header::Header;
-use refusal::{Refusal, Verdict};
+use crate::laid::Laid;
+use refusal::Refusal;
 
 // A reference: a read, a define (all of it rewritten, nothing read), a modify (old value needed) or a kill (a define whose new stamp is 0).
-#[derive(Clone, Copy)]
+#[derive(Clone, Copy, Debug, PartialEq, Eq)]
 pub enum Access {
     Read,
     Define,
@@ -22,7 +20,7 @@ pub enum Access {
 }
 
 // What a vertex does with an array.
-#[derive(Clone, Copy)]
+#[derive(Clone, Copy, Debug, PartialEq, Eq)]
 pub enum Action {
     Nothing,
     Reference(Access),
@@ -30,17 +28,18 @@ pub enum Action {
     Unknown,
 }
 
-// The families of actions, of which a row holds one at most; 0 is none.
-const REFERENCE: u8 = 1;
+// The families of actions, of which a row holds one at most.
+#[derive(Clone, Copy, Debug, PartialEq, Eq)]
+pub enum Family {
+    Reference,
+    Remapping,
+    Call,
+}
 
-const REMAPPING: u8 = 2;
+impl From<u8> for Action {
+    ghost from_gives = { λ b x. x ≡ action_of b };
 
-const CALL: u8 = 3;
-
-impl Action {
-    pub fn of(b: u8) -> Action
-        ensures { result ≡ action_of b }
-    {
+    fn from(b: u8) -> Action {
         match b {
             0x00 => Action::Nothing,
             0x10 => Action::Reference(Access::Read),
@@ -51,40 +50,32 @@ impl Action {
             _ => Action::Unknown,
         }
     }
+}
 
+impl Action {
     pub fn is_reference(self) -> bool
         ensures { result ≡ is_reference self }
     {
-        match self {
-            Action::Reference(_) => true,
-            Action::Nothing => false,
-            Action::Remap(_) => false,
-            Action::Unknown => false,
-        }
+        matches!(self, Action::Reference(_))
     }
 
     pub fn is_remap(self) -> bool
         ensures { result ≡ is_remap self }
     {
-        match self {
-            Action::Remap(_) => true,
-            Action::Nothing => false,
-            Action::Reference(_) => false,
-            Action::Unknown => false,
-        }
+        matches!(self, Action::Remap(_))
     }
 
     // Whether the byte b is at fault: `terminal` in the row of the entry or the exit, `family` that of what stands earlier in its row.
-    fn is_wrong(self, b: u8, versions: u8, terminal: bool, family: u8) -> bool
+    fn is_wrong(self, b: u8, versions: u8, terminal: bool, family: Option<Family>) -> bool
         requires { self ≡ action_of b }
         ensures { result ≡ is_wrong b versions terminal family }
     {
         match self {
             Action::Nothing => false,
-            Action::Reference(_) => terminal | is_other(family, REFERENCE),
-            Action::Remap(k) => (k >= versions) | (terminal | is_other(family, REMAPPING)),
+            Action::Reference(_) => terminal | is_other(family, Family::Reference),
+            Action::Remap(k) => (k >= versions) | (terminal | is_other(family, Family::Remapping)),
             Action::Unknown => !is_call(b)
-                | ((called_version(b) >= versions) | (terminal | is_other(family, CALL))),
+                | ((called_version(b) >= versions) | (terminal | is_other(family, Family::Call))),
         }
     }
 
@@ -102,14 +93,14 @@ impl Action {
     }
 
     // The family of a row so far, after an action that is not at fault.
-    fn family_after(self, family: u8) -> u8
+    fn family_after(self, family: Option<Family>) -> Option<Family>
         ensures { result ≡ family_after self family }
     {
         match self {
             Action::Nothing => family,
-            Action::Reference(_) => REFERENCE,
-            Action::Remap(_) => REMAPPING,
-            Action::Unknown => CALL,
+            Action::Reference(_) => Some(Family::Reference),
+            Action::Remap(_) => Some(Family::Remapping),
+            Action::Unknown => Some(Family::Call),
         }
     }
 }
@@ -118,7 +109,7 @@ impl Action {
 pub fn is_call(b: u8) -> bool
     ensures { result ≡ is_call b }
 {
-    ((b >= 0x60) & (b <= 0x7f)) | ((b >= 0xa0) & (b <= 0xdf))
+    matches!(b, 0x60..=0x7f | 0xa0..=0xdf)
 }
 
 // The version k in which it passes the array.
@@ -129,10 +120,10 @@ pub fn called_version(b: u8) -> u8
 }
 
 // Whether what stands earlier in a row is of another family.
-fn is_other(family: u8, own: u8) -> bool
-    ensures { result ≡ (not (eqb family 0) && not (eqb family own)) }
+fn is_other(family: Option<Family>, own: Family) -> bool
+    ensures { result ≡ differ (Some own) family }
 {
-    (family != 0) & (family != own)
+    family.is_some_and(|earlier| earlier != own)
 }
 
 // Why a byte is at fault that document 01 does not know.
@@ -159,84 +150,40 @@ fn known_reason(large: bool, terminal: bool, byte: usize) -> Refusal
     Refusal::MixedActions { byte }
 }
 
-// Where the action byte of array a at vertex v stands.
-fn place(file: &[u8], h: Header, a: usize, v: usize) -> usize
-    requires heads { Heads h file.now }
-    requires v_bound { v < vertices file.now }
-    requires a_bound { a < arrays file.now }
-    ensures value { result ≡ action_at file.now a v }
-    ensures upper_bound { result < length file.now }
-{
-    h.actions_at() + v * h.arrays + a
-}
-
-// The action byte of array a at vertex v.
-fn byte_at(file: &[u8], h: Header, a: usize, v: usize) -> u8
-    requires heads { Heads h file.now }
-    requires v_bound { v < vertices file.now }
-    requires a_bound { a < arrays file.now }
-    ensures { result ≡ action_byte file.now a v }
-{
-    let at = place(file, h, a, v);
-    file[at]
-}
-
-// What vertex v does with array a.
-pub fn at(file: &[u8], h: Header, a: usize, v: usize) -> Action
-    requires heads { Heads h file.now }
-    requires v_bound { v < vertices file.now }
-    requires a_bound { a < arrays file.now }
-    ensures { result ≡ action file.now a v }
-{
-    Action::of(byte_at(file, h, a, v))
-}
-
 // Whether v is the entry or the exit.
-fn is_terminal(h: Header, v: usize) -> bool
-    requires { Limits h }
-    ensures { result ≡ (eqb v 0 || eqb v (h.vertices - 1)) }
+fn is_terminal(laid: &Laid, v: usize) -> bool
+    ensures { result ≡ is_entry_or_exit laid.now.bytes v }
 {
-    (v == 0) | (v == h.vertices - 1)
+    (v == 0) | (v == laid.vertices() - 1)
 }
 
 // The action bytes of vertex v.
-fn check_row(file: &[u8], h: Header, v: usize) -> Verdict
-    requires heads { Heads h file.now }
-    requires v_bound { v < vertices file.now }
-    ensures { result ≡ row_check file.now v }
+fn check_row(laid: &Laid, v: usize) -> Result<(), Refusal>
+    requires { v < vertices laid.now.bytes }
+    ensures { result ≡ row_check laid.now.bytes v }
 {
-    let n = h.arrays;
-    let terminal = is_terminal(h, v);
-    let mut family: u8 = 0;
-    let mut a = 0;
-    while a < n {
-        let b = byte_at(file, h, a, v);
-        let x = Action::of(b);
-        let versions = array::record_of(file, a).versions;
+    let terminal = is_terminal(laid, v);
+    let mut family = None;
+    for a in 0..laid.arrays() {
+        let b = laid.action_byte(a, v);
+        let x = Action::from(b);
+        let versions = laid.array(a).versions;
         let wrong = x.is_wrong(b, versions, terminal, family);
         if wrong {
-            return Verdict::Failed(x.reason(b, versions, terminal, place(file, h, a, v)));
+            return Err(x.reason(b, versions, terminal, laid.action_at(a, v)));
         }
         family = x.family_after(family);
-        a += 1;
     }
-    Verdict::Passed
+    Ok(())
 }
 
 // All action bytes, and what request 2 claims of the answer.
-pub fn check_all(file: &[u8], h: Header) -> Verdict
-    requires { Heads h file.now }
-    ensures value { result ≡ actions_check file.now }
-    ensures four_faults { FourFaults file.now }
+pub fn check_all(laid: &Laid) -> Result<(), Refusal>
+    ensures value { result ≡ actions_check laid.now.bytes }
+    ensures four_faults { FourFaults laid.now.bytes }
 {
-    let n = h.vertices;
-    let mut v = 0;
-    while v < n {
-        let verdict = check_row(file, h, v);
-        if let Verdict::Failed(_) = verdict {
-            return verdict;
-        }
-        v += 1;
+    for v in 0..laid.vertices() {
+        check_row(laid, v)?;
     }
-    Verdict::Passed
+    Ok(())
 }

@@ -1,13 +1,13 @@
 // Array records: kind, number of versions, initial version, zero; check 14 (document 01, "Routine file").
 ghost use Rattle.std.specs.Prelude.{◌≡◌, ◌+◌, ◌*◌, ◌<◌};
-ghost use Rattle.routine.specs.Arrays.{array_record_of, array_of, is_argument, is_in, is_in_or_inout, is_out_or_inout, record_check, array_check, check14};
+ghost use Rattle.routine.specs.Arrays.{array_record_of, is_argument, is_in, is_in_or_inout, is_out_or_inout, record_check, array_check, check14};
 ghost use Rattle.routine.specs.Layout.{arrays};
-ghost use Rattle.routine.specs.Reader.{Laid, Heads};
 
 use crate::header::Header;
-use refusal::{Refusal, Verdict};
+use crate::laid::Laid;
+use refusal::Refusal;
 
-#[derive(Clone, Copy)]
+#[derive(Clone, Copy, Debug, PartialEq, Eq)]
 pub struct ArrayRecord {
     pub kind: u8,
     pub versions: u8,
@@ -72,60 +72,39 @@ impl ArrayRecord {
     }
 
     // The first byte outside its limits, for a record that starts at `at`.
-    fn check(self, at: usize) -> Verdict
+    fn check(self, at: usize) -> Result<(), Refusal>
         requires { at < 100 }
         ensures { result ≡ record_check self at }
     {
         if self.kind > ArrayRecord::INOUT {
-            return Verdict::Failed(Refusal::WrongArrayByte { byte: at });
+            return Err(Refusal::WrongArrayByte { byte: at });
         }
-        if self.versions < ArrayRecord::MIN_VERSIONS {
-            return Verdict::Failed(Refusal::WrongArrayByte { byte: at + 1 });
-        }
-        if self.versions > ArrayRecord::MAX_VERSIONS {
-            return Verdict::Failed(Refusal::WrongArrayByte { byte: at + 1 });
+        if !(ArrayRecord::MIN_VERSIONS..=ArrayRecord::MAX_VERSIONS).contains(&self.versions) {
+            return Err(Refusal::WrongArrayByte { byte: at + 1 });
         }
         if self.initial >= self.versions {
-            return Verdict::Failed(Refusal::WrongArrayByte { byte: at + 2 });
+            return Err(Refusal::WrongArrayByte { byte: at + 2 });
         }
         if self.zero != 0 {
-            return Verdict::Failed(Refusal::WrongArrayByte { byte: at + 3 });
+            return Err(Refusal::WrongArrayByte { byte: at + 3 });
         }
-        Verdict::Passed
+        Ok(())
     }
 }
 
-// The record of array a.
-pub fn record_of(file: &[u8], a: usize) -> ArrayRecord
-    requires laid { Laid file.now }
-    requires a_bound { a < arrays file.now }
-    ensures { result ≡ array_of file.now a }
+fn check(laid: &Laid, a: usize) -> Result<(), Refusal>
+    requires { a < arrays laid.now.bytes }
+    ensures { result ≡ array_check laid.now.bytes a }
 {
-    let at = Header::SIZE + ArrayRecord::SIZE * a;
-    ArrayRecord::from_bytes([file[at], file[at + 1], file[at + 2], file[at + 3]])
-}
-
-fn check(file: &[u8], a: usize) -> Verdict
-    requires laid { Laid file.now }
-    requires a_bound { a < arrays file.now }
-    ensures { result ≡ array_check file.now a }
-{
-    record_of(file, a).check(Header::SIZE + ArrayRecord::SIZE * a)
+    laid.array(a).check(Header::SIZE + ArrayRecord::SIZE * a)
 }
 
 // Check 14.
-pub fn check_all(file: &[u8], h: Header) -> Verdict
-    requires { Heads h file.now }
-    ensures { result ≡ check14 file.now }
+pub fn check_all(laid: &Laid) -> Result<(), Refusal>
+    ensures { result ≡ check14 laid.now.bytes }
 {
-    let n = h.arrays;
-    let mut a = 0;
-    while a < n {
-        let v = check(file, a);
-        if let Verdict::Failed(_) = v {
-            return v;
-        }
-        a += 1;
+    for a in 0..laid.arrays() {
+        check(laid, a)?;
     }
-    Verdict::Passed
+    Ok(())
 }

@@ -7,10 +7,10 @@ ghost use Rattle.routine.specs.Reader.{form_check, Limits};
 
 use crate::array::ArrayRecord;
 use crate::edge::Edge;
-use refusal::{Refusal, Verdict};
+use refusal::Refusal;
 
 // How many arrays, vertices and edges the routine has.
-#[derive(Clone, Copy)]
+#[derive(Clone, Copy, Debug, PartialEq, Eq)]
 pub struct Header {
     pub arrays: usize,
     pub vertices: usize,
@@ -68,78 +68,59 @@ fn is_marked(file: &[u8]) -> bool
     requires { 4 ≤ length file.now }
     ensures { result ≡ marked file.now }
 {
-    let mark = b"HPFR";
-    if file[0] != mark[0] {
-        return false;
-    }
-    if file[1] != mark[1] {
-        return false;
-    }
-    if file[2] != mark[2] {
-        return false;
-    }
-    file[3] == mark[3]
+    file.starts_with(b"HPFR")
 }
 
 // Check 10.
-fn check_mark(file: &[u8]) -> Verdict
+fn check_mark(file: &[u8]) -> Result<(), Refusal>
     ensures { result ≡ check10 file.now }
 {
     let length = file.len();
     if length < Header::SIZE {
-        return Verdict::Failed(Refusal::TooShort { length });
+        return Err(Refusal::TooShort { length });
     }
     let marked = is_marked(file);
     if !marked {
-        return Verdict::Failed(Refusal::WrongMark);
+        return Err(Refusal::WrongMark);
     }
-    Verdict::Passed
+    Ok(())
 }
 
 // Check 11.
-fn check_edition(file: &[u8]) -> Verdict
+fn check_edition(file: &[u8]) -> Result<(), Refusal>
     requires { 18 ≤ length file.now }
     ensures { result ≡ check11 file.now }
 {
     let edition = words::at(file, 4);
     if edition != 1 {
-        return Verdict::Failed(Refusal::WrongEdition);
+        return Err(Refusal::WrongEdition);
     }
-    Verdict::Passed
+    Ok(())
 }
 
 // One count of check 12.
-fn check_count(n: usize, low: usize, high: usize, byte: usize) -> Verdict
+fn check_count(n: usize, low: usize, high: usize, byte: usize) -> Result<(), Refusal>
     ensures { result ≡ holds (within low high n) (CountOutsideLimits byte) }
 {
-    if n < low {
-        return Verdict::Failed(Refusal::CountOutsideLimits { byte });
+    if !(low..=high).contains(&n) {
+        return Err(Refusal::CountOutsideLimits { byte });
     }
-    if n > high {
-        return Verdict::Failed(Refusal::CountOutsideLimits { byte });
-    }
-    Verdict::Passed
+    Ok(())
 }
 
 // Check 12.
-fn check_counts(file: &[u8]) -> Verdict
+fn check_counts(file: &[u8]) -> Result<(), Refusal>
     requires { 18 ≤ length file.now }
     ensures { result ≡ check12 file.now }
 {
     let h = Header::of(file);
-    let arrays = check_count(h.arrays, ArrayRecord::MIN, ArrayRecord::MAX, 8);
-    if let Verdict::Failed(_) = arrays {
-        return arrays;
-    }
-    let vertices = check_count(h.vertices, Header::MIN_VERTICES, Header::MAX_VERTICES, 12);
-    if let Verdict::Failed(_) = vertices {
-        return vertices;
-    }
+    check_count(h.arrays, ArrayRecord::MIN, ArrayRecord::MAX, 8)?;
+    check_count(h.vertices, Header::MIN_VERTICES, Header::MAX_VERTICES, 12)?;
     check_count(h.edges, 0, Header::MAX_EDGES, 16)
 }
 
 // Check 13.
-fn check_layout(file: &[u8]) -> Verdict
+fn check_layout(file: &[u8]) -> Result<(), Refusal>
     requires in_bounds { 18 ≤ length file.now }
     requires limits { Limits (header_of file.now) }
     ensures { result ≡ check13 file.now }
@@ -147,40 +128,31 @@ fn check_layout(file: &[u8]) -> Verdict
     let h = Header::of(file);
     let arrays_offset = words::at(file, 6);
     if arrays_offset != Header::SIZE {
-        return Verdict::Failed(Refusal::WrongOffset { byte: 6 });
+        return Err(Refusal::WrongOffset { byte: 6 });
     }
     let vertices_offset = words::at(file, 10);
     let actions_at = h.actions_at();
     if vertices_offset != actions_at {
-        return Verdict::Failed(Refusal::WrongOffset { byte: 10 });
+        return Err(Refusal::WrongOffset { byte: 10 });
     }
     let edges_offset = words::at(file, 14);
     let edges_at = h.edges_at();
     if edges_offset != edges_at {
-        return Verdict::Failed(Refusal::WrongOffset { byte: 14 });
+        return Err(Refusal::WrongOffset { byte: 14 });
     }
     let end_at = h.end_at();
     if file.len() != end_at {
-        return Verdict::Failed(Refusal::WrongLength);
+        return Err(Refusal::WrongLength);
     }
-    Verdict::Passed
+    Ok(())
 }
 
 // Checks 10 to 13.
-pub fn check_form(file: &[u8]) -> Verdict
+pub fn check_form(file: &[u8]) -> Result<(), Refusal>
     ensures { result ≡ form_check file.now }
 {
-    let mark = check_mark(file);
-    if let Verdict::Failed(_) = mark {
-        return mark;
-    }
-    let edition = check_edition(file);
-    if let Verdict::Failed(_) = edition {
-        return edition;
-    }
-    let counts = check_counts(file);
-    if let Verdict::Failed(_) = counts {
-        return counts;
-    }
+    check_mark(file)?;
+    check_edition(file)?;
+    check_counts(file)?;
     check_layout(file)
 }

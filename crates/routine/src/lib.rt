@@ -6,4 +6,5 @@ pub mod action;
 pub mod array;
 pub mod edge;
 pub mod header;
+pub mod laid;
 pub mod reader;

@@ -1,18 +1,15 @@
 -- What the call `run` answers, and what it leaves in the buffer, for all lists of bytes.
 -- Assumes nothing.
-use Rattle.std.specs.Prelude.{◌≡◌, List, ℕ, leb, length}
+use Rattle.std.specs.Prelude.{◌≡◌, List, ℕ, leb, length, Ok, Err}
 use Rattle.calls.specs.Checks.{calls_check}
 use Rattle.calls.specs.Expanded.{routine_of}
 use Rattle.labels.specs.Checks.{programmer_check}
-use Rattle.refusal.specs.Checks.{◌and_then◌, holds}
+use Rattle.refusal.specs.Checks.{◌and_then◌, holds, Verdict}
 use Rattle.routine.specs.Layout.{edges}
 use Rattle.routine.specs.Reader.{read_check}
-use Rattle.refusal.specs.Replies.{written, filled_by, reply_outcome}
+use Rattle.refusal.specs.Replies.{written, filled_by, reply_outcome, Reply}
 use Rattle.refusal.specs.declared.Outcome.{Outcome}
 use Rattle.refusal.specs.declared.Refusal.TheVariants.{ShortReportBuffer}
-use Rattle.refusal.specs.declared.Reply.{Reply}
-use Rattle.refusal.specs.declared.Reply.TheVariants.{Written, Denied}
-use Rattle.refusal.specs.declared.Verdict.{Verdict}
 use Rattle.demand.specs.Demand.{Demand3}
 use Rattle.path.specs.Passes.{passes_of, Counts}
 use Rattle.path.specs.Paths.{path_check}
@@ -38,13 +35,13 @@ run_of file path size = written (run_check file path size) (report_length (routi
 
 -- where the run is made, demand 3 of the routine that is run; and calls remap back to the versions that the source names before them
 abbrev pub DemandMet : Reply → List ℕ → List ℕ → Type 0
-DemandMet (Written n) file path = Demand3 (routine_of file) path × ReturnsNamed file path
-DemandMet (Denied r) file path = Unit {0}
+DemandMet (Ok n) file path = Demand3 (routine_of file) path × ReturnsNamed file path
+DemandMet (Err r) file path = Unit {0}
 
 -- where the run is made, the counts of the edges of the routine that is run: their total is the path's length less one
 abbrev pub CountsMet : Reply → List ℕ → List ℕ → Type 0
-CountsMet (Written n) file path = Counts (routine_of file) path
-CountsMet (Denied r) file path = Unit {0}
+CountsMet (Ok n) file path = Counts (routine_of file) path
+CountsMet (Err r) file path = Unit {0}
 
 -- the report at the front of the buffer, or the buffer as it was
 abbrev pub run_into : Reply → List ℕ → List ℕ → List ℕ → List ℕ
@@ -74,8 +71,8 @@ runner_check routine path size =
 
 -- where the run is made, how often each edge is passed
 abbrev pub Taken : Reply → List ℕ → List ℕ → List ℕ → Type 0
-Taken (Written n) routine path taken = taken ≡ table (passes_of routine path) (edges routine)
-Taken (Denied r) routine path taken = Unit {0}
+Taken (Ok n) routine path taken = taken ≡ table (passes_of routine path) (edges routine)
+Taken (Err r) routine path taken = Unit {0}
 
 -- the reply and the buffer
 pub record RanRead (routine path before : List ℕ) (reply : Reply) (after : List ℕ) : Type 0 where

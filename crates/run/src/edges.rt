@@ -2,49 +2,42 @@
 ghost use Rattle.std.specs.Prelude.{◌≡◌, length};
 ghost use Rattle.calls.specs.Checks.{calls_check, CallsRead};
 ghost use Rattle.calls.specs.Expanded.{routine_of};
-ghost use Rattle.refusal.specs.declared.Verdict.TheVariants.{Passed};
 ghost use Rattle.routine.specs.Layout.{edges};
 ghost use Rattle.routine.specs.Reader.{read_check};
 
 use calls::scan;
-use routine::header::Header;
+use labels::read::Routine;
 use routine::reader;
-use routine::reader::Answer;
 
 // Those of the routine that a file with calls expands to, which `work` is for; 0 where it is refused.
-fn of_expanded(file: &[u8], h: Header, work: &mut [u8]) -> usize
-    requires calls_read { CallsRead file.now h }
+fn of_expanded(routine: &Routine, work: &mut [u8]) -> usize
+    requires calls_read { CallsRead routine.now.bytes }
     requires work_len { length work.old ≡ 6866 }
-    ensures { calls_check file.now ≡ Passed → result ≡ edges (routine_of file.now) }
+    ensures { calls_check routine.now.bytes ≡ Ok tt → result ≡ edges (routine_of routine.now.bytes) }
 {
-    let expanded = expansion::expand(file, h, work);
-    let answer = expanded.answer;
-    let Answer::Routine(e) = answer else {
-        return 0;
-    };
-    e.edges
+    let expanded = expansion::expand(routine, work);
+    expanded.answer.map_or(0, |e| e.edges)
 }
 
 // The same with bytes for any expanded routine.
-fn of_calls(file: &[u8], h: Header) -> usize
-    requires { CallsRead file.now h }
-    ensures { calls_check file.now ≡ Passed → result ≡ edges (routine_of file.now) }
+fn of_calls(routine: &Routine) -> usize
+    requires { CallsRead routine.now.bytes }
+    ensures { calls_check routine.now.bytes ≡ Ok tt → result ≡ edges (routine_of routine.now.bytes) }
 {
     let mut work = [0u8; 6866];
-    of_expanded(file, h, &mut work)
+    of_expanded(routine, &mut work)
 }
 
 // Those of the routine in `file`, its calls expanded; 0 where it is refused.
 pub fn of(file: &[u8]) -> usize
-    ensures { read_check file.now ≡ Passed → calls_check file.now ≡ Passed → result ≡ edges (routine_of file.now) }
+    ensures { read_check file.now ≡ Ok tt → calls_check file.now ≡ Ok tt → result ≡ edges (routine_of file.now) }
 {
-    let answer = reader::read(file);
-    let Answer::Routine(h) = answer else {
+    let Ok(header) = reader::read(file) else {
         return 0;
     };
-    let calls = scan::any(file, h);
-    if calls {
-        return of_calls(file, h);
+    let routine = Routine::new(file, header);
+    if scan::any(&routine) {
+        return of_calls(&routine);
     }
-    h.edges
+    routine.edges()
 }

@@ -6,7 +6,6 @@
 ghost use Rattle.std.specs.Prelude.{◌≤◌};
 ghost use Rattle.io.specs.Counts.{IsPrefixLen};
 
-use refusal::Reply;
 use run::edges;
 use std::fs::File;
 use std::io;
@@ -34,40 +33,12 @@ fn read_file(rt: &HostRuntime, name: &str, buf: &mut [u8], unopened: &[u8], unre
     }
 }
 
-// An array's entry as a line: copies, live set, current version.
-fn print_entry(rt: &HostRuntime, report: &[u8], at: usize) -> io::Result<()>
-    requires { at ≤ 2000000 }
-{
+// The entries of the arrays, a line for each.
+fn print_entries(rt: &HostRuntime, report: &[u8], arrays: u16) -> io::Result<()> {
     let mut line = [0u8; listing::ROOM];
-    let n = listing::entry(&mut line, report, at);
-    rt.write_all(&line[..n])
-}
-
-// A record as a line: step, array, version, kind, stamp seen, new stamp.
-fn print_record(rt: &HostRuntime, report: &[u8], at: usize) -> io::Result<()>
-    requires { at ≤ 2000000 }
-{
-    let mut line = [0u8; listing::ROOM];
-    let n = listing::record(&mut line, report, at);
-    rt.write_all(&line[..n])
-}
-
-// The count of an edge as a line.
-fn print_count(rt: &HostRuntime, report: &[u8], at: usize) -> io::Result<()>
-    requires { at ≤ 2000000 }
-{
-    let mut line = [0u8; listing::ROOM];
-    let n = listing::count(&mut line, report, at);
-    rt.write_all(&line[..n])
-}
-
-fn print_entries(rt: &HostRuntime, report: &[u8], arrays: u64) -> io::Result<()>
-    requires { arrays ≤ 65535 }
-{
-    let mut a: u64 = 0;
-    while a < arrays {
-        print_entry(rt, report, 8 * (a as usize))?;
-        a += 1;
+    for array in 0..arrays {
+        let n = listing::entry(&mut line, report, 8 * usize::from(array));
+        rt.write_all(&line[..n])?;
     }
     Ok(())
 }
@@ -76,22 +47,22 @@ fn print_entries(rt: &HostRuntime, report: &[u8], arrays: u64) -> io::Result<()>
 fn print_records(rt: &HostRuntime, report: &[u8], from: usize, end: usize) -> io::Result<()>
     requires { end ≤ 1000000 }
 {
-    let mut at = from;
-    while at < end {
-        print_record(rt, report, at)?;
-        at += 10;
+    let mut line = [0u8; listing::ROOM];
+    for at in (from..end).step_by(10) {
+        let n = listing::record(&mut line, report, at);
+        rt.write_all(&line[..n])?;
     }
     Ok(())
 }
 
 // The counts from `from` on, up to the report's end.
-fn print_counts(rt: &HostRuntime, report: &[u8], from: usize, length: usize) -> io::Result<()>
-    requires { length ≤ 1000000 }
+fn print_counts(rt: &HostRuntime, report: &[u8], from: usize, end: usize) -> io::Result<()>
+    requires { end ≤ 1000000 }
 {
-    let mut at = from;
-    while at < length {
-        print_count(rt, report, at)?;
-        at += 2;
+    let mut line = [0u8; listing::ROOM];
+    for at in (from..end).step_by(2) {
+        let n = listing::count(&mut line, report, at);
+        rt.write_all(&line[..n])?;
     }
     Ok(())
 }
@@ -101,31 +72,23 @@ fn print_report(rt: &HostRuntime, file: &[u8], report: &[u8], length: usize) -> 
     print_entries(rt, report, arrays)?;
     // No report is longer than its buffer, or shorter than its counts; the loops' numbers ask for bounds.
     let n = edges::of(file);
-    if length > REPORT {
-        return Ok(());
-    }
-    if n > length / 2 {
+    if length > REPORT || n > length / 2 {
         return Ok(());
     }
     let counts = length - 2 * n;
-    print_records(rt, report, 8 * (arrays as usize), counts)?;
+    print_records(rt, report, 8 * usize::from(arrays), counts)?;
     print_counts(rt, report, counts, length)
 }
 
-// A refusal, on standard error and then on standard output.
-fn print_refusal(rt: &HostRuntime, reply: Reply) -> io::Result<()> {
-    let mut line = [0u8; streams::ROOM];
-    let told = streams::put_refusal(&mut line, b"runner: refused ", reply);
-    let _ = rt.stderr().write_all(&line[..told]);
-    let n = listing::outcome(&mut line, reply);
-    rt.write_all(&line[..n])
-}
-
 fn print_run(rt: &HostRuntime, file: &[u8], path: &[u8], report: &mut [u8]) -> io::Result<()> {
-    let reply = run::run(file, path, report);
-    match reply {
-        Reply::Written(length) => print_report(rt, file, report, length),
-        Reply::Denied(_) => print_refusal(rt, reply),
+    match run::run(file, path, report) {
+        Ok(length) => print_report(rt, file, report, length),
+        Err(refusal) => streams::print_refusal(
+            &mut rt.stdout(),
+            &mut rt.stderr(),
+            b"runner: refused ",
+            refusal,
+        ),
     }
 }
 

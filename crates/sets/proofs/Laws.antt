@@ -192,6 +192,19 @@ same_members (suc w) a b ha hb e =
     digit : (x y : ℕ) → x < 2 → y < 2 → eqb x 1 ≡ eqb y 1 → x ≡ y
     digit = by_digits (λ x y. eqb x 1 ≡ eqb y 1 → x ≡ y) (λ h. refl) (λ h. absurd (true≢false (sym h))) (λ h. absurd (true≢false h)) (λ h. refl)
 
+-- a mask is below a power of two
+pub under_power : (m : ℕ) → m < 2 ^ m
+under_power zero = omega arith
+under_power (suc m) = omega (arith, pow-suc 2 m, under_power m)
+
+-- what stays where all but b goes is what both have
+pub minus_minus : (a b : ℕ) → minus a (minus a b) ≡ bit_and a b
+unfolding minus has
+minus_minus a b =
+    same_members a (minus a (minus a b)) (bit_and a b) (omega (arith, under_power a)) (omega (arith, under_power a, and_le_l a b))
+    (λ k _. ap (λ (x : ℕ). eqb x 1)
+    (let e : bit (minus a (minus a b)) k ≡ bit (bit_and a b) k = omega (arith, bit-minus a (minus a b) k, bit-minus a b k, bit_and_lem a b k, bit_lt a k, bit_lt b k) in e))
+
 -- ---- what the machine's operations give
 
 -- `a & !b` at width w

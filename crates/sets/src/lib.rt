@@ -5,7 +5,7 @@
 
 ghost use Rattle.std.specs.Prelude.{◌≡◌, ◌<◌, ◌^◌};
 ghost use Rattle.std.specs.Int.Count.{count_trailing_zeros};
-ghost use Rattle.sets.specs.Sets.{width, low_half, high_half, of_halves, has, minus, several};
+ghost use Rattle.sets.specs.Sets.{width, low_half, high_half, of_halves, has, several};
 
 // A version set.
 pub type Set = u32;
@@ -57,20 +57,6 @@ pub fn single(k: u8) -> Set
     ensures { result ≡ 2 ^ k }
 {
     1 << k
-}
-
-// What is in the first set and not in the second.
-pub fn difference(a: Set, b: Set) -> Set
-    ensures { result ≡ minus a b }
-{
-    a & !b
-}
-
-// The same of halves.
-pub fn half_difference(a: Half, b: Half) -> Half
-    ensures { result ≡ minus a b }
-{
-    a & !b
 }
 
 // Whether two different versions are in the set.

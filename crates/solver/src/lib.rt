@@ -32,17 +32,6 @@ pub struct Progress {
     pub altered: bool,
 }
 
-// The edge that a round takes as its j-th.
-fn edge_at(order: &[u16], along: bool, j: usize) -> usize
-    requires { j < length order.now }
-    ensures { result ≡ turn order.now along j }
-{
-    if along {
-        return order[order.len() - 1 - j] as usize;
-    }
-    order[j] as usize
-}
-
 // Where block b begins, or where the turns end.
 fn start(count: usize, b: usize) -> usize
     requires { b ≤ 64 }
@@ -102,7 +91,7 @@ fn mark_all(edges: &[u8], order: &[u16], along: bool, marks: &mut [u64])
     ensures { Marked edges.now order.now along marks.new }
 {
     for j in 0..order.len() {
-        let v = flow::far_end(edges, along, edge_at(order, along, j));
+        let v = flow::far_end(edges, along, flow::edge_at(order, along, j));
         mark(marks, v, j / BLOCK);
     }
 }
@@ -136,7 +125,7 @@ fn take(
         sets.old p sets.new result.progress }
     ensures recent_2 { Recent sets.new result.last }
 {
-    let i = edge_at(order, along, j);
+    let i = flow::edge_at(order, along, j);
     let before = flow::unnoted(last);
     let next = flow::relax(edges, along, gives, passes, sets, i, before);
     let note = next.note;
@@ -217,6 +206,7 @@ fn round(
         altered: false,
     };
     let mut b = next_pending(pending, 0);
+    // no `for`: a block that is taken may add to those that are pending
     while b < BLOCKS {
         let q = take_block(edges, order, along, gives, passes, sets, marks, b, p);
         p = q;
@@ -299,13 +289,11 @@ pub fn solve(
         edges.now order.now along gives.now passes.now (row_count sets.old)
         result sets.new }
 {
-    flow::clear(sets);
-    let mut r: usize = 0;
-    while r < WHOLE {
+    sets.fill(0);
+    for r in 0..WHOLE {
         if !flow::round(edges, order, along, gives, passes, sets) {
             return r + 1;
         }
-        r += 1;
     }
-    go_on_marked(edges, order, along, gives, passes, sets, r)
+    go_on_marked(edges, order, along, gives, passes, sets, WHOLE)
 }

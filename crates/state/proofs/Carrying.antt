@@ -6,7 +6,7 @@ use mathlib.Core.List.{List}
 use mathlib.Core.Logic.{inl}
 use Prim.Native.Nat.{ℕ, ◌+◌, ◌*◌, ◌<◌, ◌^◌}
 use native.Mathlib.Omega.{arith}
-use lib.Bits.{bit_or}
+use lib.Bits.{bit_and, bit_or}
 use borrow.Author.Tests.{eqb-true, eqb-false, eq-eqb, ne_eqb, not-false}
 use lib.Dec.{T, eqb}
 use lib.ListN.{length, get_or, set, replicate, length-set}
@@ -20,7 +20,7 @@ use Rattle.routine.specs.declared.action.Action.{Action}
 use Rattle.routine.specs.declared.action.Action.TheVariants.{Nothing, Reference, Remap, Unknown}
 use Rattle.routine.specs.declared.array.ArrayRecord.{ArrayRecord}
 use Rattle.sets.specs.Sets.{width, has, minus}
-use Rattle.sets.proofs.Laws.{has_or, has-minus, has_with, has_single, has_zero, has-cond}
+use Rattle.sets.proofs.Laws.{has_or, has-minus, has_with, has_single, has_zero, has-cond, minus_minus}
 use Rattle.words.specs.Tables.{table}
 use Rattle.words.proofs.Tables.{zeros_at, table-length, table_at}
 use Rattle.words.proofs.Tests.{at_cond, by_test, and_right, or_cases}
@@ -167,10 +167,10 @@ module _ (u : Use) (t held : ℕ) (c : Carried) where
   unfolding shifted
   shifted_is takes copied n e f g = simp (e, g, f)
 
-pub cleaned_is : (keep : ℕ) (c : Carried) {current dead live : ℕ} → current ≡ current_set (bare c) → dead ≡ minus c.live (bit_or keep current) → live ≡ minus c.live dead
-    → ◌≡◌ {A = Carried} (record { current = c.current; live = live; copies = c.copies; stamp = c.stamp }) (cleaned_by keep c)
+pub cleaned_is : (keep : ℕ) (c : Carried) {current : ℕ} → current ≡ current_set (bare c)
+    → ◌≡◌ {A = Carried} (record { current = c.current; live = bit_and c.live (bit_or keep current); copies = c.copies; stamp = c.stamp }) (cleaned_by keep c)
 unfolding cleaned_by
-cleaned_is keep c e f g = rw (g, f, e)
+cleaned_is keep c {current} e = rw (sym (minus_minus c.live (bit_or keep current)), e)
 
 -- ---- a reference
 

@@ -29,7 +29,7 @@ pub struct Carried {
     pub stamp: u16,
 }
 
-// No current copy.
+// No current copy: a number and no `Option`, since the definition of a state, and a byte of the report, have 255 for it.
 const NONE: u8 = 255;
 
 // The table of stamps: a row for each array, an entry for each version.
@@ -198,17 +198,16 @@ impl Carried {
         0
     }
 
-    // The cleaning at a label with this kept set. A dead version's stamp is never used, so none is cleared.
+    // The cleaning at a label with this kept set: what is kept or current stays live. A dead version's stamp is never used, so none is
+    // cleared.
     fn cleaned(self, keep: Set) -> Carried
         requires { Current (bare self) }
         ensures { result ≡ cleaned_by keep self }
     {
         let current = self.current_set();
-        let dead = sets::difference(self.live, keep | current);
-        let live = sets::difference(self.live, dead);
         Carried {
             current: self.current,
-            live,
+            live: self.live & (keep | current),
             copies: self.copies,
             stamp: self.stamp,
         }
@@ -221,7 +220,7 @@ pub fn labelled_by(c: Carried, letter: u8, t: u8, keep: Set, held: u16) -> Carri
     requires sound { Sound c }
     ensures { Labelled (use_of_byte letter) t keep held c result }
 {
-    let u = Use::of_letter(letter);
+    let u = Use::from(letter);
     c.shifted(u, t, held).cleaned(keep)
 }
 

@@ -10,7 +10,9 @@ use Rattle.io.specs.Digits.{hex_digit_ascii}
 use Rattle.words.specs.Tables.{rows}
 use Rattle.words.proofs.Tables.{rows_most}
 use Rattle.words.proofs.Tests.{at_cond}
-use Rattle.text.specs.Text.{decimal_in, decimal, mask, version_text, CHARACTER, VERSION, MASK, column_text, separator, cell}
+use Rattle.text.specs.Text.{decimal_in, decimal, version_text, column_text, separator, cell}
+use Rattle.text.specs.declared.Column.{Column}
+use Rattle.text.specs.declared.Column.TheVariants.{Number, Character, Version, Mask}
 use Rattle.text.proofs.Digits.{mask-length}
 
 decimal_most : (k n : ℕ) → length (decimal_in k n) ≤ k
@@ -31,20 +33,16 @@ version_most : (n : ℕ) → length (version_text n) ≤ 20
 unfolding version_text
 version_most n = at_cond Short (eqb n 255) {x = 45 ∷ []} (λ _. omega arith) (λ _. number_most n)
 
-pub column_most : (form n : ℕ) → length (column_text form n) ≤ 20
-unfolding column_text
-column_most form n =
-    at_cond Short (eqb form CHARACTER) {x = n % 256 ∷ []} (λ _. omega arith) (λ _.
-    at_cond Short (eqb form VERSION) (λ _. version_most n) (λ _.
-    at_cond Short (eqb form MASK) {x = mask n} (λ _. omega (arith, mask-length n)) (λ _. number_most n)))
+pub column_most : (column : Column) → length (column_text column) ≤ 20
+column_most (Number n) = number_most n
+column_most (Character byte) = omega arith
+column_most (Version version) = version_most version
+column_most (Mask mask) = omega (arith, mask-length mask)
 
-pub cell_most : (forms fields : List ℕ) (i : ℕ) → length (cell forms fields i) ≤ 21
-cell_most forms fields i =
-    omega (
-      arith,
-      length-append (column_text (get_or forms i 0) (get_or fields i 0)) (separator i (length fields) ∷ []),
-      column_most (get_or forms i 0) (get_or fields i 0),
-    )
+pub cell_most : (columns : List Column) (i : ℕ) → length (cell columns i) ≤ 21
+cell_most columns i =
+    let column = get_or columns i (Number 0) in
+    omega (arith, length-append (column_text column) (separator i (length columns) ∷ []), column_most column)
 
-pub cells_most : (forms fields : List ℕ) (i : ℕ) → length (rows (cell forms fields) i) ≤ 21 * i
-cells_most forms fields i = rows_most (cell forms fields) 21 (cell_most forms fields) i
+pub cells_most : (columns : List Column) (i : ℕ) → length (rows (cell columns) i) ≤ 21 * i
+cells_most columns i = rows_most (cell columns) 21 (cell_most columns) i

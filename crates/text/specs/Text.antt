@@ -2,6 +2,8 @@
 -- Assumes nothing.
 use Rattle.std.specs.Prelude.{cond, List, [], ◌∷◌, ◌++◌, ℕ, zero, suc, ◌+◌, ◌/◌, ◌%◌, eqb, ltb, length, get_or}
 use Rattle.io.specs.Digits.{hex_digit_ascii, last_digits}
+use Rattle.text.specs.declared.Column.{Column}
+use Rattle.text.specs.declared.Column.TheVariants.{Number, Character, Version, Mask}
 use Rattle.words.specs.Tables.{rows}
 
 -- ---- numbers
@@ -16,34 +18,19 @@ unfoldable pub decimal : ℕ → List ℕ
 decimal n = decimal_in 20 n
 
 -- a mask as eight hexadecimal digits
-unfoldable pub mask : ℕ → List ℕ
-mask n = last_digits 16 8 (n % 4294967296)
+unfoldable pub mask_text : ℕ → List ℕ
+mask_text mask = last_digits 16 8 mask
 
 -- a version; 255 is none, and shown as `-`
 unfoldable pub version_text : ℕ → List ℕ
-version_text n = cond (eqb n 255) (45 ∷ []) (decimal n)
+version_text version = cond (eqb version 255) (45 ∷ []) (decimal version)
 
--- ---- the forms of a column
-
--- a number in decimal
-abbrev pub NUMBER : ℕ
-NUMBER = 0
-
--- a byte as it is
-abbrev pub CHARACTER : ℕ
-CHARACTER = 1
-
--- a version, or `-` for none
-abbrev pub VERSION : ℕ
-VERSION = 2
-
--- eight hexadecimal digits
-abbrev pub MASK : ℕ
-MASK = 3
-
--- a field as its column's form asks; any other form is a number
-unfoldable pub column_text : ℕ → ℕ → List ℕ
-column_text form n = cond (eqb form CHARACTER) (n % 256 ∷ []) (cond (eqb form VERSION) (version_text n) (cond (eqb form MASK) (mask n) (decimal n)))
+-- a column as its variant asks
+abbrev pub column_text : Column → List ℕ
+column_text (Number n) = decimal n
+column_text (Character byte) = byte ∷ []
+column_text (Version version) = version_text version
+column_text (Mask mask) = mask_text mask
 
 -- ---- lines: a space after each column, a line feed after the last
 
@@ -51,10 +38,10 @@ column_text form n = cond (eqb form CHARACTER) (n % 256 ∷ []) (cond (eqb form 
 abbrev pub separator : ℕ → ℕ → ℕ
 separator i n = cond (eqb (i + 1) n) 10 32
 
--- a column and its separator
-abbrev pub cell : List ℕ → List ℕ → ℕ → List ℕ
-cell forms fields i = column_text (get_or forms i 0) (get_or fields i 0) ++ (separator i (length fields) ∷ [])
+-- column i and its separator
+abbrev pub cell : List Column → ℕ → List ℕ
+cell columns i = column_text (get_or columns i (Number 0)) ++ (separator i (length columns) ∷ [])
 
 -- a line of columns
-abbrev pub line : List ℕ → List ℕ → List ℕ
-line forms fields = rows (cell forms fields) (length fields)
+abbrev pub line : List Column → List ℕ
+line columns = rows (cell columns) (length columns)

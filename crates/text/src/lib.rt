@@ -1,19 +1,23 @@
-// Numbers as text, in ASCII, and lines of columns.
+// Numbers as text, in ASCII, and lines of columns. Not by `Display`: the contracts promise each byte, and what `write!` prints has no clause.
 #![tactic(auto)]
 
-ghost use Rattle.std.specs.Prelude.{◌≡◌, cond, [], ◌∷◌, ◌++◌, ◌*◌, ◌%◌, ◌≤◌, length};
+ghost use Rattle.std.specs.Prelude.{◌≡◌, cond, [], ◌∷◌, ◌++◌, ◌*◌, ◌≤◌, length};
 ghost use Rattle.io.specs.Counts.{IsPrefixLen};
-ghost use Rattle.text.specs.Text.{decimal, mask, version_text, column_text, line};
+ghost use Rattle.text.specs.Text.{decimal, mask_text, version_text, column_text, line};
 ghost use Rattle.words.specs.Tables.{wrote};
 
-// The forms of a column.
-pub const NUMBER: u8 = 0;
-
-pub const CHARACTER: u8 = 1;
-
-pub const VERSION: u8 = 2;
-
-pub const MASK: u8 = 3;
+// A column of a line.
+#[derive(Clone, Copy, Debug, PartialEq, Eq)]
+pub enum Column {
+    // In decimal.
+    Number(u64),
+    // The byte itself.
+    Character(u8),
+    // In decimal; 255 is none, and shown as `-`.
+    Version(u8),
+    // Eight hexadecimal digits.
+    Mask(u32),
+}
 
 // A number in decimal.
 fn put_decimal(out: &mut [u8], n: u64) -> usize
@@ -27,13 +31,13 @@ fn put_decimal(out: &mut [u8], n: u64) -> usize
 }
 
 // A mask as eight hexadecimal digits.
-fn put_mask(out: &mut [u8], n: u64) -> usize
+fn put_mask(out: &mut [u8], mask: u32) -> usize
     requires { 20 ≤ length out.old }
-    ensures value { result ≡ length (mask n) }
-    ensures out_after { out.new ≡ wrote out.old (mask n) }
+    ensures value { result ≡ length (mask_text mask) }
+    ensures out_after { out.new ≡ wrote out.old (mask_text mask) }
 {
     let mut digits = [0u8; 16];
-    let k = io::hex(n % 4294967296, 8, &mut digits);
+    let k = io::hex(u64::from(mask), 8, &mut digits);
     words::bytes::copy(&digits[..k], out)
 }
 
@@ -48,28 +52,28 @@ fn put_character(out: &mut [u8], byte: u8) -> usize
 }
 
 // A version; 255 is none.
-fn put_version(out: &mut [u8], n: u64) -> usize
+fn put_version(out: &mut [u8], version: u8) -> usize
     requires { 20 ≤ length out.old }
-    ensures value { result ≡ length (version_text n) }
-    ensures out_after { out.new ≡ wrote out.old (version_text n) }
+    ensures value { result ≡ length (version_text version) }
+    ensures out_after { out.new ≡ wrote out.old (version_text version) }
 {
-    if n == 255 {
+    if version == 255 {
         return put_character(out, b'-');
     }
-    put_decimal(out, n)
+    put_decimal(out, u64::from(version))
 }
 
 // A column, and how many bytes it has.
-fn put_column(out: &mut [u8], form: u8, n: u64) -> usize
+fn put_column(out: &mut [u8], column: Column) -> usize
     requires { 20 ≤ length out.old }
-    ensures value { result ≡ length (column_text form n) }
-    ensures out_after { out.new ≡ wrote out.old (column_text form n) }
+    ensures value { result ≡ length (column_text column) }
+    ensures out_after { out.new ≡ wrote out.old (column_text column) }
 {
-    match form {
-        CHARACTER => put_character(out, (n % 256) as u8),
-        VERSION => put_version(out, n),
-        MASK => put_mask(out, n),
-        _ => put_decimal(out, n),
+    match column {
+        Column::Number(n) => put_decimal(out, n),
+        Column::Character(byte) => put_character(out, byte),
+        Column::Version(version) => put_version(out, version),
+        Column::Mask(mask) => put_mask(out, mask),
     }
 }
 
@@ -84,31 +88,26 @@ fn separator_after(last: bool) -> u8
 }
 
 // A column and its separator.
-fn put_cell(out: &mut [u8], form: u8, n: u64, last: bool) -> usize
+fn put_cell(out: &mut [u8], column: Column, last: bool) -> usize
     requires { 21 ≤ length out.old }
-    ensures value { result ≡ length (column_text form n ++ (cond last 10 32 ∷ [])) }
-    ensures out_after { out.new ≡ wrote out.old (column_text form n ++ (cond last 10 32 ∷ [])) }
+    ensures value { result ≡ length (column_text column ++ (cond last 10 32 ∷ [])) }
+    ensures out_after { out.new ≡ wrote out.old (column_text column ++ (cond last 10 32 ∷ [])) }
 {
-    let at = put_column(out, form, n);
+    let at = put_column(out, column);
     out[at] = separator_after(last);
     at + 1
 }
 
 // A line of columns at the front of what is lent, and how many bytes it has.
-pub fn line(out: &mut [u8], forms: &[u8], fields: &[u64]) -> usize
-    requires forms_len { length forms.now ≡ length fields.now }
-    requires fields_in_bounds { 21 * length fields.now ≤ length out.old }
+pub fn line(out: &mut [u8], columns: &[Column]) -> usize
+    requires { 21 * length columns.now ≤ length out.old }
     ensures prefix_len { IsPrefixLen result out.new }
-    ensures value { result ≡ length (line forms.now fields.now) }
-    ensures out_after { out.new ≡ wrote out.old (line forms.now fields.now) }
+    ensures value { result ≡ length (line columns.now) }
+    ensures out_after { out.new ≡ wrote out.old (line columns.now) }
 {
-    let n = fields.len();
     let mut at = 0;
-    let mut i = 0;
-    while i < n {
-        let last = i + 1 == n;
-        at += put_cell(&mut out[at..], forms[i], fields[i], last);
-        i += 1;
+    for (i, column) in columns.iter().enumerate() {
+        at += put_cell(&mut out[at..], *column, i + 1 == columns.len());
     }
     at
 }

@@ -1,5 +1,6 @@
 -- Following the path: what has been written, and how the arrays stand, after the first i vertices.
 -- Assumes nothing.
+use Rattle.std.specs.Prelude.{Ok}
 use mathlib.Core.Path.{◌≡◌, refl, sym, ap, ap₂, subst, ◌∙◌}
 use mathlib.Core.Bool.{Bool}
 use mathlib.Core.List.{List, ◌++◌}
@@ -23,7 +24,6 @@ use Rattle.routine.specs.Reader.{WellFormed}
 use Rattle.routine.specs.declared.action.Action.{Action}
 use Rattle.routine.specs.declared.action.Action.TheVariants.{Nothing, Reference, Remap, Unknown}
 use Rattle.routine.specs.declared.array.ArrayRecord.{ArrayRecord}
-use Rattle.refusal.specs.declared.Verdict.TheVariants.{Passed}
 use Rattle.sets.specs.Sets.{width}
 use Rattle.state.specs.Carrying.{carrying, Carries, Visits, row_of, Relabelled}
 use Rattle.state.specs.Cleaning.{callers}
@@ -91,7 +91,7 @@ records_same (Reference x) step a h = ap₂ (λ (v s : ℕ). records_at (Referen
 records_same (Remap t) step a h = refl
 records_same Unknown step a h = refl
 
-module _ (file path : List ℕ) (well : WellFormed file) (accepted : path_check file path ≡ Passed) {i : ℕ} (in_i : i < steps path) (short : steps path ≤ 4096)
+module _ (file path : List ℕ) (well : WellFormed file) (accepted : path_check file path ≡ Ok tt) {i : ℕ} (in_i : i < steps path) (short : steps path ≤ 4096)
     {states : List Carried} {versions stamps others : List ℕ} (held : Held file (λ b. state_after file path b i) (arrays file) states versions stamps others) where
   abbrev v : ℕ
   v = vertex_at path i
@@ -187,7 +187,7 @@ module _ (file path : List ℕ) (well : WellFormed file) (accepted : path_check 
     }
 
 -- the step is made
-module _ (file path : List ℕ) (well : WellFormed file) (accepted : path_check file path ≡ Passed) {old : List ℕ} {at i : ℕ}
+module _ (file path : List ℕ) (well : WellFormed file) (accepted : path_check file path ≡ Ok tt) {old : List ℕ} {at i : ℕ}
     {states : List Carried} {versions stamps others out : List ℕ} (in_i : i < steps path) (short : steps path ≤ 4096) (w : Walking file path old at i states versions stamps others out)
     {bytes : ℕ} {after new : List ℕ} (r : Referred file (vertex_at path i) (i + 1) versions stamps (part_from out at) bytes after new) where
   row_same : row_bytes file (vertex_at path i) (i + 1) versions stamps ≡ step_bytes file path i

@@ -4,12 +4,9 @@
 
 ghost use Rattle.std.specs.Prelude.{◌≡◌, ◌++◌, ℕ, ◌+◌, ◌*◌, ◌≤◌, ◌<◌, length, get_or, replicate};
 ghost use Rattle.labels.specs.Events.{event};
-ghost use Rattle.labels.specs.Routines.{ReadAs};
 ghost use Rattle.passes.specs.Tables.{LettersAndKept};
 ghost use Rattle.routine.specs.Arrays.{array_of};
 ghost use Rattle.routine.specs.Layout.{arrays, vertices, edges};
-ghost use Rattle.routine.specs.Reader.{WellFormed};
-ghost use Rattle.refusal.specs.declared.Verdict.TheVariants.{Passed};
 ghost use Rattle.sets.specs.Sets.{width};
 ghost use Rattle.state.specs.Carrying.{carrying, Visits};
 ghost use Rattle.state.specs.Start.{started};
@@ -22,80 +19,65 @@ ghost use Rattle.demand.specs.Run.{state_after, run_records};
 ghost use Rattle.walk.specs.Walks.{Held, Reported, row_bytes, Referred, OneSort, Unlabelled, Labels, RelabelledAt};
 ghost use Rattle.words.specs.Tables.{table, replaced, wrote};
 
-use labels::event;
+use labels::read::Routine;
 use report::record::Record;
 use routine::array::ArrayRecord;
-use routine::header::Header;
-use routine::{action, array};
 use sets::{Set, WIDTH};
 use state::Carried;
 
 // How many references the path meets.
-fn references_on(file: &[u8], path: &[u8], counts: &[u8]) -> usize
-    requires well_formed { WellFormed file.now }
-    requires counts_value { counts.now ≡ table (references_at file.now) (vertices file.now) }
-    requires path_value { path_check file.now path.now ≡ Passed }
-    ensures value { result ≡ references_on file.now path.now (steps path.now) }
+fn references_on(routine: &Routine, path: &[u8], counts: &[u8]) -> usize
+    requires references_counted { counts.now ≡ table (references_at routine.now.bytes) (vertices routine.now.bytes) }
+    requires path_checked { path_check routine.now.bytes path.now ≡ Ok tt }
+    ensures value { result ≡ references_on routine.now.bytes path.now (steps path.now) }
     ensures upper_bound { result ≤ 32768 }
 {
-    let n = path::count(path);
     let mut count = 0;
-    let mut i = 0;
-    while i < n {
+    for i in 0..path::count(path) {
         count += counts[path::vertex(path, i)] as usize;
-        i += 1;
     }
     count
 }
 
 // The length of the report. `counts` is a work slice of one entry for each vertex.
-pub fn length(file: &[u8], h: Header, path: &[u8], counts: &mut [u8]) -> usize
-    requires read_as { ReadAs file.now h }
-    requires path_value { path_check file.now path.now ≡ Passed }
-    requires counts_len { length counts.old ≡ vertices file.now }
-    ensures { result ≡ report_length file.now path.now }
+pub fn length(routine: &Routine, path: &[u8], counts: &mut [u8]) -> usize
+    requires path_checked { path_check routine.now.bytes path.now ≡ Ok tt }
+    requires counts_len { length counts.old ≡ vertices routine.now.bytes }
+    ensures { result ≡ report_length routine.now.bytes path.now }
 {
-    report::fill(file, h, counts);
-    let records = Record::SIZE * references_on(file, path, counts);
-    report::ENTRY * h.arrays + records + report::COUNT * h.edges
+    report::fill(routine, counts);
+    let records = Record::SIZE * references_on(routine, path, counts);
+    report::ENTRY * routine.arrays() + records + report::COUNT * routine.edges()
 }
 
 // The states before the first step, with the current versions and their stamps. In the table beside them every stamp is 0.
 fn start_all(
-    file: &[u8],
-    h: Header,
+    routine: &Routine,
     versions: &mut [u8; ArrayRecord::MAX],
     stamps: &mut [u16; ArrayRecord::MAX],
 ) -> [Carried; ArrayRecord::MAX]
-    requires read_as { ReadAs file.now h }
     requires versions_len { length versions.old ≡ 8 }
     requires stamps_len { length stamps.old ≡ 8 }
-    ensures { Held file.now (λ a. started (array_of file.now a)) (arrays file.now) result versions.new stamps.new (replicate (8 * width) 0) }
+    ensures { Held routine.now.bytes (λ a. started (array_of routine.now.bytes a)) (arrays routine.now.bytes) result versions.new stamps.new (replicate (8 * width) 0) }
 {
     let none = state::empty(0);
     let mut states = [none; ArrayRecord::MAX];
-    let m = h.arrays;
-    let mut a = 0;
-    while a < m {
-        let s = state::start(array::record_of(file, a));
+    for a in 0..routine.arrays() {
+        let s = state::start(routine.array(a));
         versions[a] = s.current;
         stamps[a] = s.stamp;
         states[a] = s;
-        a += 1;
     }
     states
 }
 
 // Whether the row of vertex v has remappings: the first action that is not 00 tells, since a row has references or remappings, never both.
-fn remaps(file: &[u8], h: Header, v: usize) -> bool
-    requires read_as { ReadAs file.now h }
-    requires v_bound { v < vertices file.now }
-    ensures { OneSort file.now v result }
+fn remaps(routine: &Routine, v: usize) -> bool
+    requires v_bound { v < vertices routine.now.bytes }
+    ensures { OneSort routine.now.bytes v result }
 {
-    let m = h.arrays;
-    let mut a = 0;
-    while a < m {
-        let x = action::at(file, h, a, v);
+    for a in 0..routine.arrays() {
+        let x = routine.action(a, v);
         let reference = x.is_reference();
         if reference {
             return false;
@@ -104,49 +86,42 @@ fn remaps(file: &[u8], h: Header, v: usize) -> bool
         if remap {
             return true;
         }
-        a += 1;
     }
     false
 }
 
 // Whether vertex v may have labels: it is the entry or the exit, or has remappings. Then it has no references, and else no labels.
-fn has_labels(file: &[u8], h: Header, v: usize) -> bool
-    requires read_as { ReadAs file.now h }
-    requires v_bound { v < vertices file.now }
-    ensures { Labels file.now v result }
+fn has_labels(routine: &Routine, v: usize) -> bool
+    requires v_bound { v < vertices routine.now.bytes }
+    ensures { Labels routine.now.bytes v result }
 {
-    let terminal = (v == 0) | (v == h.vertices - 1);
+    let terminal = (v == 0) | (v == routine.vertices() - 1);
     if terminal {
         return true;
     }
-    remaps(file, h, v)
+    remaps(routine, v)
 }
 
 // The references of vertex v, which has no labels: their records, and the stamps of the current copies. Returns the bytes written.
 fn refer(
-    file: &[u8],
-    h: Header,
+    routine: &Routine,
     v: usize,
     step: usize,
     versions: &[u8; ArrayRecord::MAX],
     stamps: &mut [u16; ArrayRecord::MAX],
     out: &mut [u8],
 ) -> usize
-    requires read_as { ReadAs file.now h }
-    requires v_bound { (v < vertices file.now) × (step ≤ 4096) }
-    requires unlabelled { Unlabelled file.now v }
+    requires v_bound { (v < vertices routine.now.bytes) × (step ≤ 4096) }
+    requires unlabelled { Unlabelled routine.now.bytes v }
     requires stamps_len { length stamps.old ≡ 8 }
-    requires stamps_in_bounds { length (row_bytes file.now v step versions.now stamps.old) ≤ length out.old }
-    ensures { Referred file.now v step versions.now stamps.old out.old result stamps.new out.new }
+    requires stamps_in_bounds { length (row_bytes routine.now.bytes v step versions.now stamps.old) ≤ length out.old }
+    ensures { Referred routine.now.bytes v step versions.now stamps.old out.old result stamps.new out.new }
 {
-    let m = h.arrays;
     let mut bytes = 0;
-    let mut a = 0;
-    while a < m {
-        let x = action::at(file, h, a, v);
+    for a in 0..routine.arrays() {
+        let x = routine.action(a, v);
         bytes += report::put(x, step, a, versions[a], stamps[a], &mut out[bytes..]);
         stamps[a] = state::stamp_after(x, step as u16, stamps[a]);
-        a += 1;
     }
     bytes
 }
@@ -160,33 +135,30 @@ struct Row {
 
 // The references of vertex v, if it has no labels.
 fn serve(
-    file: &[u8],
-    h: Header,
+    routine: &Routine,
     v: usize,
     step: usize,
     versions: &[u8; ArrayRecord::MAX],
     stamps: &mut [u16; ArrayRecord::MAX],
     out: &mut [u8],
 ) -> Row
-    requires read_as { ReadAs file.now h }
-    requires v_bound { (v < vertices file.now) × (step ≤ 4096) }
+    requires v_bound { (v < vertices routine.now.bytes) × (step ≤ 4096) }
     requires stamps_len { length stamps.old ≡ 8 }
-    requires stamps_in_bounds { length (row_bytes file.now v step versions.now stamps.old) ≤ length out.old }
-    ensures referred { Referred file.now v step versions.now stamps.old out.old result.bytes stamps.new out.new }
-    ensures labels { Labels file.now v result.labels }
+    requires stamps_in_bounds { length (row_bytes routine.now.bytes v step versions.now stamps.old) ≤ length out.old }
+    ensures referred { Referred routine.now.bytes v step versions.now stamps.old out.old result.bytes stamps.new out.new }
+    ensures labels { Labels routine.now.bytes v result.labels }
 {
-    let labels = has_labels(file, h, v);
+    let labels = has_labels(routine, v);
     if labels {
         return Row { bytes: 0, labels };
     }
-    let bytes = refer(file, h, v, step, versions, stamps, out);
+    let bytes = refer(routine, v, step, versions, stamps, out);
     Row { bytes, labels }
 }
 
 // One array's state after its label at vertex v, if it has one, and the exit.
 fn relabel(
-    file: &[u8],
-    h: Header,
+    routine: &Routine,
     letters: &[u8],
     kept: &[Set],
     a: usize,
@@ -194,19 +166,18 @@ fn relabel(
     c: Carried,
     others: &mut [u16; state::STAMPS],
 ) -> Carried
-    requires read_as { ReadAs file.now h }
-    requires a_bound { (a < arrays file.now) × (v < vertices file.now) }
-    requires letters_and_kept { LettersAndKept file.now letters.now kept.now }
+    requires a_bound { (a < arrays routine.now.bytes) × (v < vertices routine.now.bytes) }
+    requires letters_and_kept { LettersAndKept routine.now.bytes letters.now kept.now }
     requires others_len { length others.old ≡ 8 * width }
-    requires visits { Visits (event file.now a v) c }
-    ensures { RelabelledAt file.now a v c others.old result others.new }
+    requires visits { Visits (event routine.now.bytes a v) c }
+    ensures { RelabelledAt routine.now.bytes a v c others.old result others.new }
 {
-    let r = array::record_of(file, a);
-    let x = event::at(file, h, r, a, v);
+    let r = routine.array(a);
+    let x = routine.event(a, v);
     let place = flow::COLUMNS * v + a;
     let labelled = state::relabelled(c, others, a, x, letters[place], kept[place]);
     let own = WIDTH * a + r.initial as usize;
-    state::leave(labelled, r, others[own], v == h.vertices - 1)
+    state::leave(labelled, r, others[own], v == routine.vertices() - 1)
 }
 
 // The states with the stamps of their current copies in them.
@@ -219,55 +190,47 @@ fn settle_all(
     ensures { result ≡ replaced states 0 (λ b. carrying (get_or stamps b 0) (carried_of states b)) m }
 {
     let mut new = states;
-    let mut a = 0;
-    while a < m {
+    for a in 0..m {
         new[a] = state::with_stamp(new[a], stamps[a]);
-        a += 1;
     }
     new
 }
 
 // Follows the path and writes the records at the front of what is lent; returns the last states.
 fn follow(
-    file: &[u8],
-    h: Header,
+    routine: &Routine,
     path: &[u8],
     letters: &[u8],
     kept: &[Set],
     out: &mut [u8],
 ) -> [Carried; ArrayRecord::MAX]
-    requires read_as { ReadAs file.now h }
-    requires path_value { path_check file.now path.now ≡ Passed }
-    requires letters_and_kept { LettersAndKept file.now letters.now kept.now }
-    requires path_in_bounds { length (records_bytes (run_records file.now path.now)) ≤ length out.old }
-    ensures by_index { (a : ℕ) → a < arrays file.now → Reported (state_after file.now path.now a (steps path.now)) (carried_of result a) }
-    ensures out_after { out.new ≡ wrote out.old (records_bytes (run_records file.now path.now)) }
+    requires path_checked { path_check routine.now.bytes path.now ≡ Ok tt }
+    requires letters_and_kept { LettersAndKept routine.now.bytes letters.now kept.now }
+    requires path_in_bounds { length (records_bytes (run_records routine.now.bytes path.now)) ≤ length out.old }
+    ensures by_index { (a : ℕ) → a < arrays routine.now.bytes → Reported (state_after routine.now.bytes path.now a (steps path.now)) (carried_of result a) }
+    ensures out_after { out.new ≡ wrote out.old (records_bytes (run_records routine.now.bytes path.now)) }
 {
     let mut versions = [0u8; ArrayRecord::MAX];
     let mut stamps = [0u16; ArrayRecord::MAX];
     let mut others = [0u16; state::STAMPS];
-    let mut states = start_all(file, h, &mut versions, &mut stamps);
-    let n = path::count(path);
-    let m = h.arrays;
+    let mut states = start_all(routine, &mut versions, &mut stamps);
+    let m = routine.arrays();
     let mut at = 0;
-    let mut i = 0;
-    while i < n {
+    for i in 0..path::count(path) {
         let v = path::vertex(path, i);
-        let row = serve(file, h, v, i + 1, &versions, &mut stamps, &mut out[at..]);
+        let row = serve(routine, v, i + 1, &versions, &mut stamps, &mut out[at..]);
         at += row.bytes;
-        i += 1;
-        if row.labels {
-            let mut a = 0;
-            while a < m {
-                let s = states[a];
-                let stamp = stamps[a];
-                let c = state::with_stamp(s, stamp);
-                let next = relabel(file, h, letters, kept, a, v, c, &mut others);
-                versions[a] = next.current;
-                stamps[a] = next.stamp;
-                states[a] = next;
-                a += 1;
-            }
+        if !row.labels {
+            continue;
+        }
+        for a in 0..m {
+            let s = states[a];
+            let stamp = stamps[a];
+            let c = state::with_stamp(s, stamp);
+            let next = relabel(routine, letters, kept, a, v, c, &mut others);
+            versions[a] = next.current;
+            stamps[a] = next.stamp;
+            states[a] = next;
         }
     }
     settle_all(states, m, stamps)
@@ -275,8 +238,7 @@ fn follow(
 
 // Writes the records, `records` bytes, and then the counts of the edges at the front of what is lent; returns the last states.
 fn write_behind(
-    file: &[u8],
-    h: Header,
+    routine: &Routine,
     path: &[u8],
     letters: &[u8],
     kept: &[Set],
@@ -284,23 +246,21 @@ fn write_behind(
     records: usize,
     out: &mut [u8],
 ) -> [Carried; ArrayRecord::MAX]
-    requires read_as { ReadAs file.now h }
-    requires path_value { path_check file.now path.now ≡ Passed }
-    requires letters_and_kept { LettersAndKept file.now letters.now kept.now }
-    requires taken_value { taken.now ≡ table (passes_of file.now path.now) (edges file.now) }
-    requires records_value { records ≡ length (records_bytes (run_records file.now path.now)) }
-    requires file_in_bounds { records + 2 * edges file.now ≤ length out.old }
-    ensures by_index { (a : ℕ) → a < arrays file.now → Reported (state_after file.now path.now a (steps path.now)) (carried_of result a) }
-    ensures out_after { out.new ≡ wrote out.old (records_bytes (run_records file.now path.now) ++ counts file.now path.now) }
+    requires path_checked { path_check routine.now.bytes path.now ≡ Ok tt }
+    requires letters_and_kept { LettersAndKept routine.now.bytes letters.now kept.now }
+    requires passes_counted { taken.now ≡ table (passes_of routine.now.bytes path.now) (edges routine.now.bytes) }
+    requires records_length { records ≡ length (records_bytes (run_records routine.now.bytes path.now)) }
+    requires out_room { records + 2 * edges routine.now.bytes ≤ length out.old }
+    ensures by_index { (a : ℕ) → a < arrays routine.now.bytes → Reported (state_after routine.now.bytes path.now a (steps path.now)) (carried_of result a) }
+    ensures out_after { out.new ≡ wrote out.old (records_bytes (run_records routine.now.bytes path.now) ++ counts routine.now.bytes path.now) }
 {
     report::write_counts(taken, &mut out[records..]);
-    follow(file, h, path, letters, kept, out)
+    follow(routine, path, letters, kept, out)
 }
 
 // Writes the report, `size` bytes. `taken` holds how often each edge is passed.
 pub fn write(
-    file: &[u8],
-    h: Header,
+    routine: &Routine,
     path: &[u8],
     letters: &[u8],
     kept: &[Set],
@@ -308,16 +268,16 @@ pub fn write(
     size: usize,
     out: &mut [u8],
 )
-    requires read_as { ReadAs file.now h }
-    requires path_value { path_check file.now path.now ≡ Passed }
-    requires letters_and_kept { LettersAndKept file.now letters.now kept.now }
-    requires taken_value { taken.now ≡ table (passes_of file.now path.now) (edges file.now) }
-    requires size_value { size ≡ report_length file.now path.now }
-    requires size_in_bounds { size ≤ length out.old }
-    ensures { out.new ≡ wrote out.old (report_bytes file.now path.now) }
+    requires path_checked { path_check routine.now.bytes path.now ≡ Ok tt }
+    requires letters_and_kept { LettersAndKept routine.now.bytes letters.now kept.now }
+    requires passes_counted { taken.now ≡ table (passes_of routine.now.bytes path.now) (edges routine.now.bytes) }
+    requires is_length { size ≡ report_length routine.now.bytes path.now }
+    requires out_room { size ≤ length out.old }
+    ensures { out.new ≡ wrote out.old (report_bytes routine.now.bytes path.now) }
 {
-    let at = report::ENTRY * h.arrays;
-    let records = size - at - report::COUNT * h.edges;
-    let states = write_behind(file, h, path, letters, kept, taken, records, &mut out[at..]);
-    report::write_entries(states, h.arrays, out);
+    let m = routine.arrays();
+    let at = report::ENTRY * m;
+    let records = size - at - report::COUNT * routine.edges();
+    let states = write_behind(routine, path, letters, kept, taken, records, &mut out[at..]);
+    report::write_entries(states, m, out);
 }

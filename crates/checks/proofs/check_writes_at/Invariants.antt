@@ -1,6 +1,5 @@
 -- `check_writes_at` meets its contract: a scan of the arrays.
 use mathlib.Core.Bool.{not}
-use Prim.Native.Nat.{◌-◌}
 use Rattle.labels.specs.Checks.{writes_in}
 use Rattle.refusal.proofs.Checks.{Undecided}
 use Rattle.refusal.specs.Checks.{holds}
@@ -9,7 +8,4 @@ use Rattle.refusal.specs.declared.Refusal.TheVariants.{WritesInArgument}
 use Rattle.checks.proofs.check_writes_at.Given as goal
 
 abbrev pub invariant-loop-a : goal.invariant-loop-a
-invariant-loop-a l = Undecided (λ a'. holds (not (writes_in l.file a' l.v)) (WritesInArgument l.v a')) (arrays l.file) l.a
-
-abbrev pub decreases-loop-a : goal.decreases-loop-a
-decreases-loop-a l = l.m - l.a
+invariant-loop-a l = Undecided (λ a'. holds (not (writes_in l.routine.bytes a' l.v)) (WritesInArgument l.v a')) (arrays l.routine.bytes) l.a

@@ -6,5 +6,5 @@ use Rattle.checks.proofs.check_writes_row.Goals as goal
 
 pub returns : goal.returns
 returns c =
-    row_passes (WritesInArgument c.args.v) c.requires.read_as.well.laid.limits.few_arrays
+    row_passes (WritesInArgument c.args.v) c.args.routine.now.well.laid.limits.few_arrays
     (λ a h. writes_cell c.requires.use_gives c.args.v c.requires.v_bound a h c.requires.in_masks) (sym c.row_writes-any.ensures ∙ c.if-any.false)

@@ -15,26 +15,16 @@ use Rattle.checks.proofs.in_masks.Invariants.{mask}
 pub loop-a-init : goal.loop-a-init
 loop-a-init c = replacing_begin _ _ _ _
 
-pub record_of-requires : goal.record_of-requires
-record_of-requires c =
-    record {
-      laid = c.requires.well.laid;
-      a_bound = omega (arith, c.requires.heads.arrays_are);
-    }
-
-pub bounds-masks-a : goal.bounds-masks-a
-bounds-masks-a c = omega (arith, c.requires.well.laid.limits.few_arrays, c.requires.heads.arrays_are)
-
 pub loop-a-preserved : goal.loop-a-preserved
 loop-a-preserved c =
-    replacing_next c.loop-a.invariant (omega (arith, c.requires.heads.arrays_are)) (omega arith)
-    (c.half_if.ensures ∙ ap (λ (b : Bool). cond b 0b1000 0) (c.is_in.ensures ∙ ap (λ (r : ArrayRecord). is_in r.kind) c.record_of.ensures))
+    replacing_next c.loop-a.invariant (omega (arith, c.arrays-a-end.ensures)) (omega arith)
+    (c.only_if.ensures ∙ ap (λ (b : Bool). cond b 0b1000 0) (c.is_in.ensures ∙ ap (λ (r : ArrayRecord). is_in r.kind) c.array.ensures))
 
 pub returns : goal.returns
 returns c =
-    let file = c.args.file.now in
-    let is = replacing_end c.loop-a.invariant (omega (arith, c.requires.heads.arrays_are)) in
+    let file = c.args.routine.now.bytes in
+    let is = replacing_end c.loop-a.invariant (omega (arith, c.arrays-a-end.ensures)) in
     record {
       size = c.loop-a.invariant.sized;
-      are = λ a h. ap (λ (t : List ℕ). get_or t a 0) is ∙ replaced_at _ 0 (mask file) 0 (arrays file) a (omega arith) h (omega (arith, c.requires.well.laid.limits.few_arrays));
+      are = λ a h. ap (λ (t : List ℕ). get_or t a 0) is ∙ replaced_at _ 0 (mask file) 0 (arrays file) a (omega arith) h (omega (arith, c.args.routine.now.well.laid.limits.few_arrays));
     }

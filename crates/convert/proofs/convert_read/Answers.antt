@@ -3,4 +3,4 @@ use Rattle.convert.proofs.Ways.{converts}
 use Rattle.convert.proofs.convert_read.Goals as goal
 
 pub returns : goal.returns
-returns c = converts c.args.file.now c.args.out.now c.requires.directives_read.passed c.convert_into-reply.ensures c.deliver.ensures.value c.deliver.ensures.out_after
+returns c = converts c.args.directives.now.bytes c.args.out.now c.args.directives.now.passed c.convert_into-reply.ensures c.deliver.ensures.value c.deliver.ensures.out_after

@@ -5,14 +5,12 @@ use Rattle.convert.proofs.number.Goals as goal
 pub order-requires : goal.order-requires
 order-requires c =
     record {
-      directives_read = c.requires.directives_read;
       order_len = c.requires.order_len;
     }
 
 pub solve-requires : goal.solve-requires
 solve-requires c =
     record {
-      directives_read = c.requires.directives_read;
       edge_order = c.order.ensures;
       reached_len = c.requires.reached_len;
       gives_len = c.requires.gives_len;
@@ -22,7 +20,6 @@ solve-requires c =
 pub solve-requires-2 : goal.solve-requires-2
 solve-requires-2 c =
     record {
-      directives_read = c.requires.directives_read;
       edge_order = c.order.ensures;
       reached = c.solve.ensures.reached;
       aligned_len = c.requires.aligned_len;
@@ -33,7 +30,6 @@ solve-requires-2 c =
 pub solve-requires-3 : goal.solve-requires-3
 solve-requires-3 c =
     record {
-      directives_read = c.requires.directives_read;
       edge_order = c.order.ensures;
       reached = c.solve.ensures.reached;
       spreads_len = c.requires.spreads_len;
@@ -46,7 +42,6 @@ solve-requires-3 c =
 pub check-requires : goal.check-requires
 check-requires c =
     record {
-      directives_read = c.requires.directives_read;
       alignments = c.solve-2.ensures.alignments;
       spreads = c.solve-3.ensures;
       given_len = c.solve-3.auto.sets ∙ c.requires.given_len;

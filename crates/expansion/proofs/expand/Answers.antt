@@ -5,9 +5,8 @@ use Rattle.expansion.proofs.expand.Goals as goal
 pub expand_counted-requires : goal.expand_counted-requires
 expand_counted-requires c =
     record {
-      read_as = c.requires.read_as;
       interfaces = c.requires.interfaces;
-      file_bound = c.requires.file_bound;
-      file_in_bounds = omega (arith, c.requires.read_as.well.laid.limits.few_vertices);
+      few_edges = c.requires.few_edges;
+      firsts_room = omega (arith, c.args.routine.now.well.laid.limits.few_vertices);
       out_len = c.requires.out_len;
     }

@@ -1,5 +1,5 @@
 -- `expand_with` meets its contract: 20 and 21, and where both pass the expanded routine.
-use mathlib.Core.Path.{refl, sym}
+use mathlib.Core.Path.{refl, sym, ap, ◌∙◌}
 use mathlib.Core.List.{◌++◌}
 use native.Mathlib.Omega.{arith}
 use lib.ListN.{length, drop}
@@ -9,17 +9,16 @@ use Rattle.expansion.proofs.Ways.{calls_refused, calls_expanded}
 use Rattle.expansion.proofs.expand_with.Goals as goal
 
 pub slice_bounds-judge-end : goal.slice_bounds-judge-end
-slice_bounds-judge-end c = omega (arith, no_shorter c.requires.expandable, c.requires.file_in_bounds)
+slice_bounds-judge-end c = omega (arith, ap length c.bytes-size.ensures, no_shorter c.requires.expandable, c.requires.out_room)
 
 pub slice_bounds-judge-end-2 : goal.slice_bounds-judge-end-2
-slice_bounds-judge-end-2 c = sym (length-take-le (length c.args.file.now) c.args.out.now (omega (arith, no_shorter c.requires.expandable, c.requires.file_in_bounds)))
+slice_bounds-judge-end-2 c = sym (length-take-le (length c.bytes-size.result.now) c.args.out.now (omega (arith, ap length c.bytes-size.ensures, no_shorter c.requires.expandable, c.requires.out_room)))
 
 pub judge-judged-requires : goal.judge-judged-requires
 judge-judged-requires c =
     record {
-      read_as = c.requires.read_as;
       interfaces = c.requires.expandable.interfaces;
-      judged_len = length-take-le (length c.args.file.now) c.args.out.now (omega (arith, no_shorter c.requires.expandable, c.requires.file_in_bounds));
+      judged_len = length-take-le (length c.bytes-size.result.now) c.args.out.now (omega (arith, ap length c.bytes-size.ensures, no_shorter c.requires.expandable, c.requires.out_room)) ∙ ap length c.bytes-size.ensures;
       order_len = c.requires.order_len;
       versions_len = c.requires.versions_len;
       uses_len = c.requires.uses_len;
@@ -29,25 +28,24 @@ judge-judged-requires c =
       halves_len = c.requires.halves_len;
     }
 
-pub returns-in-Failed : goal.returns-in-Failed
-returns-in-Failed c = calls_refused c.args.file.now c.requires.expandable.few_vertices c.judge-judged.ensures c.in-Failed.is refl
+pub returns-in-Err : goal.returns-in-Err
+returns-in-Err c = calls_refused c.args.routine.now.bytes c.requires.expandable.few_vertices c.judge-judged.ensures c.in-Err.is refl
 
 pub write-e-requires : goal.write-e-requires
 write-e-requires c =
     let can = c.requires.expandable in
-    let front = length_front c.args.out.now c.judge-judged.new.judged (length c.args.file.now) c.judge-judged.auto.judged in
+    let front = length_front c.args.out.now c.judge-judged.new.judged (length c.bytes-size.result.now) c.judge-judged.auto.judged in
     record {
-      read_as = c.requires.read_as;
       interfaces = can.interfaces;
       file_bound = can.few_edges;
       file_bound_2 = can.few_vertices;
-      vertices_value = c.requires.count_value;
+      vertices_value = c.requires.vertices_counted;
       firsts = c.requires.firsts;
       arrivals = c.judge-judged.ensures.arrivals_are c.in_default.is;
-      file_in_bounds = omega (arith, c.requires.file_in_bounds, front);
+      file_in_bounds = omega (arith, c.requires.out_room, front);
     }
 
 pub returns : goal.returns
 returns c =
-    calls_expanded c.args.file.now c.requires.expandable.few_vertices c.judge-judged.ensures
-    (c.judge-judged.new.judged ++ drop (length c.args.file.now) c.args.out.now) c.in_default.is c.write-e.ensures.value c.write-e.ensures.out_after
+    calls_expanded c.args.routine.now.bytes c.requires.expandable.few_vertices c.judge-judged.ensures
+    (c.judge-judged.new.judged ++ drop (length c.bytes-size.result.now) c.args.out.now) c.in_default.is c.write-e.ensures.value c.write-e.ensures.out_after

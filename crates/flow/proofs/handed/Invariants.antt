@@ -1,5 +1,5 @@
 -- `flow::handed` meets its contract: a row is filled.
-use Prim.Native.Nat.{◌+◌, ◌-◌, ◌*◌}
+use Prim.Native.Nat.{◌+◌, ◌*◌}
 use lib.Bits.{bit_and, bit_or}
 use lib.ListN.{get_or}
 use Rattle.words.proofs.Filling.{Filling}
@@ -7,6 +7,3 @@ use Rattle.flow.proofs.handed.Given as goal
 
 abbrev pub invariant-loop-a : goal.invariant-loop-a
 invariant-loop-a l = Filling (λ b. bit_or (get_or l.gives (8 * l.u + b) 0) (bit_and (get_or l.held b 0) (get_or l.passes (8 * l.u + b) 0))) 8 l.initial.row l.row l.a
-
-abbrev pub decreases-loop-a : goal.decreases-loop-a
-decreases-loop-a l = 8 - l.a

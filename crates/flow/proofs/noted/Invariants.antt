@@ -1,13 +1,9 @@
 -- `flow::noted` meets its contract: a row is filled.
 use lib.Bits.{bit_or}
 use lib.ListN.{get_or}
-use Prim.Native.Nat.{◌-◌}
 use Rattle.sets.specs.Sets.{minus}
 use Rattle.words.proofs.Filling.{Filling}
 use Rattle.flow.proofs.noted.Given as goal
 
 abbrev pub invariant-loop-a : goal.invariant-loop-a
 invariant-loop-a l = Filling (λ b. bit_or (get_or l.note b 0) (minus (get_or l.brought b 0) (get_or l.held b 0))) 8 l.initial.new l.new l.a
-
-abbrev pub decreases-loop-a : goal.decreases-loop-a
-decreases-loop-a l = 8 - l.a

@@ -18,12 +18,12 @@ returns-then-along c =
     turned
     (λ (b : Bool). swept (relaxed_row a.edges.now b a.gives.now a.passes.now) a.order.now b a.sets.now (length a.order.now))
     c.if-along.true
-    c.fall.ensures
+    c.sweep.ensures
 
-pub returns : goal.returns
-returns c =
+pub returns-else-along : goal.returns-else-along
+returns-else-along c =
     let a = c.args in
     turned
     (λ (b : Bool). swept (relaxed_row a.edges.now b a.gives.now a.passes.now) a.order.now b a.sets.now (length a.order.now))
     c.if-along.false
-    c.rise.ensures
+    c.sweep-else-along.ensures

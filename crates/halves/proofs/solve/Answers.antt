@@ -36,4 +36,4 @@ pub returns : goal.returns
 returns c =
     let rows = ap (λ (x : ℕ). x / 8) (c.solve-low.ensures.size ∙ sym c.requires.tables.whole) in
     solved_wide c.args.sets.now c.requires.tables c.requires.are_halves c.requires.sets_len c.requires.order c.take_low-wide.ensures.halves_after c.solve-low.ensures
-    c.put_low.ensures rows c.solve_high-high.ensures.solved c.solve_high-high.ensures.sets_after c.larger.ensures
+    c.put_low.ensures rows c.solve_high-high.ensures.solved c.solve_high-high.ensures.sets_after c.max.ensures

@@ -5,6 +5,3 @@ use Rattle.order.proofs.identity.Given as goal
 
 abbrev pub invariant-loop-j : goal.invariant-loop-j
 invariant-loop-j l = Filling (λ i. i) l.j-end l.initial.t l.t l.j
-
-abbrev pub decreases-loop-j : goal.decreases-loop-j
-decreases-loop-j l = l.j-end - l.j

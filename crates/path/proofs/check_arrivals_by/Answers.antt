@@ -3,7 +3,7 @@ use mathlib.Core.Path.{◌≡◌, sym, ap, ◌∙◌}
 use Prim.Native.Nat.{ℕ, ◌-◌}
 use native.Mathlib.Omega.{arith}
 use lib.ListN.{length, length-replicate}
-use Rattle.refusal.proofs.Checks.{scan_start, scan_stop, scan_next, scan_done}
+use Rattle.refusal.proofs.Checks.{exits, scan_start, scan_exit, scan_next, scan_done}
 use Rattle.routine.specs.Layout.{edges}
 use Rattle.words.specs.Tables.{table}
 use Rattle.words.proofs.Tables.{table-length}
@@ -16,32 +16,30 @@ use Rattle.path.proofs.check_arrivals_by.Goals.{At-loop-i}
 
 -- the counts of all edges
 long : (c : At-loop-i) → length c.loop-i.taken ≡ length c.args.taken.now
-long c = let n = edges c.args.file.now in ap length c.loop-i.invariant.1 ∙ table-length _ n ∙ sym (ap length c.requires.taken_value ∙ length-replicate n 0)
+long c = let n = edges c.args.routine.now.bytes in ap length c.loop-i.invariant.1 ∙ table-length _ n ∙ sym (ap length c.requires.taken_value ∙ length-replicate n 0)
 
 pub loop-i-init : goal.loop-i-init
-loop-i-init c = (scan_start _ _, counts_begin c.args.file.now c.args.path.now c.requires.taken_value)
+loop-i-init c = (scan_start _ _, counts_begin c.args.routine.now.bytes c.args.path.now c.requires.taken_value)
 
-pub pass-verdict-requires : goal.pass-verdict-requires
-pass-verdict-requires c =
+pub pass-requires : goal.pass-requires
+pass-requires c =
     record {
-      read_as = c.requires.read_as;
       starts = c.requires.starts;
       i_bound = (omega (arith, c.requires.path_nonzero), omega (arith, c.requires.path_nonzero));
       taken_value = c.loop-i.invariant.1;
     }
 
-pub returns-in-Failed : goal.returns-in-Failed
-returns-in-Failed c =
-    let e = c.in-Failed.is in
+pub returns-in_err-pass : goal.returns-in_err-pass
+returns-in_err-pass c =
     record {
-      value = scan_stop c.loop-i.invariant.0 (omega arith) c.pass-verdict.ensures.value e ∙ arrivals _ _;
-      taken_after = λ f. absurd (never e f);
+      value = scan_exit c.loop-i.invariant.0 (omega arith) c.pass.ensures.value c.in_err-pass.was c.from_residual.ensures ∙ arrivals _ _;
+      taken_after = λ f. absurd (never (exits c.from_residual.ensures) f);
     }
 
 pub loop-i-preserved : goal.loop-i-preserved
 loop-i-preserved c =
-    let e = c.in_default.is in
-    (scan_next c.loop-i.invariant.0 (omega arith) c.pass-verdict.ensures.value e, c.pass-verdict.ensures.taken_after e)
+    let e = c.in_ok-pass.was in
+    (scan_next c.loop-i.invariant.0 (omega arith) c.pass.ensures.value e, c.pass.ensures.taken_after e)
 
 pub shape_of-taken : goal.shape_of-taken
 shape_of-taken c = long (goal.at.shape_of-taken c).At-loop-i
@@ -51,5 +49,5 @@ returns c =
     let done : c.loop-i.i ≡ steps c.args.path.now - 1 = omega (arith, c.loop-i.invariant.0.within, c.loop-i-test.false) in
     record {
       value = scan_done c.loop-i.invariant.0 (omega arith) ∙ arrivals _ _;
-      taken_after = λ _. c.loop-i.invariant.1 ∙ ap (λ (i : ℕ). table (passes_up_to c.args.file.now c.args.path.now i) (edges c.args.file.now)) done;
+      taken_after = λ _. c.loop-i.invariant.1 ∙ ap (λ (i : ℕ). table (passes_up_to c.args.routine.now.bytes c.args.path.now i) (edges c.args.routine.now.bytes)) done;
     }

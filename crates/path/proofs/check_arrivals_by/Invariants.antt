@@ -9,7 +9,4 @@ use Rattle.path.specs.Paths.{steps, arrival_check}
 use Rattle.path.proofs.check_arrivals_by.Given as goal
 
 abbrev pub invariant-loop-i : goal.invariant-loop-i
-invariant-loop-i l = Undecided (λ j. arrival_check l.file l.path (j + 1)) (steps l.path - 1) l.i × (l.taken ≡ table (passes_up_to l.file l.path l.i) (edges l.file))
-
-abbrev pub decreases-loop-i : goal.decreases-loop-i
-decreases-loop-i l = l.n - l.i
+invariant-loop-i l = Undecided (λ j. arrival_check l.routine.bytes l.path (j + 1)) (steps l.path - 1) l.i × (l.taken ≡ table (passes_up_to l.routine.bytes l.path l.i) (edges l.routine.bytes))

@@ -1,33 +1,37 @@
 -- `plan` meets its contract: the reader's refusal is handed on, and a routine that was read is planned, or the one that it expands to.
-use mathlib.Core.Path.{◌≡◌, sym, ap, ◌∙◌}
+use Rattle.std.specs.Prelude.{Ok}
+use mathlib.Core.Path.{◌≡◌, sym, ap, subst, ◌∙◌}
+use mathlib.Core.List.{List}
+use Prim.Native.Nat.{ℕ}
 use Rattle.planned.proofs.Ways.{read_denied, plain_planned}
-use Rattle.refusal.specs.declared.Verdict.TheVariants.{Passed}
+use Rattle.planned.specs.Calls.{Planned}
+use Rattle.refusal.proofs.Checks.{exits}
 use Rattle.routine.proofs.Accepted.{accepted, read_passed, read_failed}
-use Rattle.routine.specs.Reader.{read_check, denied_of}
+use Rattle.routine.specs.Reader.{read_check}
 use Rattle.plan.proofs.plan.Goals as goal
-use Rattle.plan.proofs.plan.Goals.{After-any-calls}
+use Rattle.plan.proofs.plan.Goals.{After-new-routine}
 
--- the routine was read
-passed : (c : After-any-calls) → read_check c.args.file.now ≡ Passed
-passed c = read_passed c.args.file.now (sym c.read-answer.ensures ∙ c.in-Routine.is)
+pub returns-in_err-header : goal.returns-in_err-header
+returns-in_err-header c =
+    let e = c.in_err-header.was in
+    read_denied c.args.file.now c.args.out.now (read_failed c.args.file.now (sym c.read.ensures ∙ e)) (exits c.from_residual.ensures)
 
-pub returns-in_default : goal.returns-in_default
-returns-in_default c =
-    let e = c.in_default.is in
-    read_denied c.args.file.now c.args.out.now (read_failed c.args.file.now (sym c.read-answer.ensures ∙ e)) (c.denied.ensures ∙ ap denied_of e)
-
-pub any-calls-requires : goal.any-calls-requires
-any-calls-requires c = (accepted c.args.file.now (sym c.read-answer.ensures ∙ c.in-Routine.is)).1
-
-pub plan_calls-requires : goal.plan_calls-requires
-plan_calls-requires c =
-    let r = accepted c.args.file.now (sym c.read-answer.ensures ∙ c.in-Routine.is) in
-    record { read = record { well = r.0; heads = r.1 }; passed = passed (goal.at.plan_calls-requires c).After-any-calls; some = sym c.any-calls.ensures ∙ c.if-calls.true }
-
-pub plan_read-requires : goal.plan_read-requires
-plan_read-requires c =
-    let r = accepted c.args.file.now (sym c.read-answer.ensures ∙ c.in-Routine.is) in
+pub new-routine-requires : goal.new-routine-requires
+new-routine-requires c =
+    let r = accepted c.args.file.now (sym c.read.ensures ∙ c.in_ok-header.was) in
     record { well = r.0; heads = r.1 }
 
+-- the routine was read
+passed : (c : After-new-routine) → read_check c.new-routine.result.bytes ≡ Ok tt
+passed c = ap read_check c.new-routine.ensures ∙ read_passed c.args.file.now (sym c.read.ensures ∙ c.in_ok-header.was)
+
+pub plan_calls-requires : goal.plan_calls-requires
+plan_calls-requires c = record { passed = passed (goal.at.plan_calls-requires c).After-new-routine; some = sym c.any.ensures ∙ c.if-any.true }
+
+pub returns-then-any : goal.returns-then-any
+returns-then-any c = subst (λ (l : List ℕ). Planned l c.args.out.now c.plan_calls.result c.plan_calls.new.out) c.new-routine.ensures c.plan_calls.ensures
+
 pub returns : goal.returns
-returns c = plain_planned c.args.file.now c.args.out.now (passed (goal.at.returns c).After-any-calls) (sym c.any-calls.ensures ∙ c.if-calls.false) c.plan_read.ensures
+returns c =
+    subst (λ (l : List ℕ). Planned l c.args.out.now c.plan_read.result c.plan_read.new.out) c.new-routine.ensures
+    (plain_planned c.new-routine.result.bytes c.args.out.now (passed (goal.at.returns c).After-new-routine) (sym c.any.ensures ∙ c.if-any.false) c.plan_read.ensures)

@@ -8,7 +8,7 @@ plan_calls_small-requires c =
     record {
       calls_read = c.requires.calls_read;
       firsts = c.fill_firsts-count.ensures.firsts;
-      count_value = c.fill_firsts-count.ensures.value;
+      vertices_counted = c.fill_firsts-count.ensures.value;
       firsts_len = c.fill_firsts-count.auto.firsts ∙ c.requires.firsts_len;
-      count_bound = (omega arith, omega arith);
+      is_small = (omega arith, omega arith);
     }

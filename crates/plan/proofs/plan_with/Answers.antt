@@ -1,14 +1,14 @@
 -- `plan_with` meets its contract: 20 and 21, the reply, and where it is no refusal the kept sets and the plan.
-use mathlib.Core.Path.{◌≡◌, ◌∙◌}
-use Rattle.refusal.specs.declared.Verdict.TheVariants.{Passed}
+use Rattle.std.specs.Prelude.{Ok}
+use mathlib.Core.Path.{◌≡◌, refl, sym, ◌∙◌}
 use Rattle.planned.proofs.Ways.{denied_planned, plan_passed, plan_fits, written_planned}
+use Rattle.refusal.proofs.Checks.{exits}
 use Rattle.plan.proofs.plan_with.Goals as goal
-use Rattle.plan.proofs.plan_with.Goals.{In_default}
+use Rattle.plan.proofs.plan_with.Goals.{In_ok-length}
 
 pub prepare-checked-requires : goal.prepare-checked-requires
 prepare-checked-requires c =
     record {
-      read_as = c.requires.read_as;
       order_len = c.requires.order_len;
       versions_len = c.requires.versions_len;
       uses_len = c.requires.uses_len;
@@ -19,33 +19,31 @@ prepare-checked-requires c =
       halves_len = c.requires.halves_len;
     }
 
-pub reply-reply-requires : goal.reply-reply-requires
-reply-reply-requires c =
+pub reply-requires : goal.reply-requires
+reply-requires c =
     record {
-      read_as = c.requires.read_as;
-      checked_value = c.prepare-checked.ensures.checked.answers;
+      is_checked = c.prepare-checked.ensures.checked.answers;
       versions = c.prepare-checked.ensures.versions;
-      file_in_bounds = c.requires.file_in_bounds;
+      firsts_room = c.requires.firsts_room;
     }
 
-pub returns-in-Denied : goal.returns-in-Denied
-returns-in-Denied c =
-    let a = c.args in
-    denied_planned a.file.now a.out.now c.reply-reply.ensures.answer c.in-Denied.is
+pub returns-in_err-length : goal.returns-in_err-length
+returns-in_err-length c =
+    let refused = exits c.from_residual.ensures in
+    denied_planned c.args.routine.now.bytes c.args.out.now (refused ∙ sym c.in_err-length.was ∙ c.reply.ensures.answer) refused
 
 -- 20 and 21 are passed
-passed : (c : In_default) → c.prepare-checked.result.verdict ≡ Passed
+passed : (c : In_ok-length) → c.prepare-checked.result.verdict ≡ Ok tt
 passed c =
     let a = c.args in
-    c.prepare-checked.ensures.checked.answers ∙ plan_passed a.file.now a.out.now c.reply-reply.ensures.answer c.in_default.is
+    c.prepare-checked.ensures.checked.answers ∙ plan_passed a.routine.now.bytes a.out.now c.reply.ensures.answer c.in_ok-length.was
 
 pub kept-requires : goal.kept-requires
 kept-requires c =
     record {
-      read_as = c.requires.read_as;
       edge_order = c.prepare-checked.ensures.edge_order;
       versions = c.prepare-checked.ensures.versions;
-      letters = c.prepare-checked.ensures.checked.letters_are (passed (goal.at.kept-requires c).In_default);
+      letters = c.prepare-checked.ensures.checked.letters_are (passed (goal.at.kept-requires c).In_ok-length);
       sets_len = c.requires.kept_len;
       gives_len = c.prepare-checked.auto.gives ∙ c.requires.gives_len;
       passes_len = c.prepare-checked.auto.passes ∙ c.requires.passes_len;
@@ -55,14 +53,13 @@ kept-requires c =
 pub write-requires : goal.write-requires
 write-requires c =
     record {
-      read_as = c.requires.read_as;
-      firsts = c.reply-reply.ensures.counts _ c.in_default.is;
+      firsts = c.reply.ensures.counts _ c.in_ok-length.was;
       tabled = record {
         versions_are = c.prepare-checked.ensures.versions;
-        reaching_are = c.prepare-checked.ensures.checked.reaching_are (passed (goal.at.write-requires c).In_default);
-        letters_and_kept = record { letters_are = c.prepare-checked.ensures.checked.letters_are (passed (goal.at.write-requires c).In_default); kept_are = c.kept.ensures.cells };
+        reaching_are = c.prepare-checked.ensures.checked.reaching_are (passed (goal.at.write-requires c).In_ok-length);
+        letters_and_kept = record { letters_are = c.prepare-checked.ensures.checked.letters_are (passed (goal.at.write-requires c).In_ok-length); kept_are = c.kept.ensures.cells };
       };
-      file_in_bounds = plan_fits c.args.file.now c.args.out.now c.reply-reply.ensures.answer c.in_default.is;
+      file_in_bounds = plan_fits c.args.routine.now.bytes c.args.out.now c.reply.ensures.answer c.in_ok-length.was;
     }
 
 pub shape_of-order : goal.shape_of-order
@@ -90,4 +87,4 @@ pub shape_of-halves : goal.shape_of-halves
 shape_of-halves c = c.kept.auto.halves ∙ c.prepare-checked.auto.halves
 
 pub returns : goal.returns
-returns c = written_planned c.args.file.now c.args.out.now c.reply-reply.ensures.answer c.in_default.is c.write.ensures
+returns c = written_planned c.args.routine.now.bytes c.args.out.now (sym c.in_ok-length.was ∙ c.reply.ensures.answer) refl c.write.ensures

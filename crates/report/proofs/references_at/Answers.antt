@@ -16,13 +16,13 @@ loop-a-init c = (omega arith, total_none _)
 -- with the array of this turn
 counted : (c : After-reference_at-count) →
     let a = c.args in
-    c.loop-a.count + c.reference_at-count.result ≡ count_of (λ b. is_reference (event a.file.now b a.v)) (c.loop-a.a + 1)
+    c.loop-a.count + c.reference_at-count.result ≡ count_of (λ b. is_reference (event a.routine.now.bytes b a.v)) (c.loop-a.a + 1)
 counted c = total_more _ _ c.loop-a.invariant.1 c.reference_at-count.ensures
 
 pub overflow_add-count : goal.overflow_add-count
 overflow_add-count c =
     let a = c.args in
-    omega (arith, counted c, count_few (λ b. is_reference (event a.file.now b a.v)) (c.loop-a.a + 1))
+    omega (arith, counted c, count_few (λ b. is_reference (event a.routine.now.bytes b a.v)) (c.loop-a.a + 1))
 
 pub loop-a-preserved : goal.loop-a-preserved
 loop-a-preserved c = (omega arith, counted c)
@@ -30,9 +30,9 @@ loop-a-preserved c = (omega arith, counted c)
 pub returns : goal.returns
 returns c =
     let a = c.args in
-    let all : c.loop-a.a ≡ arrays a.file.now = omega arith in
-    let e = c.loop-a.invariant.1 ∙ ap (count_of (λ b. is_reference (event a.file.now b a.v))) all in
+    let all : c.loop-a.a ≡ arrays a.routine.now.bytes = omega arith in
+    let e = c.loop-a.invariant.1 ∙ ap (count_of (λ b. is_reference (event a.routine.now.bytes b a.v))) all in
     record {
       value = e;
-      upper_bound = omega (arith, count_few (λ b. is_reference (event a.file.now b a.v)) (arrays a.file.now));
+      upper_bound = omega (arith, count_few (λ b. is_reference (event a.routine.now.bytes b a.v)) (arrays a.routine.now.bytes));
     }

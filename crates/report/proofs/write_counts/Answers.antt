@@ -22,20 +22,24 @@ loop-i-init c =
 pub overflow_mul-at : goal.overflow_mul-at
 overflow_mul-at c = omega (arith, c.requires.counts_len_bound)
 
-pub slice_bounds-write_count-count : goal.slice_bounds-write_count-count
-slice_bounds-write_count-count c = lies c.loop-i.invariant (here (goal.at.slice_bounds-write_count-count c).At-loop-i) (omega arith)
+pub slice_bounds-write16-count : goal.slice_bounds-write16-count
+slice_bounds-write16-count c = lies c.loop-i.invariant (here (goal.at.slice_bounds-write16-count c).At-loop-i) (omega arith)
 
-pub slice_bounds-write_count-start : goal.slice_bounds-write_count-start
-slice_bounds-write_count-start c = lies c.loop-i.invariant (here (goal.at.slice_bounds-write_count-start c).At-loop-i) (omega arith)
+pub slice_bounds-write16-start : goal.slice_bounds-write16-start
+slice_bounds-write16-start c = lies c.loop-i.invariant (here (goal.at.slice_bounds-write16-start c).At-loop-i) (omega arith)
 
 pub offset_bounds-counts-i : goal.offset_bounds-counts-i
 offset_bounds-counts-i c = omega (arith, c.requires.counts_len_bound)
 
-pub write_count-requires : goal.write_count-requires
-write_count-requires c = lent c.loop-i.invariant (here (goal.at.write_count-requires c).At-loop-i) (omega arith)
+pub write16-requires : goal.write16-requires
+write16-requires c =
+    record {
+      in_bounds = lent c.loop-i.invariant (here (goal.at.write16-requires c).At-loop-i) (omega arith);
+      n_bound = omega (arith, c.type_inv.counts c.loop-i.i);
+    }
 
 pub loop-i-preserved : goal.loop-i-preserved
-loop-i-preserved c = next_row c.loop-i.invariant (here (goal.at.loop-i-preserved c).At-loop-i) (omega arith) {ys = c.write_count.new.out} c.write_count.ensures
+loop-i-preserved c = next_row c.loop-i.invariant (here (goal.at.loop-i-preserved c).At-loop-i) (omega arith) {ys = c.write16.new.out} c.write16.ensures
 
 pub shape_of-out : goal.shape_of-out
 shape_of-out c = buffer_length c.loop-i.invariant

@@ -3,13 +3,12 @@ use mathlib.Core.Path.{◌∙◌}
 use Rattle.rounds.proofs.Ways.{counted_none}
 use Rattle.rounds.proofs.count_with.Goals as goal
 
-pub returns-in-Failed : goal.returns-in-Failed
-returns-in-Failed c = counted_none c.prepare-checked.ensures.checked.answers c.in-Failed.is
+pub returns-in-Err : goal.returns-in-Err
+returns-in-Err c = counted_none c.prepare-checked.ensures.checked.answers c.in-Err.is
 
 pub kept-last-requires : goal.kept-last-requires
 kept-last-requires c =
     record {
-      read_as = c.requires.read_as;
       edge_order = c.prepare-checked.ensures.edge_order;
       versions = c.prepare-checked.ensures.versions;
       letters = c.prepare-checked.ensures.checked.letters_are c.in_default.is;

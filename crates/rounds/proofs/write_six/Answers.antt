@@ -6,21 +6,22 @@ use Rattle.rounds.specs.Calls.{four_bytes}
 use Rattle.words.proofs.Buffers.{Front, starts, lends, more}
 use Rattle.words.specs.Words.{bytes16}
 use Rattle.rounds.proofs.write_six.Goals as goal
-use Rattle.rounds.proofs.write_six.Goals.{After-write_two}
+use Rattle.rounds.proofs.write_six.Goals.{After-write_pair}
 
-pub write_two-requires : goal.write_two-requires
-write_two-requires c =
+pub write_pair-requires : goal.write_pair-requires
+write_pair-requires c =
     record {
-      in_bounds = omega (arith, c.requires.in_bounds);
-      first_bound = c.requires.first_bound;
+      in_bounds = omega (arith, c.requires.out_room);
+      first_bound = c.requires.two_fit.0;
+      second_bound = c.requires.two_fit.1;
     }
 
 -- the first two
-front : (w : After-write_two) → Front w.args.out.now (bytes16 w.args.first ++ bytes16 w.args.arriving) w.write_two.new.out
-front w = record { is = w.write_two.ensures }
+front : (w : After-write_pair) → Front w.args.out.now (bytes16 w.args.first ++ bytes16 w.args.arriving) w.write_pair.new.out
+front w = record { is = w.write_pair.ensures }
 
 pub slice_bounds-write_four-count : goal.slice_bounds-write_four-count
-slice_bounds-write_four-count c = starts (front (goal.at.slice_bounds-write_four-count c).After-write_two) {at = 4} refl (omega (arith, c.requires.in_bounds))
+slice_bounds-write_four-count c = starts (front (goal.at.slice_bounds-write_four-count c).After-write_pair) {at = 4} refl (omega (arith, c.requires.out_room))
 
 pub slice_bounds-write_four-start : goal.slice_bounds-write_four-start
 slice_bounds-write_four-start c = slice_bounds-write_four-count c
@@ -28,11 +29,11 @@ slice_bounds-write_four-start c = slice_bounds-write_four-count c
 pub write_four-requires : goal.write_four-requires
 write_four-requires c =
     record {
-      in_bounds = lends (front (goal.at.write_four-requires c).After-write_two) {at = 4} refl c.requires.in_bounds;
-      letters_bound = c.requires.letters_bound;
+      out_room = lends (front (goal.at.write_four-requires c).After-write_pair) {at = 4} refl c.requires.out_room;
+      four_fit = c.requires.four_fit;
     }
 
 pub returns : goal.returns
 returns c =
     let a = c.args in
-    (more (front (goal.at.returns c).After-write_two) {at = 4} refl (four_bytes a.letters a.reached a.reaching a.kept) c.write_four.ensures).is
+    (more (front (goal.at.returns c).After-write_pair) {at = 4} refl (four_bytes a.letters a.reached a.reaching a.kept) c.write_four.ensures).is

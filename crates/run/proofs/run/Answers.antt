@@ -1,33 +1,37 @@
 -- `run` meets its contract: the reader's refusal is handed on, and a path is run through a routine that was read, or the one that it expands to.
-use mathlib.Core.Path.{◌≡◌, sym, ap, ◌∙◌}
-use Rattle.refusal.specs.declared.Verdict.TheVariants.{Passed}
+use Rattle.std.specs.Prelude.{Ok}
+use mathlib.Core.Path.{◌≡◌, sym, ap, subst, ◌∙◌}
+use mathlib.Core.List.{List}
+use Prim.Native.Nat.{ℕ}
+use Rattle.refusal.proofs.Checks.{exits}
 use Rattle.routine.proofs.Accepted.{accepted, read_passed, read_failed}
-use Rattle.routine.specs.Reader.{read_check, denied_of}
+use Rattle.routine.specs.Reader.{read_check}
 use Rattle.run.proofs.Ways.{read_denied, plain_ran}
+use Rattle.run.specs.Calls.{Ran}
 use Rattle.run.proofs.run.Goals as goal
-use Rattle.run.proofs.run.Goals.{After-any-calls}
+use Rattle.run.proofs.run.Goals.{After-new-routine}
 
--- the routine was read
-passed : (c : After-any-calls) → read_check c.args.file.now ≡ Passed
-passed c = read_passed c.args.file.now (sym c.read-answer.ensures ∙ c.in-Routine.is)
+pub returns-in_err-header : goal.returns-in_err-header
+returns-in_err-header c =
+    let e = c.in_err-header.was in
+    read_denied c.args.file.now c.args.path.now c.args.out.now (read_failed c.args.file.now (sym c.read.ensures ∙ e)) (exits c.from_residual.ensures)
 
-pub returns-in_default : goal.returns-in_default
-returns-in_default c =
-    let e = c.in_default.is in
-    read_denied c.args.file.now c.args.path.now c.args.out.now (read_failed c.args.file.now (sym c.read-answer.ensures ∙ e)) (c.denied.ensures ∙ ap denied_of e)
-
-pub any-calls-requires : goal.any-calls-requires
-any-calls-requires c = (accepted c.args.file.now (sym c.read-answer.ensures ∙ c.in-Routine.is)).1
-
-pub run_calls-requires : goal.run_calls-requires
-run_calls-requires c =
-    let r = accepted c.args.file.now (sym c.read-answer.ensures ∙ c.in-Routine.is) in
-    record { read = record { well = r.0; heads = r.1 }; passed = passed (goal.at.run_calls-requires c).After-any-calls; some = sym c.any-calls.ensures ∙ c.if-calls.true }
-
-pub run_read-requires : goal.run_read-requires
-run_read-requires c =
-    let r = accepted c.args.file.now (sym c.read-answer.ensures ∙ c.in-Routine.is) in
+pub new-routine-requires : goal.new-routine-requires
+new-routine-requires c =
+    let r = accepted c.args.file.now (sym c.read.ensures ∙ c.in_ok-header.was) in
     record { well = r.0; heads = r.1 }
 
+-- the routine was read
+passed : (c : After-new-routine) → read_check c.new-routine.result.bytes ≡ Ok tt
+passed c = ap read_check c.new-routine.ensures ∙ read_passed c.args.file.now (sym c.read.ensures ∙ c.in_ok-header.was)
+
+pub run_calls-requires : goal.run_calls-requires
+run_calls-requires c = record { passed = passed (goal.at.run_calls-requires c).After-new-routine; some = sym c.any.ensures ∙ c.if-any.true }
+
+pub returns-then-any : goal.returns-then-any
+returns-then-any c = subst (λ (l : List ℕ). Ran l c.args.path.now c.args.out.now c.run_calls.result c.run_calls.new.out) c.new-routine.ensures c.run_calls.ensures
+
 pub returns : goal.returns
-returns c = plain_ran c.args.file.now c.args.path.now c.args.out.now (passed (goal.at.returns c).After-any-calls) (sym c.any-calls.ensures ∙ c.if-calls.false) c.run_read.ensures
+returns c =
+    subst (λ (l : List ℕ). Ran l c.args.path.now c.args.out.now c.run_read.result c.run_read.new.out) c.new-routine.ensures
+    (plain_ran c.new-routine.result.bytes c.args.path.now c.args.out.now (passed (goal.at.returns c).After-new-routine) (sym c.any.ensures ∙ c.if-any.false) c.run_read.ensures)

@@ -7,6 +7,6 @@ run_calls_small-requires c =
     record {
       calls_read = c.requires.calls_read;
       firsts = c.fill_firsts-count.ensures.firsts;
-      count_value = c.fill_firsts-count.ensures.value;
-      count_bound = (omega arith, omega arith);
+      vertices_counted = c.fill_firsts-count.ensures.value;
+      is_small = (omega arith, omega arith);
     }

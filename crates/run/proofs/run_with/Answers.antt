@@ -1,16 +1,16 @@
 -- `run_with` meets its contract: 20 and 21, the reply, and where it is no refusal the kept sets, the walk and the report.
+use Rattle.std.specs.Prelude.{Ok}
 use mathlib.Core.Path.{◌≡◌, refl, sym, subst, ◌∙◌}
-use Rattle.refusal.specs.declared.Reply.{Reply}
-use Rattle.refusal.specs.declared.Verdict.TheVariants.{Passed}
+use Rattle.refusal.specs.Replies.{Reply}
 use Rattle.run.proofs.Ways.{denied_ran, run_passed, run_follows, run_size, run_fits, written_ran}
 use Rattle.run.specs.Calls.{Taken}
+use Rattle.refusal.proofs.Checks.{exits}
 use Rattle.run.proofs.run_with.Goals as goal
-use Rattle.run.proofs.run_with.Goals.{In-Written}
+use Rattle.run.proofs.run_with.Goals.{In_ok-size}
 
 pub prepare-checked-requires : goal.prepare-checked-requires
 prepare-checked-requires c =
     record {
-      read_as = c.requires.read_as;
       order_len = c.requires.order_len;
       versions_len = c.requires.versions_len;
       uses_len = c.requires.uses_len;
@@ -21,33 +21,31 @@ prepare-checked-requires c =
       halves_len = c.requires.halves_len;
     }
 
-pub reply-reply-requires : goal.reply-reply-requires
-reply-reply-requires c =
+pub reply-requires : goal.reply-requires
+reply-requires c =
     record {
-      read_as = c.requires.read_as;
-      checked_value = c.prepare-checked.ensures.checked.answers;
+      is_checked = c.prepare-checked.ensures.checked.answers;
       counts_len = c.requires.counts_len;
-      taken_value = c.requires.taken_value;
+      none_taken = c.requires.none_taken;
     }
 
-pub returns-in_default : goal.returns-in_default
-returns-in_default c =
-    let a = c.args in
-    denied_ran a.file.now a.path.now a.out.now c.reply-reply.ensures.value c.in_default.is
+pub returns-in_err-size : goal.returns-in_err-size
+returns-in_err-size c =
+    let refused = exits c.from_residual.ensures in
+    denied_ran c.args.routine.now.bytes c.args.path.now c.args.out.now (refused ∙ sym c.in_err-size.was ∙ c.reply.ensures.value) refused
 
 -- 20 and 21 are passed
-passed : (c : In-Written) → c.prepare-checked.result.verdict ≡ Passed
+passed : (c : In_ok-size) → c.prepare-checked.result.verdict ≡ Ok tt
 passed c =
     let a = c.args in
-    c.prepare-checked.ensures.checked.answers ∙ run_passed a.file.now a.path.now a.out.now c.reply-reply.ensures.value c.in-Written.is
+    c.prepare-checked.ensures.checked.answers ∙ run_passed a.routine.now.bytes a.path.now a.out.now c.reply.ensures.value c.in_ok-size.was
 
 pub kept-requires : goal.kept-requires
 kept-requires c =
     record {
-      read_as = c.requires.read_as;
       edge_order = c.prepare-checked.ensures.edge_order;
       versions = c.prepare-checked.ensures.versions;
-      letters = c.prepare-checked.ensures.checked.letters_are (passed (goal.at.kept-requires c).In-Written);
+      letters = c.prepare-checked.ensures.checked.letters_are (passed (goal.at.kept-requires c).In_ok-size);
       sets_len = c.prepare-checked.auto.reaching ∙ c.requires.kept_len;
       gives_len = c.prepare-checked.auto.gives ∙ c.requires.gives_len;
       passes_len = c.prepare-checked.auto.passes ∙ c.requires.passes_len;
@@ -56,16 +54,15 @@ kept-requires c =
 
 pub write-requires : goal.write-requires
 write-requires c =
-    let f = c.args.file.now in
+    let f = c.args.routine.now.bytes in
     let h = c.args.path.now in
-    let w = c.in-Written.is in
+    let w = c.in_ok-size.was in
     record {
-      read_as = c.requires.read_as;
-      path_value = run_follows f h c.args.out.now c.reply-reply.ensures.value w;
-      letters_and_kept = record { letters_are = c.prepare-checked.ensures.checked.letters_are (passed (goal.at.write-requires c).In-Written); kept_are = c.kept.ensures.cells };
-      taken_value = subst (λ (r : Reply). Taken r f h c.reply-reply.new.taken) w c.reply-reply.ensures.taken;
-      size_value = run_size f h c.args.out.now c.reply-reply.ensures.value w;
-      size_in_bounds = run_fits f h c.args.out.now c.reply-reply.ensures.value w;
+      path_checked = run_follows f h c.args.out.now c.reply.ensures.value w;
+      letters_and_kept = record { letters_are = c.prepare-checked.ensures.checked.letters_are (passed (goal.at.write-requires c).In_ok-size); kept_are = c.kept.ensures.cells };
+      passes_counted = subst (λ (r : Reply). Taken r f h c.reply.new.taken) w c.reply.ensures.taken;
+      is_length = run_size f h c.args.out.now c.reply.ensures.value w;
+      out_room = run_fits f h c.args.out.now c.reply.ensures.value w;
     }
 
 pub shape_of-order : goal.shape_of-order
@@ -93,4 +90,4 @@ pub shape_of-halves : goal.shape_of-halves
 shape_of-halves c = c.kept.auto.halves ∙ c.prepare-checked.auto.halves
 
 pub returns : goal.returns
-returns c = written_ran c.args.file.now c.args.path.now c.args.out.now (sym c.in-Written.is ∙ c.reply-reply.ensures.value) refl c.write.ensures
+returns c = written_ran c.args.routine.now.bytes c.args.path.now c.args.out.now (sym c.in_ok-size.was ∙ c.reply.ensures.value) refl c.write.ensures

@@ -1,4 +1,4 @@
--- `solver::solve` meets its contract. The invariant: r rounds were made, and each altered a set. The measure is what is left of the whole rounds.
+-- `solver::solve` meets its contract. The invariant: r rounds were made, and each altered a set.
 use mathlib.Core.Path.{◌≡◌, sym, ap, subst, ◌∙◌}
 use Prim.Native.Nat.{ℕ, ◌+◌, ◌*◌, ◌/◌, ◌≤◌}
 use native.Mathlib.Omega.{arith}
@@ -6,18 +6,21 @@ use lib.ListN.{length, replicate, length-replicate}
 use Rattle.flow.specs.Solver.{Ends, Tables, Going, Solved, row_count}
 use Rattle.flow.proofs.Rows.{going_none, going_more, going_stops, made_length, tables}
 use Rattle.solver.proofs.solve.Goals as goal
-use Rattle.solver.proofs.solve.Goals.{After-clear, At-loop-r}
+use Rattle.solver.proofs.solve.Goals.{After-fill, At-loop-r}
+
+cleared : (c : After-fill) → c.fill.new.self ≡ replicate (length c.args.sets.now) 0
+cleared c = c.fill.ensures.after (λ y e. e)
 
 -- there are as many sets as before they were cleared
-size : (c : After-clear) → length c.clear.new.sets ≡ length c.args.sets.now
-size c = ap length c.clear.ensures ∙ length-replicate _ 0
+size : (c : After-fill) → length c.fill.new.self ≡ length c.args.sets.now
+size c = ap length (cleared c) ∙ length-replicate _ 0
 
 module _ (c : At-loop-r) where
   abbrev n : ℕ
-  n = row_count c.clear.new.sets
+  n = row_count c.fill.new.self
 
   rows_same : n ≡ row_count c.args.sets.now
-  rows_same = ap (λ (x : ℕ). x / 8) (size (goal.at.At-loop-r c).After-clear)
+  rows_same = ap (λ (x : ℕ). x / 8) (size (goal.at.At-loop-r c).After-fill)
 
   -- the edges end among the vertices
   within : Ends c.args.edges.now n
@@ -35,8 +38,8 @@ module _ (c : At-loop-r) where
 
 pub loop-r-init : goal.loop-r-init
 loop-r-init c =
-    let whole : length c.args.sets.now ≡ 8 * row_count c.clear.new.sets = c.requires.tables.whole ∙ ap (λ (x : ℕ). 8 * (x / 8)) (sym (size (goal.at.loop-r-init c).After-clear)) in
-    going_none c.args.edges.now c.args.order.now c.args.along c.args.gives.now c.args.passes.now _ _ (c.clear.ensures ∙ ap (λ (x : ℕ). replicate x 0) whole)
+    let whole : length c.args.sets.now ≡ 8 * row_count c.fill.new.self = c.requires.tables.whole ∙ ap (λ (x : ℕ). 8 * (x / 8)) (sym (size (goal.at.loop-r-init c).After-fill)) in
+    going_none c.args.edges.now c.args.order.now c.args.along c.args.gives.now c.args.passes.now _ _ (cleared (goal.at.loop-r-init c).After-fill ∙ ap (λ (x : ℕ). replicate x 0) whole)
 
 pub round-requires : goal.round-requires
 round-requires c =
@@ -57,12 +60,6 @@ returns-then-not-round c =
 pub shape_of-sets-then-not-round : goal.shape_of-sets-then-not-round
 shape_of-sets-then-not-round c = (returns-then-not-round c).size ∙ sym c.requires.tables.whole
 
-pub overflow_add-r : goal.overflow_add-r
-overflow_add-r c = omega (arith, c.loop-r-test.true)
-
-pub loop-r-smaller : goal.loop-r-smaller
-loop-r-smaller c = omega (arith, c.loop-r-test.true)
-
 pub loop-r-preserved : goal.loop-r-preserved
 loop-r-preserved c =
     let a = c.args in
@@ -71,12 +68,15 @@ loop-r-preserved c =
 pub go_on_marked-requires : goal.go_on_marked-requires
 go_on_marked-requires c =
     let same : n (goal.at.go_on_marked-requires c).At-loop-r ≡ row_count c.loop-r.sets = rows_same (goal.at.go_on_marked-requires c).At-loop-r ∙ ap (λ (x : ℕ). x / 8) (sym (kept (goal.at.go_on_marked-requires c).At-loop-r)) in
+    let whole : c.loop-r.r ≡ 3 = omega arith in
     record {
       order = c.requires.order;
       edges_bound = c.requires.edges_bound;
       tables = held (goal.at.go_on_marked-requires c).At-loop-r;
       sets_bound = subst (λ (x : ℕ). x / 8 ≤ 256) (sym (kept (goal.at.go_on_marked-requires c).At-loop-r)) c.requires.sets_bound;
-      going = subst (λ (m : ℕ). Going c.args.edges.now c.args.order.now c.args.along c.args.gives.now c.args.passes.now m c.loop-r.sets c.loop-r.r) same c.loop-r.invariant;
+      going =
+          subst (λ (r : ℕ). Going c.args.edges.now c.args.order.now c.args.along c.args.gives.now c.args.passes.now (row_count c.loop-r.sets) c.loop-r.sets r) whole
+          (subst (λ (m : ℕ). Going c.args.edges.now c.args.order.now c.args.along c.args.gives.now c.args.passes.now m c.loop-r.sets c.loop-r.r) same c.loop-r.invariant);
     }
 
 pub returns : goal.returns

@@ -15,9 +15,9 @@ shifted-requires c =
     }
 
 pub cleaned-requires : goal.cleaned-requires
-cleaned-requires c = subst (λ (n : Carried). Current (bare n)) (sym c.shifted.ensures) (shifted_current c.of_letter-u.result c.args.t c.args.held c.args.c c.requires.sound.current c.requires.t_lt_width)
+cleaned-requires c = subst (λ (n : Carried). Current (bare n)) (sym c.shifted.ensures) (shifted_current c.from-u.result c.args.t c.args.held c.args.c c.requires.sound.current c.requires.t_lt_width)
 
 pub returns : goal.returns
 returns c =
     let a = c.args in
-    labelled_is (use_of_byte a.letter) a.t a.keep a.held a.c c.requires.t_lt_width c.of_letter-u.ensures c.shifted.ensures c.cleaned.ensures
+    labelled_is (use_of_byte a.letter) a.t a.keep a.held a.c c.requires.t_lt_width c.from-u.ensures c.shifted.ensures c.cleaned.ensures

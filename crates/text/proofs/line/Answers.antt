@@ -1,5 +1,5 @@
 -- `text::line` meets its contract. The invariant: the first i cells stand at the front, and `at` is how long these are.
--- The measure is what is left. Assumes nothing.
+-- Assumes nothing.
 use mathlib.Core.Path.{refl, sym}
 use native.Mathlib.Omega.{arith}
 use lib.ListN.{length}
@@ -11,7 +11,7 @@ use Rattle.text.proofs.line.Goals as goal
 
 pub loop-i-init : goal.loop-i-init
 unfolding rows
-loop-i-init c = (begin _ _ _ (omega (arith, c.requires.fields_in_bounds, cells_most c.args.forms.now c.args.fields.now (length c.args.fields.now))), refl)
+loop-i-init c = (begin _ _ _ (omega (arith, c.requires, cells_most c.args.columns.now (length c.args.columns.now))), refl)
 
 pub slice_bounds-put_cell-count : goal.slice_bounds-put_cell-count
 slice_bounds-put_cell-count c = lies c.loop-i.invariant.0 c.loop-i.invariant.1 (omega arith)
@@ -19,21 +19,18 @@ slice_bounds-put_cell-count c = lies c.loop-i.invariant.0 c.loop-i.invariant.1 (
 pub slice_bounds-put_cell-start : goal.slice_bounds-put_cell-start
 slice_bounds-put_cell-start c = slice_bounds-put_cell-count c
 
-pub bounds-forms-i : goal.bounds-forms-i
-bounds-forms-i c = omega (arith, c.requires.forms_len)
-
 pub put_cell-at-requires : goal.put_cell-at-requires
-put_cell-at-requires c = lends c.loop-i.invariant.0.front c.loop-i.invariant.1 (omega (arith, c.requires.fields_in_bounds, c.loop-i.invariant.1, cells_most c.args.forms.now c.args.fields.now c.loop-i.i))
+put_cell-at-requires c = lends c.loop-i.invariant.0.front c.loop-i.invariant.1 (omega (arith, c.requires, c.loop-i.invariant.1, cells_most c.args.columns.now c.loop-i.i))
 
 pub overflow_add-at : goal.overflow_add-at
 overflow_add-at c =
     omega (
       arith,
-      c.requires.fields_in_bounds,
+      c.requires,
       c.loop-i.invariant.1,
-      cells_most c.args.forms.now c.args.fields.now c.loop-i.i,
+      cells_most c.args.columns.now c.loop-i.i,
       c.put_cell-at.ensures.value,
-      cell_most c.args.forms.now c.args.fields.now c.loop-i.i,
+      cell_most c.args.columns.now c.loop-i.i,
     )
 
 pub loop-i-preserved : goal.loop-i-preserved

@@ -1,7 +1,6 @@
 -- `text::line` meets its contract. The invariant: the first i cells stand at the front, and `at` is how long these are.
--- The measure is what is left. Assumes nothing.
+-- Assumes nothing.
 use mathlib.Core.Path.{◌≡◌}
-use Prim.Native.Nat.{◌-◌}
 use lib.ListN.{length}
 use Rattle.words.specs.Tables.{rows}
 use Rattle.words.proofs.Buffers.{Filled}
@@ -9,7 +8,5 @@ use Rattle.text.specs.Text.{cell}
 use Rattle.text.proofs.line.Given as goal
 
 abbrev pub invariant-loop-i : goal.invariant-loop-i
-invariant-loop-i l = Filled (cell l.forms l.fields) (length l.fields) l.initial.out l.i l.out × (l.at ≡ length (rows (cell l.forms l.fields) l.i))
-
-abbrev pub decreases-loop-i : goal.decreases-loop-i
-decreases-loop-i l = l.n - l.i
+invariant-loop-i l =
+    Filled (cell l.columns) (length l.columns) l.initial.out l.i l.out × (l.at ≡ length (rows (cell l.columns) l.i))

@@ -3,11 +3,8 @@ use mathlib.Core.Path.{ap, ◌∙◌}
 use native.Mathlib.Omega.{arith}
 use lib.ListN.{length}
 use Rattle.words.specs.Tables.{wrote}
-use Rattle.text.proofs.Digits.{decimal_text, decimal-length}
+use Rattle.text.proofs.Digits.{decimal_text}
 use Rattle.text.proofs.put_decimal.Goals as goal
-
-pub copy-requires : goal.copy-requires
-copy-requires c = omega (arith, c.requires, decimal-length c.decimal-k.ensures.len (omega (arith, c.ranges.n.fits)), c.decimal-k.ensures.in_bounds.1)
 
 pub returns : goal.returns
 returns c =

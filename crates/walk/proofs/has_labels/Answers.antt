@@ -9,13 +9,13 @@ use Rattle.walk.proofs.Sorts.{at_terminal, at_inner}
 use Rattle.walk.proofs.has_labels.Goals as goal
 
 pub overflow_sub-terminal : goal.overflow_sub-terminal
-overflow_sub-terminal c = omega (arith, c.requires.read_as.heads.vertices_are, c.requires.read_as.well.laid.limits.two_vertices)
+overflow_sub-terminal c = omega (arith, c.vertices.ensures, c.args.routine.now.well.laid.limits.two_vertices)
 
 pub returns-then-terminal : goal.returns-then-terminal
-returns-then-terminal c = at_terminal c.requires.read_as.well c.args.v (sym (ap (λ (n : ℕ). eqb c.args.v 0 || eqb c.args.v (n - 1)) c.requires.read_as.heads.vertices_are) ∙ c.if-terminal.true)
+returns-then-terminal c = at_terminal c.args.routine.now.well c.args.v (sym (ap (λ (n : ℕ). eqb c.args.v 0 || eqb c.args.v (n - 1)) c.vertices.ensures) ∙ c.if-terminal.true)
 
 pub returns : goal.returns
 returns c =
     let no = neither _ _ c.if-terminal.false in
-    let last = sym (ap (λ (n : ℕ). eqb c.args.v (n - 1)) c.requires.read_as.heads.vertices_are) ∙ no.1 in
-    at_inner c.args.file.now c.args.v no.0 last c.remaps.result c.remaps.ensures
+    let last = sym (ap (λ (n : ℕ). eqb c.args.v (n - 1)) c.vertices.ensures) ∙ no.1 in
+    at_inner c.args.routine.now.bytes c.args.v no.0 last c.remaps.result c.remaps.ensures

@@ -1,6 +1,5 @@
 -- `walk::refer` meets its contract: one array after the other.
 use mathlib.Core.Path.{◌≡◌}
-use Prim.Native.Nat.{◌-◌}
 use lib.ListN.{length}
 use Rattle.routine.specs.Layout.{arrays}
 use Rattle.walk.specs.Walks.{cell_bytes, stamp_at}
@@ -11,9 +10,6 @@ use Rattle.walk.proofs.refer.Given as goal
 
 -- the bytes of the first a arrays stand at the front, and their stamps are those after the references
 abbrev pub invariant-loop-a : goal.invariant-loop-a
-invariant-loop-a l = Filled (cell_bytes l.file l.v l.step l.versions l.initial.stamps) (arrays l.file) l.initial.out l.a l.out
-    × (l.bytes ≡ length (rows (cell_bytes l.file l.v l.step l.versions l.initial.stamps) l.a))
-    × Replacing l.initial.stamps 0 (stamp_at l.file l.v l.step l.initial.stamps) (arrays l.file) l.stamps l.a
-
-abbrev pub decreases-loop-a : goal.decreases-loop-a
-decreases-loop-a l = l.m - l.a
+invariant-loop-a l = Filled (cell_bytes l.routine.bytes l.v l.step l.versions l.initial.stamps) (arrays l.routine.bytes) l.initial.out l.a l.out
+    × (l.bytes ≡ length (rows (cell_bytes l.routine.bytes l.v l.step l.versions l.initial.stamps) l.a))
+    × Replacing l.initial.stamps 0 (stamp_at l.routine.bytes l.v l.step l.initial.stamps) (arrays l.routine.bytes) l.stamps l.a

@@ -19,29 +19,29 @@ pub loop-i-init : goal.loop-i-init
 loop-i-init c = (omega arith, on_none _ _)
 
 -- the vertex of this turn
-within : (c : After-vertex) → c.vertex.result < vertices c.args.file.now
+within : (c : After-vertex) → c.vertex.result < vertices c.args.routine.now.bytes
 within c =
-    omega (arith, within-vertices c.requires.well_formed (walk c.requires.well_formed c.requires.path_value) c.loop-i.i (omega arith))
+    omega (arith, within-vertices c.args.routine.now.well (walk c.args.routine.now.well c.requires.path_checked) c.loop-i.i (omega arith))
 
-table_is : (c : Start) → c.args.counts.now ≡ table (references_at c.args.file.now) (vertices c.args.file.now)
-table_is c = c.requires.counts_value
+table_is : (c : Start) → c.args.counts.now ≡ table (references_at c.args.routine.now.bytes) (vertices c.args.routine.now.bytes)
+table_is c = c.requires.references_counted
 
 -- with its references
 more : (c : After-shared_slice_known-in-loop-i-1) →
     let a = c.args in
-    c.loop-i.count + get_or a.counts.now c.vertex.result 0 ≡ references_on a.file.now a.path.now (c.loop-i.i + 1)
+    c.loop-i.count + get_or a.counts.now c.vertex.result 0 ≡ references_on a.routine.now.bytes a.path.now (c.loop-i.i + 1)
 more c =
-    let f = references_at c.args.file.now in
+    let f = references_at c.args.routine.now.bytes in
     on_more _ _ _ c.loop-i.invariant.1
     (ap (λ (t : List ℕ). get_or t c.vertex.result 0) (table_is (goal.at.After-shared_slice_known-in-loop-i-1 c).Start) ∙ table_at f _ _ (within (goal.at.After-shared_slice_known-in-loop-i-1 c).After-vertex) ∙ ap f c.vertex.ensures)
 
 -- at most eight at each of at most 4,096 vertices
-few : (c : Start) (n : ℕ) → n ≤ steps c.args.path.now → references_on c.args.file.now c.args.path.now n ≤ 32768
+few : (c : Start) (n : ℕ) → n ≤ steps c.args.path.now → references_on c.args.routine.now.bytes c.args.path.now n ≤ 32768
 few c n h =
-    omega (arith, on_few c.args.file.now c.args.path.now c.requires.well_formed.laid.limits.few_arrays n, walk c.requires.well_formed c.requires.path_value)
+    omega (arith, on_few c.args.routine.now.bytes c.args.path.now c.args.routine.now.well.laid.limits.few_arrays n, walk c.args.routine.now.well c.requires.path_checked)
 
 pub bounds-counts-vertex : goal.bounds-counts-vertex
-bounds-counts-vertex c = omega (arith, within (goal.at.bounds-counts-vertex c).After-vertex, ap length (table_is (goal.at.bounds-counts-vertex c).Start), table-length (references_at c.args.file.now) (vertices c.args.file.now))
+bounds-counts-vertex c = omega (arith, within (goal.at.bounds-counts-vertex c).After-vertex, ap length (table_is (goal.at.bounds-counts-vertex c).Start), table-length (references_at c.args.routine.now.bytes) (vertices c.args.routine.now.bytes))
 
 pub overflow_cast-count : goal.overflow_cast-count
 overflow_cast-count c = omega (arith, c.type_inv.counts c.vertex.result)
@@ -56,7 +56,7 @@ pub returns : goal.returns
 returns c =
     let a = c.args in
     let all : c.loop-i.i ≡ steps a.path.now = omega arith in
-    let e = c.loop-i.invariant.1 ∙ ap (references_on a.file.now a.path.now) all in
+    let e = c.loop-i.invariant.1 ∙ ap (references_on a.routine.now.bytes a.path.now) all in
     record {
       value = e;
       upper_bound = omega (arith, few (goal.at.returns c).Start (steps a.path.now) (omega arith));

@@ -23,19 +23,19 @@ module _ (s : Start) where
   place = 8 * s.args.v + s.args.a
 
   few_places : place < 2048
-  few_places = few_cells s.requires.read_as s.requires.a_bound.0 s.requires.a_bound.1
+  few_places = few_cells s.args.routine.now.well s.requires.a_bound.0 s.requires.a_bound.1
 
-  inside : (l : List ℕ) → length l ≡ 8 * vertices s.args.file.now → place < length l
-  inside = in_table s.requires.read_as s.requires.a_bound.0 s.requires.a_bound.1
+  inside : (l : List ℕ) → length l ≡ 8 * vertices s.args.routine.now.bytes → place < length l
+  inside = in_table s.args.routine.now.well s.requires.a_bound.0 s.requires.a_bound.1
 
   few_arrays : s.args.a < 8
-  few_arrays = in_eight s.requires.read_as.well s.requires.a_bound.0
+  few_arrays = in_eight s.args.routine.now.well s.requires.a_bound.0
 
-  small : {r : ArrayRecord} → r ≡ array_of s.args.file.now s.args.a → r.initial < width
-  small e = subst (λ (r : ArrayRecord). r.initial < width) (sym e) (proper _ s.requires.read_as.well _ s.requires.a_bound.0).initial_fits
+  small : {r : ArrayRecord} → r ≡ array_of s.args.routine.now.bytes s.args.a → r.initial < width
+  small e = subst (λ (r : ArrayRecord). r.initial < width) (sym e) (proper _ s.args.routine.now.well _ s.requires.a_bound.0).initial_fits
 
-recorded : (c : After-relabelled-labelled) → c.record_of-r.result ≡ array_of c.args.file.now c.args.a
-recorded c = c.record_of-r.ensures
+recorded : (c : After-relabelled-labelled) → c.array-r.result ≡ array_of c.args.routine.now.bytes c.args.a
+recorded c = c.array-r.ensures
 
 pub overflow_mul-place : goal.overflow_mul-place
 overflow_mul-place c = omega (arith, few_places (goal.at.overflow_mul-place c).Start)
@@ -56,7 +56,7 @@ pub relabelled-labelled-requires : goal.relabelled-labelled-requires
 relabelled-labelled-requires c =
     record {
       a_bound = (few_arrays (goal.at.relabelled-labelled-requires c).Start, c.requires.others_len);
-      visits = subst (λ (x : Action). Visits x c.args.c) (sym c.at-x.ensures) c.requires.visits;
+      visits = subst (λ (x : Action). Visits x c.args.c) (sym c.event-x.ensures) c.requires.visits;
     }
 
 -- the caller's entry in the array's row
@@ -72,9 +72,6 @@ offset_bounds-others-own c = omega (arith, few_arrays (goal.at.offset_bounds-oth
 pub bounds-others-own : goal.bounds-others-own
 bounds-others-own c = omega (arith, few_arrays (goal.at.bounds-others-own c).Start, small (goal.at.bounds-others-own c).Start (recorded (goal.at.bounds-others-own c).After-relabelled-labelled))
 
-pub overflow_sub-h : goal.overflow_sub-h
-overflow_sub-h c = omega (arith, c.requires.read_as.heads.vertices_are, c.requires.read_as.well.laid.limits.two_vertices)
-
 pub leave-requires : goal.leave-requires
 leave-requires c = small (goal.at.leave-requires c).Start (recorded (goal.at.leave-requires c).After-relabelled-labelled)
 
@@ -83,5 +80,5 @@ returns c =
     let g = c.args in
     let letter = c.requires.letters_and_kept.letters_are.cells g.a g.v c.requires.a_bound.0 c.requires.a_bound.1 in
     let keep = c.requires.letters_and_kept.kept_are.cells g.a g.v c.requires.a_bound.0 c.requires.a_bound.1 in
-    let ends = ap (λ (n : ℕ). eqb g.v (n - 1)) c.requires.read_as.heads.vertices_are in
-    relabelled_is g.file.now g.a g.v (recorded (goal.at.returns c).After-relabelled-labelled) c.at-x.ensures letter keep ends c.relabelled-labelled.ensures refl c.leave.ensures
+    let ends = ap (λ (n : ℕ). eqb g.v (n - 1)) c.vertices.ensures in
+    relabelled_is g.routine.now.bytes g.a g.v (recorded (goal.at.returns c).After-relabelled-labelled) c.event-x.ensures letter keep ends c.relabelled-labelled.ensures refl c.leave.ensures

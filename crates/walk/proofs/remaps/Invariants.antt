@@ -1,12 +1,9 @@
--- `walk::remaps` meets its contract. The loop's invariant: no action so far is a remapping. The measure is what is left of the row.
+-- `walk::remaps` meets its contract. The loop's invariant: no action so far is a remapping.
 use mathlib.Core.Path.{◌≡◌}
 use mathlib.Core.Bool.{false}
-use Prim.Native.Nat.{ℕ, ◌-◌, ◌≤◌, ◌<◌}
+use Prim.Native.Nat.{ℕ, ◌≤◌, ◌<◌}
 use Rattle.routine.specs.Actions.{action, is_remap}
 use Rattle.walk.proofs.remaps.Given as goal
 
 abbrev pub invariant-loop-a : goal.invariant-loop-a
-invariant-loop-a l = (l.a ≤ l.m) × ((b : ℕ) → b < l.a → is_remap (action l.file b l.v) ≡ false)
-
-abbrev pub decreases-loop-a : goal.decreases-loop-a
-decreases-loop-a l = l.m - l.a
+invariant-loop-a l = (l.a ≤ l.a-end) × ((b : ℕ) → b < l.a → is_remap (action l.routine.bytes b l.v) ≡ false)

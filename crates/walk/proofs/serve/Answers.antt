@@ -6,7 +6,7 @@ use Rattle.walk.proofs.serve.Goals as goal
 
 pub returns-then-labels : goal.returns-then-labels
 returns-then-labels c =
-    let file = c.args.file.now in
+    let file = c.args.routine.now.bytes in
     let none = subst (Labels file c.args.v) c.if-labels.true c.has_labels-labels.ensures in
     record {
       referred = nothing_referred file c.args.v c.args.step c.args.versions.now c.args.stamps.now c.args.out.now none;
@@ -15,9 +15,8 @@ returns-then-labels c =
 
 pub refer-bytes-requires : goal.refer-bytes-requires
 refer-bytes-requires c =
-    let none = subst (Labels c.args.file.now c.args.v) c.if-labels.false c.has_labels-labels.ensures in
+    let none = subst (Labels c.args.routine.now.bytes c.args.v) c.if-labels.false c.has_labels-labels.ensures in
     record {
-      read_as = c.requires.read_as;
       v_bound = c.requires.v_bound;
       unlabelled = none;
       stamps_len = c.requires.stamps_len;

@@ -32,9 +32,6 @@ offset_bounds-new-a-in-loop-a c = omega (arith, c.requires)
 pub bounds-new-a-in-loop-a : goal.bounds-new-a-in-loop-a
 bounds-new-a-in-loop-a c = omega (arith, c.requires)
 
-pub overflow_add-a : goal.overflow_add-a
-overflow_add-a c = omega (arith, c.requires)
-
 pub loop-a-preserved : goal.loop-a-preserved
 loop-a-preserved c = replacing_next c.loop-a.invariant (omega arith) (omega arith) (c.with_stamp.ensures ∙ ap (carrying _) (same (goal.at.loop-a-preserved c).At-loop-a))
 

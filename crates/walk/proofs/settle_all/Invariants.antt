@@ -1,6 +1,6 @@
 -- `walk::settle_all` meets its contract: one array after the other.
 use mathlib.Core.List.{List}
-use Prim.Native.Nat.{ℕ, ◌-◌}
+use Prim.Native.Nat.{ℕ}
 use lib.ListN.{get_or}
 use Rattle.report.specs.Bytes.{carried_of}
 use Rattle.state.specs.Carrying.{carrying}
@@ -14,6 +14,3 @@ settled_at stamps states b = carrying (get_or stamps b 0) (carried_of states b)
 
 abbrev pub invariant-loop-a : goal.invariant-loop-a
 invariant-loop-a l = Replacing l.initial.new 0 (settled_at l.stamps l.initial.new) l.m l.new l.a
-
-abbrev pub decreases-loop-a : goal.decreases-loop-a
-decreases-loop-a l = l.m - l.a

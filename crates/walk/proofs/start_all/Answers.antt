@@ -21,20 +21,16 @@ use Rattle.walk.proofs.start_all.Goals.{In-loop-a}
 -- what holds in a turn
 module _ (c : In-loop-a) where
   small : c.loop-a.a < 8
-  small = in_eight c.requires.read_as.well (omega (arith, c.requires.read_as.heads.arrays_are))
+  small = in_eight c.args.routine.now.well (omega (arith, c.arrays-a-end.ensures))
 
 pub loop-a-init : goal.loop-a-init
 loop-a-init c = (omega arith, record { states_sized = refl; versions_sized = c.requires.versions_len; stamps_sized = c.requires.stamps_len; others_sized = refl; stand = λ b h. absurd (omega arith) })
 
-pub record_of-requires : goal.record_of-requires
-record_of-requires c =
-    record {
-      laid = c.requires.read_as.well.laid;
-      a_bound = omega (arith, c.requires.read_as.heads.arrays_are);
-    }
+pub array-requires : goal.array-requires
+array-requires c = omega (arith, c.arrays-a-end.ensures)
 
 pub start-s-requires : goal.start-s-requires
-start-s-requires c = subst (λ (r : ArrayRecord). r.initial < width) (sym c.record_of.ensures) (proper _ c.requires.read_as.well c.loop-a.a (omega (arith, c.requires.read_as.heads.arrays_are))).initial_fits
+start-s-requires c = subst (λ (r : ArrayRecord). r.initial < width) (sym c.array.ensures) (proper _ c.args.routine.now.well c.loop-a.a (omega (arith, c.arrays-a-end.ensures))).initial_fits
 
 pub bounds-versions-a : goal.bounds-versions-a
 bounds-versions-a c = omega (arith, small (goal.at.bounds-versions-a c).In-loop-a)
@@ -51,19 +47,16 @@ offset_bounds-states-a c = omega (arith, small (goal.at.offset_bounds-states-a c
 pub bounds-states-a : goal.bounds-states-a
 bounds-states-a c = omega (arith, small (goal.at.bounds-states-a c).In-loop-a)
 
-pub overflow_add-a : goal.overflow_add-a
-overflow_add-a c = omega (arith, small (goal.at.overflow_add-a c).In-loop-a)
-
 pub loop-a-preserved : goal.loop-a-preserved
 loop-a-preserved c =
     let n = c.start-s.result in
-    let file = c.args.file.now in
+    let file = c.args.routine.now.bytes in
     let a = c.loop-a.a in
     let zeros : ((row : ℕ → ℕ) → row (array_of file a).initial ≡ 0 → Carries (callers (array_of file a)) (started (array_of file a)) n row) =
-    subst (λ (r : ArrayRecord). (row : ℕ → ℕ) → row r.initial ≡ 0 → Carries (callers r) (started r) n row) c.record_of.ensures c.start-s.ensures in
+    subst (λ (r : ArrayRecord). (row : ℕ → ℕ) → row r.initial ≡ 0 → Carries (callers r) (started r) n row) c.array.ensures c.start-s.ensures in
     (omega arith, hold_more n c.loop-a.invariant.1 (small (goal.at.loop-a-preserved c).In-loop-a) refl (λ b k ne in-k. refl) (zeros (row_of (replicate (8 * width) 0) a) (zeros_at (8 * width) (width * a + (array_of file a).initial))))
 
 pub returns : goal.returns
 returns c =
-    let all : c.loop-a.a ≡ arrays c.args.file.now = omega (arith, c.requires.read_as.heads.arrays_are) in
-    subst (λ (m : ℕ). Held c.args.file.now (λ b. started (array_of c.args.file.now b)) m c.loop-a.states c.loop-a.versions c.loop-a.stamps (replicate (8 * width) 0)) all c.loop-a.invariant.1
+    let all : c.loop-a.a ≡ arrays c.args.routine.now.bytes = omega (arith, c.arrays-a-end.ensures) in
+    subst (λ (m : ℕ). Held c.args.routine.now.bytes (λ b. started (array_of c.args.routine.now.bytes b)) m c.loop-a.states c.loop-a.versions c.loop-a.stamps (replicate (8 * width) 0)) all c.loop-a.invariant.1

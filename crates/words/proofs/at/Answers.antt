@@ -1,8 +1,8 @@
--- `words::at` meets its contract: two bytes below 256 give a number that fits.
-use Rattle.std.proofs.Common.{refl}
+-- `words::at` meets its contract: the low byte and 256 times the high one.
+use native.Mathlib.Omega.{arith}
 use Rattle.words.specs.Words.{word}
 use Rattle.words.proofs.at.Goals as goal
 
 pub returns : goal.returns
 unfolding word
-returns c = refl
+returns c = omega (arith, c.from_le_bytes.ensures)

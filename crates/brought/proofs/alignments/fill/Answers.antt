@@ -4,7 +4,7 @@ use Prim.Native.Nat.{◌≤◌, ◌<◌}
 use native.Mathlib.Omega.{arith}
 use Rattle.flow.proofs.Cells.{rows_none, rows_next, rows_all}
 use Rattle.directives.specs.Layout.{vertices}
-use Rattle.directives.proofs.Limits.{read_heads}
+use Rattle.directives.proofs.Limits.{read_limits}
 use Rattle.facts.proofs.Rounds.{none_next}
 use Rattle.brought.specs.Cells.{align_gives, align_passes}
 use Rattle.brought.proofs.alignments.fill.Goals as goal
@@ -12,35 +12,31 @@ use Rattle.brought.proofs.alignments.fill.Goals.{In-loop-v}
 
 -- what holds in a turn
 module _ (c : In-loop-v) where
-  in_v : c.loop-v.v < vertices c.args.file.now
-  in_v = omega (arith, (read_heads c.requires.directives_read).vertices_are)
+  in_v : c.loop-v.v < vertices c.args.directives.now.bytes
+  in_v = omega (arith, c.vertices-v-end.ensures)
 
 pub loop-v-init : goal.loop-v-init
 loop-v-init c =
-    let few = (read_heads c.requires.directives_read).limits.few_arrays in
+    let few = (read_limits c.args.directives.now).few_arrays in
     (omega arith, rows_none few _ _ c.requires.gives_len, rows_none few _ _ c.requires.passes_len, c.requires.none_beyond)
 
 pub fill_row-requires : goal.fill_row-requires
 fill_row-requires c =
     record {
-      directives_read = c.requires.directives_read;
       v_bound = in_v (goal.at.fill_row-requires c).In-loop-v;
       reached = c.requires.reached;
       gives_len = c.loop-v.invariant.1.size;
       passes_len = c.loop-v.invariant.2.size;
     }
 
-pub overflow_add-v : goal.overflow_add-v
-overflow_add-v c = omega (arith, in_v (goal.at.overflow_add-v c).In-loop-v, (read_heads c.requires.directives_read).limits.few_vertices)
-
 pub loop-v-preserved : goal.loop-v-preserved
 loop-v-preserved c =
     let a = c.args in
-    let few = (read_heads c.requires.directives_read).limits.few_arrays in (
+    let few = (read_limits c.args.directives.now).few_arrays in (
       omega arith,
-      rows_next few (align_gives a.file.now) a.gives.now c.loop-v.v (in_v (goal.at.loop-v-preserved c).In-loop-v) c.loop-v.invariant.1 c.fill_row.ensures.gives_after,
-      rows_next few (align_passes a.file.now) a.passes.now c.loop-v.v (in_v (goal.at.loop-v-preserved c).In-loop-v) c.loop-v.invariant.2 c.fill_row.ensures.passes_after,
-      none_next few (λ b. align_gives a.file.now b c.loop-v.v) c.loop-v.v c.loop-v.invariant.3 c.fill_row.ensures.gives_after,
+      rows_next few (align_gives a.directives.now.bytes) a.gives.now c.loop-v.v (in_v (goal.at.loop-v-preserved c).In-loop-v) c.loop-v.invariant.1 c.fill_row.ensures.gives_after,
+      rows_next few (align_passes a.directives.now.bytes) a.passes.now c.loop-v.v (in_v (goal.at.loop-v-preserved c).In-loop-v) c.loop-v.invariant.2 c.fill_row.ensures.passes_after,
+      none_next few (λ b. align_gives a.directives.now.bytes b c.loop-v.v) c.loop-v.v c.loop-v.invariant.3 c.fill_row.ensures.gives_after,
     )
 
 pub shape_of-gives : goal.shape_of-gives
@@ -52,10 +48,9 @@ shape_of-passes c = c.loop-v.invariant.2.size ∙ sym c.requires.passes_len
 pub returns : goal.returns
 returns c =
     let a = c.args in
-    let heads = read_heads c.requires.directives_read in
-    let all : vertices a.file.now ≤ c.loop-v.v = omega (arith, heads.vertices_are) in
+    let all : vertices a.directives.now.bytes ≤ c.loop-v.v = omega (arith, c.vertices-v-end.ensures) in
     record {
-      cells = rows_all heads.limits.few_arrays (align_gives a.file.now) a.gives.now c.loop-v.v all c.loop-v.invariant.1;
-      cells_2 = rows_all heads.limits.few_arrays (align_passes a.file.now) a.passes.now c.loop-v.v all c.loop-v.invariant.2;
+      cells = rows_all (read_limits c.args.directives.now).few_arrays (align_gives a.directives.now.bytes) a.gives.now c.loop-v.v all c.loop-v.invariant.1;
+      cells_2 = rows_all (read_limits c.args.directives.now).few_arrays (align_passes a.directives.now.bytes) a.passes.now c.loop-v.v all c.loop-v.invariant.2;
       none_beyond_2 = c.loop-v.invariant.3;
     }

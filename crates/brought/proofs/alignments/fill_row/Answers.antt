@@ -11,7 +11,7 @@ use Rattle.labels.specs.Reaching.{is_reached_over}
 use Rattle.directives.specs.Directives.{directive}
 use Rattle.directives.specs.Layout.{arrays, vertices, edge_bytes}
 use Rattle.directives.specs.declared.vertex.Directive.{Directive}
-use Rattle.directives.proofs.Limits.{read_heads}
+use Rattle.directives.proofs.Limits.{read_limits}
 use Rattle.mappings.specs.Along.{initial_state}
 use Rattle.mappings.specs.Computed.{realigns, alignment_of, code}
 use Rattle.mappings.specs.Theorem.{Right}
@@ -36,35 +36,31 @@ module _ (file : List ℕ) (a v : ℕ) {aligns : Bool} (is : aligns ≡ is_align
 
 -- what holds in a turn
 module _ (c : In-loop-a) where
-  in_a : c.loop-a.a < arrays c.args.file.now
-  in_a = omega (arith, (read_heads c.requires.directives_read).arrays_are)
+  in_a : c.loop-a.a < arrays c.args.directives.now.bytes
+  in_a = omega (arith, c.arrays-a-end.ensures)
 
   small_a : c.loop-a.a < 8
-  small_a = omega (arith, in_a, (read_heads c.requires.directives_read).limits.few_arrays)
+  small_a = omega (arith, in_a, (read_limits c.args.directives.now).few_arrays)
 
   small_v : c.args.v < 256
-  small_v = omega (arith, c.requires.v_bound, (read_heads c.requires.directives_read).limits.few_vertices)
+  small_v = omega (arith, c.requires.v_bound, (read_limits c.args.directives.now).few_vertices)
 
 -- whether the vertex gives the array an alignment
 aligner : (c : After-realigns)
-    → (eqb c.args.v 0 || c.realigns.result) ≡ is_aligner c.args.file.now c.loop-a.a c.args.v
+    → (eqb c.args.v 0 || c.realigns.result) ≡ is_aligner c.args.directives.now.bytes c.loop-a.a c.args.v
 aligner c =
     let a = c.args in
-    ap (λ (b : Bool). eqb a.v 0 || b) (c.realigns.ensures ∙ ap (realigns c.loop-a.a) c.at-d.ensures)
+    ap (λ (b : Bool). eqb a.v 0 || b) (c.realigns.ensures ∙ ap (realigns c.loop-a.a) c.directive-d.ensures)
 
-pub at-d-requires : goal.at-d-requires
-at-d-requires c =
-    record {
-      heads = read_heads c.requires.directives_read;
-      v_bound = c.requires.v_bound;
-    }
+pub directive-d-requires : goal.directive-d-requires
+directive-d-requires c = c.requires.v_bound
 
 pub is_reached-is_reached-requires : goal.is_reached-is_reached-requires
 is_reached-is_reached-requires c =
     record {
       reached = c.requires.reached;
       v_bound = c.requires.v_bound;
-      v_bound_2 = omega (arith, c.requires.v_bound, (read_heads c.requires.directives_read).limits.few_vertices);
+      v_bound_2 = omega (arith, c.requires.v_bound, (read_limits c.args.directives.now).few_vertices);
     }
 
 pub loop-a-init : goal.loop-a-init
@@ -78,13 +74,12 @@ overflow_add-at c = omega (arith, small_a c, small_v c)
 
 pub given-requires : goal.given-requires
 given-requires c =
-    let file = c.args.file.now in
+    let file = c.args.directives.now.bytes in
     let a = c.loop-a.a in
-    let right = right_of (formed file c.requires.directives_read.passed) a (in_a (goal.at.given-requires c).In-loop-a) c.args.v c.requires.v_bound in
+    let right = right_of (formed file c.args.directives.now.passed) a (in_a (goal.at.given-requires c).In-loop-a) c.args.v c.requires.v_bound in
     record {
-      directives_read = c.requires.directives_read;
       a_bound = in_a (goal.at.given-requires c).In-loop-a;
-      right = subst (λ (d : Directive). Right file (alignment_of ((initial_state file).aligned a) d)) (sym c.at-d.ensures) right;
+      right = subst (λ (d : Directive). Right file (alignment_of ((initial_state file).aligned a) d)) (sym c.directive-d.ensures) right;
     }
 
 pub offset_bounds-gives-at : goal.offset_bounds-gives-at
@@ -99,15 +94,12 @@ offset_bounds-passes-at c = omega (arith, small_a (goal.at.offset_bounds-passes-
 pub bounds-passes-at : goal.bounds-passes-at
 bounds-passes-at c = omega (arith, small_a (goal.at.bounds-passes-at c).In-loop-a, c.requires.v_bound, c.requires.passes_len, c.loop-a.invariant.1.sized)
 
-pub overflow_add-a : goal.overflow_add-a
-overflow_add-a c = omega (arith, small_a (goal.at.overflow_add-a c).In-loop-a)
-
 pub loop-a-preserved : goal.loop-a-preserved
 loop-a-preserved c =
-    let file = c.args.file.now in
+    let file = c.args.directives.now.bytes in
     let v = c.args.v in (
-      replacing_next c.loop-a.invariant.0 (in_a (goal.at.loop-a-preserved c).In-loop-a) refl (gives_if file c.loop-a.a v (aligner (goal.at.loop-a-preserved c).After-realigns) c.is_reached-is_reached.ensures c.at-d.ensures c.given.ensures),
-      replacing_next c.loop-a.invariant.1 (in_a (goal.at.loop-a-preserved c).In-loop-a) refl (passes_if file c.loop-a.a v (aligner (goal.at.loop-a-preserved c).After-realigns) c.half_if.ensures),
+      replacing_next c.loop-a.invariant.0 (in_a (goal.at.loop-a-preserved c).In-loop-a) refl (gives_if file c.loop-a.a v (aligner (goal.at.loop-a-preserved c).After-realigns) c.is_reached-is_reached.ensures c.directive-d.ensures c.given.ensures),
+      replacing_next c.loop-a.invariant.1 (in_a (goal.at.loop-a-preserved c).In-loop-a) refl (passes_if file c.loop-a.a v (aligner (goal.at.loop-a-preserved c).After-realigns) c.only_if.ensures),
     )
 
 pub shape_of-gives : goal.shape_of-gives
@@ -118,7 +110,7 @@ shape_of-passes c = c.loop-a.invariant.1.sized
 
 pub returns : goal.returns
 returns c =
-    let over = (read_heads c.requires.directives_read).arrays_are in
+    let over = c.arrays-a-end.ensures in
     record {
       gives_after = replacing_end c.loop-a.invariant.0 (omega (arith, over));
       passes_after = replacing_end c.loop-a.invariant.1 (omega (arith, over));

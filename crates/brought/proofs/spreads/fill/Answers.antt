@@ -5,15 +5,14 @@ use native.Mathlib.Nat.{le_refl}
 use native.Mathlib.Omega.{arith}
 use Rattle.flow.proofs.Cells.{rows_none, rows_next, rows_all}
 use Rattle.directives.specs.Layout.{vertices}
-use Rattle.directives.proofs.Limits.{read_heads}
 use Rattle.brought.proofs.spreads.fill.Goals as goal
 use Rattle.brought.proofs.spreads.fill.Invariants.{gives_at, passes_at}
 use Rattle.brought.proofs.spreads.fill.Goals.{In-loop-v}
 
 -- what holds in a turn
 module _ (c : In-loop-v) where
-  in_v : c.loop-v.v < vertices c.args.file.now
-  in_v = omega (arith, (read_heads c.requires.directives_read).vertices_are)
+  in_v : c.loop-v.v < vertices c.args.directives.now.bytes
+  in_v = omega (arith, c.vertices-v-end.ensures)
 
 pub loop-v-init : goal.loop-v-init
 loop-v-init c = (omega arith, rows_none (le_refl 8) _ _ c.requires.gives_len, rows_none (le_refl 8) _ _ c.requires.passes_len)
@@ -21,19 +20,15 @@ loop-v-init c = (omega arith, rows_none (le_refl 8) _ _ c.requires.gives_len, ro
 pub fill_row-requires : goal.fill_row-requires
 fill_row-requires c =
     record {
-      directives_read = c.requires.directives_read;
       v_bound = in_v (goal.at.fill_row-requires c).In-loop-v;
       reached = c.requires.reached;
       gives_len = c.loop-v.invariant.1.size;
       passes_len = c.loop-v.invariant.2.size;
     }
 
-pub overflow_add-v : goal.overflow_add-v
-overflow_add-v c = omega (arith, in_v (goal.at.overflow_add-v c).In-loop-v, (read_heads c.requires.directives_read).limits.few_vertices)
-
 pub loop-v-preserved : goal.loop-v-preserved
 loop-v-preserved c =
-    let file = c.args.file.now in (
+    let file = c.args.directives.now.bytes in (
       omega arith,
       rows_next (le_refl 8) (gives_at file c.args.t) c.args.gives.now c.loop-v.v (in_v (goal.at.loop-v-preserved c).In-loop-v) c.loop-v.invariant.1 c.fill_row.ensures.gives_after,
       rows_next (le_refl 8) (passes_at file c.args.t) c.args.passes.now c.loop-v.v (in_v (goal.at.loop-v-preserved c).In-loop-v) c.loop-v.invariant.2 c.fill_row.ensures.passes_after,
@@ -47,8 +42,8 @@ shape_of-passes c = c.loop-v.invariant.2.size ∙ sym c.requires.passes_len
 
 pub returns : goal.returns
 returns c =
-    let file = c.args.file.now in
-    let all : vertices file ≤ c.loop-v.v = omega (arith, (read_heads c.requires.directives_read).vertices_are) in
+    let file = c.args.directives.now.bytes in
+    let all : vertices file ≤ c.loop-v.v = omega (arith, c.vertices-v-end.ensures) in
     record {
       cells = rows_all (le_refl 8) (gives_at file c.args.t) c.args.gives.now c.loop-v.v all c.loop-v.invariant.1;
       cells_2 = rows_all (le_refl 8) (passes_at file c.args.t) c.args.passes.now c.loop-v.v all c.loop-v.invariant.2;

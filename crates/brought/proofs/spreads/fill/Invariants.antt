@@ -1,6 +1,6 @@
 -- `spreads::fill` meets its contract: row after row both tables are filled.
 use mathlib.Core.List.{List}
-use Prim.Native.Nat.{ℕ, ◌-◌, ◌≤◌}
+use Prim.Native.Nat.{ℕ, ◌≤◌}
 use Rattle.flow.specs.Cells.{Cells}
 use Rattle.flow.proofs.Cells.{rows_to}
 use Rattle.directives.specs.Layout.{vertices}
@@ -15,9 +15,6 @@ abbrev pub passes_at : List ℕ → ℕ → ℕ → ℕ → ℕ
 passes_at file t c v = spread_halves file t v
 
 abbrev pub invariant-loop-v : goal.invariant-loop-v
-invariant-loop-v l = (l.v ≤ l.n)
-    × Cells 8 (vertices l.file) (rows_to (gives_at l.file l.t) l.initial.gives l.v) l.gives
-    × Cells 8 (vertices l.file) (rows_to (passes_at l.file l.t) l.initial.passes l.v) l.passes
-
-abbrev pub decreases-loop-v : goal.decreases-loop-v
-decreases-loop-v l = l.n - l.v
+invariant-loop-v l = (l.v ≤ l.v-end)
+    × Cells 8 (vertices l.directives.bytes) (rows_to (gives_at l.directives.bytes l.t) l.initial.gives l.v) l.gives
+    × Cells 8 (vertices l.directives.bytes) (rows_to (passes_at l.directives.bytes l.t) l.initial.passes l.v) l.passes

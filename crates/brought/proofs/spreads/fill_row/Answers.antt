@@ -3,7 +3,7 @@ use mathlib.Core.Path.{refl, ap, ◌∙◌}
 use Prim.Native.Nat.{◌<◌}
 use native.Mathlib.Omega.{arith}
 use Rattle.words.proofs.Replaced.{replacing_begin, replacing_next, replacing_end}
-use Rattle.directives.proofs.Limits.{read_heads}
+use Rattle.directives.proofs.Limits.{read_limits}
 use Rattle.mappings.specs.Computed.{redistributes}
 use Rattle.brought.proofs.SpreadRows.{spread_gives_lem, spread_passes_lem}
 use Rattle.brought.proofs.spreads.fill_row.Goals as goal
@@ -12,21 +12,17 @@ use Rattle.brought.proofs.spreads.fill_row.Goals.{In-loop-c}
 -- what holds in a turn
 module _ (c : In-loop-c) where
   small : c.args.v < 256
-  small = omega (arith, c.requires.v_bound, (read_heads c.requires.directives_read).limits.few_vertices)
+  small = omega (arith, c.requires.v_bound, (read_limits c.args.directives.now).few_vertices)
 
-pub at-requires : goal.at-requires
-at-requires c =
-    record {
-      heads = read_heads c.requires.directives_read;
-      v_bound = c.requires.v_bound;
-    }
+pub directive-requires : goal.directive-requires
+directive-requires c = c.requires.v_bound
 
 pub is_reached-requires : goal.is_reached-requires
 is_reached-requires c =
     record {
       reached = c.requires.reached;
       v_bound = c.requires.v_bound;
-      v_bound_2 = omega (arith, c.requires.v_bound, (read_heads c.requires.directives_read).limits.few_vertices);
+      v_bound_2 = omega (arith, c.requires.v_bound, (read_limits c.args.directives.now).few_vertices);
     }
 
 pub loop-c-init : goal.loop-c-init
@@ -53,10 +49,10 @@ bounds-passes-at c = omega (arith, c.requires.v_bound, c.requires.passes_len, c.
 pub loop-c-preserved : goal.loop-c-preserved
 loop-c-preserved c =
     let a = c.args in
-    let is = c.redistributes.ensures ∙ ap (redistributes a.t) c.at.ensures in (
+    let is = c.redistributes.ensures ∙ ap (redistributes a.t) c.directive.ensures in (
       replacing_next c.loop-c.invariant.0 c.loop-c-test.true refl
-          (spread_gives_lem a.file.now a.t a.v is c.loop-c.c c.is_reached.ensures c.single-set.ensures c.set_if.ensures),
-      replacing_next c.loop-c.invariant.1 c.loop-c-test.true refl (spread_passes_lem a.file.now a.t a.v is c.every_if.ensures),
+          (spread_gives_lem a.directives.now.bytes a.t a.v is c.loop-c.c c.is_reached.ensures c.single-set.ensures c.only_if.ensures),
+      replacing_next c.loop-c.invariant.1 c.loop-c-test.true refl (spread_passes_lem a.directives.now.bytes a.t a.v is c.every_if.ensures),
     )
 
 pub shape_of-gives : goal.shape_of-gives

@@ -2,7 +2,7 @@
 use mathlib.Core.Path.{sym, ◌∙◌}
 use Prim.Native.Nat.{◌<◌}
 use native.Mathlib.Omega.{arith}
-use Rattle.directives.proofs.Limits.{read_heads}
+use Rattle.directives.proofs.Limits.{read_limits}
 use Rattle.brought.proofs.SpreadRows.{spreads_begin, spreads_end}
 use Rattle.brought.proofs.spreads.solve.Goals as goal
 use Rattle.brought.proofs.spreads.solve.Goals.{In-loop-t}
@@ -10,7 +10,7 @@ use Rattle.brought.proofs.spreads.solve.Goals.{In-loop-t}
 -- what holds in a turn
 module _ (c : In-loop-t) where
   small : c.loop-t.t < 8
-  small = let heads = read_heads c.requires.directives_read in omega (arith, c.loop-t-test.true, heads.templates_are, heads.limits.few_templates)
+  small = omega (arith, c.loop-t-test.true, c.templates-t-end.ensures, (read_limits c.args.directives.now).few_templates)
 
 pub loop-t-init : goal.loop-t-init
 loop-t-init c = (omega arith, spreads_begin c.requires.spreads_len, c.requires.sets_len, c.requires.gives_len, c.requires.passes_len, c.requires.halves_len)
@@ -19,7 +19,6 @@ pub solve_template-requires : goal.solve_template-requires
 solve_template-requires c =
     let inv = c.loop-t.invariant in
     record {
-      directives_read = c.requires.directives_read;
       edge_order = c.requires.edge_order;
       reached = c.requires.reached;
       spreads_to = inv.1;
@@ -28,9 +27,6 @@ solve_template-requires c =
       passes_len = inv.4;
       halves_len = inv.5;
     }
-
-pub overflow_add-t : goal.overflow_add-t
-overflow_add-t c = omega (arith, small (goal.at.overflow_add-t c).In-loop-t)
 
 pub loop-t-smaller : goal.loop-t-smaller
 loop-t-smaller c = omega (arith, c.loop-t-test.true)
@@ -62,4 +58,4 @@ pub shape_of-halves : goal.shape_of-halves
 shape_of-halves c = c.loop-t.invariant.5 ∙ sym c.requires.halves_len
 
 pub returns : goal.returns
-returns c = spreads_end c.requires.directives_read (omega (arith, c.loop-t-test.false, (read_heads c.requires.directives_read).templates_are)) c.loop-t.invariant.1
+returns c = spreads_end c.args.directives.now (omega (arith, c.loop-t-test.false, c.templates-t-end.ensures)) c.loop-t.invariant.1

@@ -8,11 +8,11 @@ use Rattle.calls.proofs.Written.{firsts_few}
 use Rattle.calls.proofs.edges.first_of.Goals as goal
 use Rattle.calls.proofs.edges.first_of.Goals.{Start}
 
-is : (s : Start) → get_or s.args.firsts.now s.args.v 0 ≡ first_vertex_of s.args.file.now s.args.v
+is : (s : Start) → get_or s.args.firsts.now s.args.v 0 ≡ first_vertex_of s.args.routine.now.bytes s.args.v
 is s = s.requires.firsts.are s.args.v s.requires.v_bound
 
 few : (s : Start) → get_or s.args.firsts.now s.args.v 0 ≤ 256
-few s = omega (arith, is s, firsts_few s.args.file.now s.requires.file_bound s.args.v s.requires.v_bound)
+few s = omega (arith, is s, firsts_few s.args.routine.now.bytes s.requires.file_bound s.args.v s.requires.v_bound)
 
 pub overflow_cast-result : goal.overflow_cast-result
 overflow_cast-result c = record { fits = omega (arith, few (goal.at.overflow_cast-result c).Start) }

@@ -6,4 +6,4 @@ use Rattle.calls.proofs.Written.{leaves_tell}
 use Rattle.calls.proofs.edges.leaves.Goals as goal
 
 pub returns : goal.returns
-returns c = leaves_tell c.args.file.now c.args.i c.args.v c.at.result.from (omega (arith, c.if-i-h.false, c.requires.heads.edges_are)) (ap (λ (e : Edge). e.from) c.at.ensures)
+returns c = leaves_tell c.args.routine.now.bytes c.args.i c.args.v c.edge.result.from (omega (arith, c.if-i-edges.false, c.edges.ensures)) (ap (λ (e : Edge). e.from) c.edge.ensures)

@@ -7,7 +7,7 @@ use Rattle.calls.specs.Writing.{edges_up_to, Placed}
 use Rattle.calls.proofs.edges.write.Given as goal
 
 abbrev pub invariant-loop-p : goal.invariant-loop-p
-invariant-loop-p l = Placed l.file l.p × Front l.initial.out (edges_bytes (edges_up_to l.file l.p.vertex l.p.edge)) l.out
+invariant-loop-p l = Placed l.routine.bytes l.p × Front l.initial.out (edges_bytes (edges_up_to l.routine.bytes l.p.vertex l.p.edge)) l.out
 
 abbrev pub decreases-loop-p : goal.decreases-loop-p
-decreases-loop-p l = vertices l.file + edges l.file - (l.p.vertex + l.p.edge)
+decreases-loop-p l = vertices l.routine.bytes + edges l.routine.bytes - (l.p.vertex + l.p.edge)

@@ -21,26 +21,26 @@ use Rattle.calls.proofs.expanded.write.Goals.{After-actions_at-at, After-write, 
 
 -- ---- where each part stands
 
-can : (s : Start) → Expandable s.args.file.now
-can s = record { well = s.requires.read_as.well; interfaces = s.requires.interfaces; few_edges = s.requires.file_bound; few_vertices = s.requires.file_bound_2 }
+can : (s : Start) → Expandable s.args.routine.now.bytes
+can s = record { well = s.args.routine.now.well; interfaces = s.requires.interfaces; few_edges = s.requires.file_bound; few_vertices = s.requires.file_bound_2 }
 
 abbrev old : Start → List ℕ
 old s = s.args.out.now
 
 abbrev edges_from : After-actions_at-at → ℕ
-edges_from c = c.actions_at-at.result + c.args.vertices * c.args.h.arrays
+edges_from c = c.actions_at-at.result + c.args.vertices * c.arrays-arrays.result
 
-rows_place : (c : After-actions_at-at) → c.actions_at-at.result ≡ 18 + 4 * arrays c.args.file.now
-rows_place c = omega (arith, c.actions_at-at.ensures, c.requires.read_as.heads.arrays_are)
+rows_place : (c : After-actions_at-at) → c.actions_at-at.result ≡ 18 + 4 * arrays c.args.routine.now.bytes
+rows_place c = omega (arith, c.actions_at-at.ensures, c.arrays-arrays.ensures)
 
-row_bytes_lem : (s : Start) → s.args.vertices * s.args.h.arrays ≡ expanded_vertices s.args.file.now * arrays s.args.file.now
-row_bytes_lem s = ap₂ ◌*◌ s.requires.vertices_value s.requires.read_as.heads.arrays_are
+row_bytes_lem : (c : After-actions_at-at) → c.args.vertices * c.arrays-arrays.result ≡ expanded_vertices c.args.routine.now.bytes * arrays c.args.routine.now.bytes
+row_bytes_lem c = ap₂ ◌*◌ c.requires.vertices_value c.arrays-arrays.ensures
 
-room : (c : After-actions_at-at) → edges_from c + 4 * length (expanded_edges c.args.file.now) ≤ length (old (goal.at.After-actions_at-at c).Start)
-room c = omega (arith, rows_place c, row_bytes_lem (goal.at.After-actions_at-at c).Start, expanded_size (can (goal.at.After-actions_at-at c).Start), c.requires.file_in_bounds)
+room : (c : After-actions_at-at) → edges_from c + 4 * length (expanded_edges c.args.routine.now.bytes) ≤ length (old (goal.at.After-actions_at-at c).Start)
+room c = omega (arith, rows_place c, row_bytes_lem c, expanded_size (can (goal.at.After-actions_at-at c).Start), c.requires.file_in_bounds)
 
 small : (c : After-actions_at-at) → edges_from c ≤ 6866
-small c = omega (arith, rows_place c, row_bytes_lem (goal.at.After-actions_at-at c).Start, size_few (can (goal.at.After-actions_at-at c).Start))
+small c = omega (arith, rows_place c, row_bytes_lem c, size_few (can (goal.at.After-actions_at-at c).Start))
 
 pub overflow_mul-edges_at : goal.overflow_mul-edges_at
 overflow_mul-edges_at c = record { fits = omega (arith, small (goal.at.overflow_mul-edges_at c).After-actions_at-at) }
@@ -58,7 +58,6 @@ slice_bounds-write-start c = slice_bounds-write-count c
 pub write-count-requires : goal.write-count-requires
 write-count-requires c =
     record {
-      read_as = c.requires.read_as;
       firsts = c.requires.firsts;
       file_bound = c.requires.file_bound_2;
       file_in_bounds = omega (arith, room (goal.at.write-count-requires c).After-actions_at-at, part_length (old (goal.at.write-count-requires c).Start) (edges_from (goal.at.write-count-requires c).After-actions_at-at));
@@ -71,7 +70,7 @@ with_edges c =
 
 edges-length : (c : After-write-count) → length (with_edges c) ≡ length (old (goal.at.After-write-count c).Start)
 edges-length c =
-    let es = expanded_edges c.args.file.now in
+    let es = expanded_edges c.args.routine.now.bytes in
     lent_length (old (goal.at.After-write-count c).Start) c.write-count.new.out (edges_from (goal.at.After-write-count c).After-actions_at-at) (omega (arith, room (goal.at.After-write-count c).After-actions_at-at))
     (wrote-length (part_from (old (goal.at.After-write-count c).Start) (edges_from (goal.at.After-write-count c).After-actions_at-at)) (edges_bytes es) c.write-count.ensures.out_after (omega (arith, edges_size es, room (goal.at.After-write-count c).After-actions_at-at, part_length (old (goal.at.After-write-count c).Start) (edges_from (goal.at.After-write-count c).After-actions_at-at))))
 
@@ -79,10 +78,10 @@ abbrev counts : ℕ → ℕ → ℕ → Header
 counts a v e = record { arrays = a; vertices = v; edges = e }
 
 header : (c : After-write-count) →
-    counts c.args.h.arrays c.args.vertices c.write-count.result ≡ expanded_header c.args.file.now
+    counts c.arrays-arrays.result c.args.vertices c.write-count.result ≡ expanded_header c.args.routine.now.bytes
 header c =
-    ap (λ (a : ℕ). counts a c.args.vertices c.write-count.result) c.requires.read_as.heads.arrays_are
-    ∙ ap₂ (counts (arrays c.args.file.now)) c.requires.vertices_value c.write-count.ensures.value
+    ap (λ (a : ℕ). counts a c.args.vertices c.write-count.result) c.arrays-arrays.ensures
+    ∙ ap₂ (counts (arrays c.args.routine.now.bytes)) c.requires.vertices_value c.write-count.ensures.value
 
 -- ---- the rows
 pub slice_bounds-write-count-2 : goal.slice_bounds-write-count-2
@@ -94,11 +93,10 @@ slice_bounds-write-start-2 c = slice_bounds-write-count-2 c
 pub write-requires : goal.write-requires
 write-requires c =
     record {
-      read_as = c.requires.read_as;
       arrivals = c.requires.arrivals;
       firsts = c.requires.firsts;
       file_bound = c.requires.file_bound_2;
-      file_in_bounds = omega (arith, room (goal.at.write-requires c).After-actions_at-at, row_bytes_lem (goal.at.write-requires c).Start, edges-length (goal.at.write-requires c).After-write-count, part_length (with_edges (goal.at.write-requires c).After-write-count) c.actions_at-at.result);
+      file_in_bounds = omega (arith, room (goal.at.write-requires c).After-actions_at-at, row_bytes_lem (goal.at.write-requires c).After-actions_at-at, edges-length (goal.at.write-requires c).After-write-count, part_length (with_edges (goal.at.write-requires c).After-write-count) c.actions_at-at.result);
     }
 
 abbrev with_rows : After-write → List ℕ
@@ -109,29 +107,29 @@ with_rows c =
 
 rows-length : (c : After-write) → length (with_rows c) ≡ length (old (goal.at.After-write c).Start)
 rows-length c =
-    let file = c.args.file.now in
+    let file = c.args.routine.now.bytes in
     let here = part_length (with_edges (goal.at.After-write c).After-write-count) c.actions_at-at.result in
     lent_length (with_edges (goal.at.After-write c).After-write-count) c.write.new.out c.actions_at-at.result (omega (arith, room (goal.at.After-write c).After-actions_at-at, edges-length (goal.at.After-write c).After-write-count))
     (wrote-length (part_from (with_edges (goal.at.After-write c).After-write-count) c.actions_at-at.result) (rows (expanded_row file) (expanded_vertices file)) c.write.ensures
-    (omega (arith, rows_size file c.requires.read_as.well.laid, row_bytes_lem (goal.at.After-write c).Start, room (goal.at.After-write c).After-actions_at-at, edges-length (goal.at.After-write c).After-write-count, here)))
+    (omega (arith, rows_size file c.args.routine.now.well.laid, row_bytes_lem (goal.at.After-write c).After-actions_at-at, room (goal.at.After-write c).After-actions_at-at, edges-length (goal.at.After-write c).After-write-count, here)))
     ∙ edges-length (goal.at.After-write c).After-write-count
 
 -- ---- contents and array records
 pub write_head-requires : goal.write_head-requires
 write_head-requires c =
     record {
-      limits = subst Limits (sym (header (goal.at.write_head-requires c).After-write-count ∙ header_is (can (goal.at.write_head-requires c).Start))) (expanded_formed c.args.file.now (can (goal.at.write_head-requires c).Start)).laid.limits;
-      arrays_in_bounds = omega (arith, c.requires.read_as.well.laid.ends, c.requires.read_as.heads.arrays_are);
-      arrays_in_bounds_2 = omega (arith, rows-length (goal.at.write_head-requires c).After-write, room (goal.at.write_head-requires c).After-actions_at-at, rows_place (goal.at.write_head-requires c).After-actions_at-at, c.requires.read_as.heads.arrays_are);
+      limits = subst Limits (sym (header (goal.at.write_head-requires c).After-write-count ∙ header_is (can (goal.at.write_head-requires c).Start))) (expanded_formed c.args.routine.now.bytes (can (goal.at.write_head-requires c).Start)).laid.limits;
+      arrays_same = c.arrays-arrays.ensures;
+      in_bounds = omega (arith, rows-length (goal.at.write_head-requires c).After-write, room (goal.at.write_head-requires c).After-actions_at-at, rows_place (goal.at.write_head-requires c).After-actions_at-at, c.arrays-arrays.ensures);
     }
 
 pub returns : goal.returns
 returns c =
-    let file = c.args.file.now in
+    let file = c.args.routine.now.bytes in
     let front = head_bytes file (expanded_header file) in
     let middle = rows (expanded_row file) (expanded_vertices file) in
     let at : c.actions_at-at.result ≡ length front = rows_place (goal.at.returns c).After-actions_at-at ∙ sym (head_size (can (goal.at.returns c).Start)) in
-    let edges_at_lem : edges_from (goal.at.returns c).After-actions_at-at ≡ length (front ++ middle) = omega (arith, at, row_bytes_lem (goal.at.returns c).Start, length-append front middle, rows_size file c.requires.read_as.well.laid) in
+    let edges_at_lem : edges_from (goal.at.returns c).After-actions_at-at ≡ length (front ++ middle) = omega (arith, at, row_bytes_lem (goal.at.returns c).After-actions_at-at, length-append front middle, rows_size file c.args.routine.now.well.laid) in
     record {
       value = header (goal.at.returns c).After-write-count ∙ header_is (can (goal.at.returns c).Start);
       out_after = c.write_head.ensures

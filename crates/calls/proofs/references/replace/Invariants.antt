@@ -1,5 +1,5 @@
 -- `references::replace` meets its contract: bytes are replaced one after the other.
-use Prim.Native.Nat.{◌+◌, ◌-◌}
+use Prim.Native.Nat.{◌+◌}
 use lib.ListN.{get_or}
 use Rattle.words.proofs.Replaced.{Replacing}
 use Rattle.calls.specs.Referring.{referring_byte}
@@ -7,6 +7,3 @@ use Rattle.calls.proofs.references.replace.Given as goal
 
 abbrev pub invariant-loop-i : goal.invariant-loop-i
 invariant-loop-i l = Replacing l.initial.out l.at (λ j. referring_byte (get_or l.file (l.at + j) 0)) l.n l.out l.i
-
-abbrev pub decreases-loop-i : goal.decreases-loop-i
-decreases-loop-i l = l.n - l.i

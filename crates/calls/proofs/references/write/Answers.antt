@@ -1,5 +1,5 @@
 -- `references::write` meets its contract: the file is copied, then its action bytes are replaced.
-use mathlib.Core.Path.{◌≡◌, ap, ap₂, ◌∙◌}
+use mathlib.Core.Path.{◌≡◌, sym, ap, ap₂, ◌∙◌}
 use mathlib.Core.List.{List, ◌++◌, append-nil}
 use Prim.Native.Nat.{ℕ, ◌*◌}
 use native.Mathlib.Omega.{arith}
@@ -14,22 +14,22 @@ copied : (s old : List ℕ) → length old ≡ length s → s ++ drop (length s)
 copied s old sized = ap (λ (l : List ℕ). s ++ l) (drop_of_length-le old {i = length s} (omega arith)) ∙ append-nil s
 
 -- so the file stands in `out`
-copies : (c : After-copy) → c.copy.new.to ≡ c.args.file.now
-copies c = c.copy.ensures.out_after ∙ copied c.args.file.now c.args.out.now c.requires.out_len
+copies : (c : After-copy) → c.copy.new.to ≡ c.args.routine.now.bytes
+copies c = rw (c.copy.ensures.out_after, c.bytes-file.ensures) (copied c.args.routine.now.bytes c.args.out.now c.requires)
 
 pub overflow_mul-h : goal.overflow_mul-h
-overflow_mul-h c = omega (arith, few_actions (header_limits c.requires.heads))
+overflow_mul-h c = omega (arith, few_actions (header_limits c.header-h.ensures.read.heads))
 
 pub replace-requires : goal.replace-requires
 replace-requires c =
-    let is = c.requires.heads in
+    let is = c.header-h.ensures.read.heads in
     record {
-      n_in_bounds = omega (arith, c.actions_at.ensures, ap₂ ◌*◌ is.vertices_are is.arrays_are, is.arrays_are, is.laid.ends);
-      out_len = ap length (copies (goal.at.replace-requires c).After-copy);
+      n_in_bounds = omega (arith, c.actions_at.ensures, ap₂ ◌*◌ is.vertices_are is.arrays_are, is.arrays_are, is.laid.ends, ap length c.bytes-file.ensures);
+      out_len = ap length (copies (goal.at.replace-requires c).After-copy ∙ sym c.bytes-file.ensures);
     }
 
 pub returns : goal.returns
 returns c =
-    let is = c.requires.heads in
-    rw (c.replace.ensures, copies (goal.at.returns c).After-copy, c.actions_at.ensures, is.vertices_are, is.arrays_are)
-    (replaced_is c.args.file.now is.laid)
+    let is = c.header-h.ensures.read.heads in
+    rw (c.replace.ensures, copies (goal.at.returns c).After-copy, c.bytes-file.ensures, c.actions_at.ensures, is.vertices_are, is.arrays_are)
+    (replaced_is c.args.routine.now.bytes is.laid)

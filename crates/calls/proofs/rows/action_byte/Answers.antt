@@ -1,26 +1,19 @@
--- `rows::action_byte` meets its contract: the byte stands before the edges.
-use mathlib.Core.Path.{◌≡◌, ap}
-use Prim.Native.Nat.{ℕ, ◌+◌, ◌*◌}
+-- `rows::action_byte` meets its contract: it is a byte of the row.
+use mathlib.Core.Path.{ap, ◌∙◌}
+use Prim.Native.Nat.{ℕ}
 use native.Mathlib.Omega.{arith}
-use lib.ListN.{get_or}
-use Rattle.routine.specs.Layout.{action_at}
-use Rattle.routine.proofs.Form.{action_place}
+use lib.ListN.{length}
+use Rattle.routine.specs.Actions.{action_byte}
+use Rattle.routine.specs.Layout.{arrays}
+use Rattle.words.proofs.Tables.{table-length, table_at}
 use Rattle.calls.proofs.rows.action_byte.Goals as goal
+use Rattle.calls.proofs.rows.action_byte.Goals.{Start}
 
-pub overflow_mul-at : goal.overflow_mul-at
-overflow_mul-at c = omega (arith, action_place c.requires.read_as.heads c.requires.v_bound c.requires.a_bound)
+abbrev byte : Start → ℕ → ℕ
+byte s a = action_byte s.args.routine.now.bytes a s.args.v
 
-pub overflow_add-at : goal.overflow_add-at
-overflow_add-at c = omega (arith, action_place c.requires.read_as.heads c.requires.v_bound c.requires.a_bound)
-
-pub overflow_add-at-2 : goal.overflow_add-at-2
-overflow_add-at-2 c = omega (arith, action_place c.requires.read_as.heads c.requires.v_bound c.requires.a_bound)
-
-pub bounds-file-at : goal.bounds-file-at
-bounds-file-at c = omega (arith, c.actions_at.ensures, action_place c.requires.read_as.heads c.requires.v_bound c.requires.a_bound)
+pub bounds-row-a : goal.bounds-row-a
+bounds-row-a c = omega (arith, c.requires.a_bound, ap length c.row.ensures ∙ table-length (byte (goal.at.bounds-row-a c).Start) (arrays c.args.routine.now.bytes))
 
 pub returns : goal.returns
-returns c =
-    let here : c.actions_at.result + c.args.v * c.args.h.arrays + c.args.a ≡ action_at c.args.file.now c.args.a c.args.v =
-    omega (arith, c.actions_at.ensures, action_place c.requires.read_as.heads c.requires.v_bound c.requires.a_bound) in
-    ap (λ (n : ℕ). get_or c.args.file.now n 0) here
+returns c = rw c.row.ensures (table_at (byte (goal.at.returns c).Start) (arrays c.args.routine.now.bytes) c.args.a c.requires.a_bound)

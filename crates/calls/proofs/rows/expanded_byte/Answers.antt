@@ -12,7 +12,7 @@ use Rattle.calls.proofs.rows.expanded_byte.Goals.{Start}
 
 -- the byte in each row
 abbrev expected : Start → Row → ℕ
-expected s row = expanded_byte s.args.file.now s.args.a (part_of row s.args.v)
+expected s row = expanded_byte s.args.routine.now.bytes s.args.a (part_of row s.args.v)
 
 -- a byte where the array is passed
 abbrev passed : ℕ → ℕ → ℕ

@@ -9,7 +9,7 @@ use Rattle.calls.proofs.rows.write.Goals as goal
 
 pub loop-v-init : goal.loop-v-init
 unfolding rows
-loop-v-init c = (begin _ _ _ (omega (arith, c.requires.file_in_bounds, all_length c.args.file.now)), refl)
+loop-v-init c = (begin _ _ _ (omega (arith, c.requires.file_in_bounds, all_length c.args.routine.now.bytes)), refl)
 
 pub slice_bounds-write_vertex-count : goal.slice_bounds-write_vertex-count
 slice_bounds-write_vertex-count c = lies c.loop-v.invariant.0 c.loop-v.invariant.1 (omega arith)
@@ -20,7 +20,6 @@ slice_bounds-write_vertex-start c = slice_bounds-write_vertex-count c
 pub write_vertex-at-requires : goal.write_vertex-at-requires
 write_vertex-at-requires c =
     record {
-      read_as = c.requires.read_as;
       arrivals = c.requires.arrivals;
       firsts = c.requires.firsts;
       file_bound = c.requires.file_bound;
@@ -41,4 +40,4 @@ pub shape_of-out : goal.shape_of-out
 shape_of-out c = buffer_length c.loop-v.invariant.0
 
 pub returns : goal.returns
-returns c = end c.loop-v.invariant.0 (omega arith) ∙ ap (wrote c.args.out.now) (all_by_vertex c.args.file.now)
+returns c = end c.loop-v.invariant.0 (omega arith) ∙ ap (wrote c.args.out.now) (all_by_vertex c.args.routine.now.bytes)

@@ -1,7 +1,6 @@
 -- `rows::write` meets its contract. The invariant: the rows of the vertices before v are written, and `at` is how long these are. The
 -- measure is what is left. Assumes nothing.
 use mathlib.Core.Path.{◌≡◌}
-use Prim.Native.Nat.{◌-◌}
 use lib.ListN.{length}
 use Rattle.routine.specs.Layout.{vertices}
 use Rattle.words.specs.Tables.{rows}
@@ -10,7 +9,4 @@ use Rattle.calls.specs.VertexRows.{vertex_rows}
 use Rattle.calls.proofs.rows.write.Given as goal
 
 abbrev pub invariant-loop-v : goal.invariant-loop-v
-invariant-loop-v l = Filled (vertex_rows l.file) (vertices l.file) l.initial.out l.v l.out × (l.at ≡ length (rows (vertex_rows l.file) l.v))
-
-abbrev pub decreases-loop-v : goal.decreases-loop-v
-decreases-loop-v l = l.n - l.v
+invariant-loop-v l = Filled (vertex_rows l.routine.bytes) (vertices l.routine.bytes) l.initial.out l.v l.out × (l.at ≡ length (rows (vertex_rows l.routine.bytes) l.v))

@@ -9,23 +9,22 @@ use Rattle.calls.proofs.rows.write_row.Goals as goal
 
 pub loop-a-init : goal.loop-a-init
 loop-a-init c =
-    let file = c.args.file.now in
+    let file = c.args.routine.now.bytes in
     begin _ _ _ (omega (arith, c.requires.file_in_bounds, table-length (λ a. expanded_byte file a (part_of c.args.row c.args.v)) (arrays file)))
 
 pub expanded_byte-requires : goal.expanded_byte-requires
 expanded_byte-requires c =
     record {
-      read_as = c.requires.read_as;
       arrivals = c.requires.arrivals;
       v_bound = c.requires.v_bound;
-      a_bound = omega (arith, c.loop-a-test.true, c.requires.read_as.heads.arrays_are);
+      a_bound = omega (arith, c.loop-a-test.true, c.arrays-a-end.ensures);
     }
 
 pub bounds-out-a : goal.bounds-out-a
-bounds-out-a c = omega (arith, buffer_length c.loop-a.invariant, c.requires.read_as.heads.arrays_are, c.requires.file_in_bounds)
+bounds-out-a c = omega (arith, buffer_length c.loop-a.invariant, c.arrays-a-end.ensures, c.requires.file_in_bounds)
 
 pub loop-a-preserved : goal.loop-a-preserved
-loop-a-preserved c = next_byte c.loop-a.invariant (omega (arith, c.requires.read_as.heads.arrays_are)) c.expanded_byte.ensures
+loop-a-preserved c = next_byte c.loop-a.invariant (omega (arith, c.arrays-a-end.ensures)) c.expanded_byte.ensures
 
 pub shape_of-out : goal.shape_of-out
 shape_of-out c = buffer_length c.loop-a.invariant

@@ -10,42 +10,40 @@ use Rattle.calls.proofs.rows.write_vertex.Goals as goal
 use Rattle.calls.proofs.rows.write_vertex.Goals.{Else-call, Then-call}
 
 -- what vertex v becomes, where it is a call
-call : (c : Then-call) → vertex_rows c.args.file.now c.args.v ≡ call_rows c.args.file.now c.args.v
+call : (c : Then-call) → vertex_rows c.args.routine.now.bytes c.args.v ≡ call_rows c.args.routine.now.bytes c.args.v
 call c =
-    call_rows_are c.args.file.now c.args.v (sym c.is_call-call.ensures ∙ c.if-call.true)
+    call_rows_are c.args.routine.now.bytes c.args.v (sym c.is_call-call.ensures ∙ c.if-call.true)
 
 -- and where it is none
-other : (c : Else-call) → vertex_rows c.args.file.now c.args.v ≡ part_row c.args.file.now (plain c.args.v)
+other : (c : Else-call) → vertex_rows c.args.routine.now.bytes c.args.v ≡ part_row c.args.routine.now.bytes (plain c.args.v)
 other c =
-    plain_row c.args.file.now c.args.v (sym c.is_call-call.ensures ∙ c.if-call.false)
+    plain_row c.args.routine.now.bytes c.args.v (sym c.is_call-call.ensures ∙ c.if-call.false)
 
 pub write_call-requires : goal.write_call-requires
 write_call-requires c =
     record {
-      read_as = c.requires.read_as;
       arrivals = c.requires.arrivals;
       v_bound = c.requires.v_bound;
-      file_in_bounds = omega (arith, c.requires.v_in_bounds, ap length (call (goal.at.write_call-requires c).Then-call), call_length c.args.file.now c.args.v);
+      file_in_bounds = omega (arith, c.requires.v_in_bounds, ap length (call (goal.at.write_call-requires c).Then-call), call_length c.args.routine.now.bytes c.args.v);
     }
 
 pub returns-then-call : goal.returns-then-call
 returns-then-call c =
     record {
-      value = omega (arith, ap length (call (goal.at.returns-then-call c).Then-call), call_length c.args.file.now c.args.v, c.requires.read_as.heads.arrays_are);
+      value = omega (arith, ap length (call (goal.at.returns-then-call c).Then-call), call_length c.args.routine.now.bytes c.args.v, c.arrays.ensures);
       out_after = c.write_call.ensures ∙ sym (ap (wrote c.args.out.now) (call (goal.at.returns-then-call c).Then-call));
     }
 
 pub write_plain-requires : goal.write_plain-requires
 write_plain-requires c =
     record {
-      read_as = c.requires.read_as;
       v_bound = c.requires.v_bound;
-      file_in_bounds = omega (arith, c.requires.v_in_bounds, ap length (other (goal.at.write_plain-requires c).Else-call), row_length c.args.file.now (plain c.args.v));
+      file_in_bounds = omega (arith, c.requires.v_in_bounds, ap length (other (goal.at.write_plain-requires c).Else-call), row_length c.args.routine.now.bytes (plain c.args.v));
     }
 
 pub returns : goal.returns
 returns c =
     record {
-      value = omega (arith, ap length (other (goal.at.returns c).Else-call), row_length c.args.file.now (plain c.args.v), c.requires.read_as.heads.arrays_are);
+      value = omega (arith, ap length (other (goal.at.returns c).Else-call), row_length c.args.routine.now.bytes (plain c.args.v), c.arrays-2.ensures);
       out_after = c.write_plain.ensures ∙ sym (ap (wrote c.args.out.now) (other (goal.at.returns c).Else-call));
     }

@@ -14,8 +14,8 @@ use Rattle.converted.proofs.Parts.{Counted, rows_place, edges_place, put, counte
 use Rattle.converted.proofs.writer.write.Goals as goal
 use Rattle.converted.proofs.writer.write.Goals.{After-edges_at-edges_at, After-header_of-r, After-write_arrays, After-write_head, After-write_rows, Start}
 
-file_counts : (c : After-header_of-r) → Counted c.args.file.now c.header_of-r.result
-file_counts c = counted c.requires.directives_read c.header_of-r.ensures
+file_counts : (c : After-header_of-r) → Counted c.args.directives.now.bytes c.header_of-r.result
+file_counts c = counted c.args.directives.now c.header_of-r.ensures
 
 pub actions_at-rows_at-requires : goal.actions_at-rows_at-requires
 actions_at-rows_at-requires c = (file_counts c).limits
@@ -27,22 +27,22 @@ abbrev old : Start → List ℕ
 old s = s.args.out.now
 
 abbrev head : Start → List ℕ
-head s = let file = s.args.file.now in head_bytes file (given_to file)
+head s = let file = s.args.directives.now.bytes in head_bytes file (given_to file)
 
 abbrev records : Start → List ℕ
-records s = let file = s.args.file.now in rows (array_bytes file (given_to file)) (arrays file)
+records s = let file = s.args.directives.now.bytes in rows (array_bytes file (given_to file)) (arrays file)
 
 abbrev actions : Start → List ℕ
-actions s = let file = s.args.file.now in rows (row_bytes file (given_to file)) (vertices file)
+actions s = let file = s.args.directives.now.bytes in rows (row_bytes file (given_to file)) (vertices file)
 
 rows_at : (c : After-edges_at-edges_at) → c.actions_at-rows_at.result ≡ length (head (goal.at.After-edges_at-edges_at c).Start ++ records (goal.at.After-edges_at-edges_at c).Start)
 rows_at c =
-    let file = c.args.file.now in
+    let file = c.args.directives.now.bytes in
     omega (arith, c.actions_at-rows_at.ensures, rows_place (file_counts (goal.at.After-edges_at-edges_at c).After-header_of-r), length-append (head (goal.at.After-edges_at-edges_at c).Start) (records (goal.at.After-edges_at-edges_at c).Start), records_size file (given_to file) (arrays file))
 
 edges_at_lem : (c : After-edges_at-edges_at) → c.edges_at-edges_at.result ≡ length ((head (goal.at.After-edges_at-edges_at c).Start ++ records (goal.at.After-edges_at-edges_at c).Start) ++ actions (goal.at.After-edges_at-edges_at c).Start)
 edges_at_lem c =
-    let file = c.args.file.now in
+    let file = c.args.directives.now.bytes in
     omega (
       arith,
       c.edges_at-edges_at.ensures,
@@ -54,11 +54,11 @@ edges_at_lem c =
     )
 
 -- what is to stand from each of them on lies in the buffer
-place_fits : (c : After-edges_at-edges_at) → let file = c.args.file.now in
+place_fits : (c : After-edges_at-edges_at) → let file = c.args.directives.now.bytes in
     (c.actions_at-rows_at.result + vertices file * arrays file ≤ length (old (goal.at.After-edges_at-edges_at c).Start)) × (c.edges_at-edges_at.result + 4 * edges file ≤ length (old (goal.at.After-edges_at-edges_at c).Start))
 place_fits c =
     let f = file_counts (goal.at.After-edges_at-edges_at c).After-header_of-r in
-    omega (arith, c.actions_at-rows_at.ensures, rows_place f, c.edges_at-edges_at.ensures, edges_place f, fits c.requires.directives_read, c.requires.in_bounds)
+    omega (arith, c.actions_at-rows_at.ensures, rows_place f, c.edges_at-edges_at.ensures, edges_place f, fits c.args.directives.now, c.requires.in_bounds)
 
 one : (c : After-write_head) → Front (old (goal.at.After-write_head c).Start) (head (goal.at.After-write_head c).Start) c.write_head.new.out
 one c = record { is = c.write_head.ensures }
@@ -66,9 +66,8 @@ one c = record { is = c.write_head.ensures }
 pub write_arrays-requires : goal.write_arrays-requires
 write_arrays-requires c =
     record {
-      directives_read = c.requires.directives_read;
       version_counts = c.requires.version_counts;
-      file_in_bounds = lends (one (goal.at.write_arrays-requires c).After-write_head) refl (omega (arith, fits c.requires.directives_read, c.requires.in_bounds));
+      file_in_bounds = lends (one (goal.at.write_arrays-requires c).After-write_head) refl (omega (arith, fits c.args.directives.now, c.requires.in_bounds));
     }
 
 abbrev with_records : After-write_arrays → List ℕ
@@ -87,7 +86,6 @@ slice_bounds-write_rows-start c = slice_bounds-write_rows-count c
 pub write_rows-requires : goal.write_rows-requires
 write_rows-requires c =
     record {
-      directives_read = c.requires.directives_read;
       single = c.requires.single;
       file_in_bounds = lends (two (goal.at.write_rows-requires c).After-write_arrays) (rows_at (goal.at.write_rows-requires c).After-edges_at-edges_at) (omega (arith, place_fits (goal.at.write_rows-requires c).After-edges_at-edges_at));
     }
@@ -109,7 +107,6 @@ slice_bounds-write_edges-start c = slice_bounds-write_edges-count c
 pub write_edges-requires : goal.write_edges-requires
 write_edges-requires c =
     record {
-      directives_read = c.requires.directives_read;
       file_in_bounds = lends (three (goal.at.write_edges-requires c).After-write_rows) (edges_at_lem (goal.at.write_edges-requires c).After-edges_at-edges_at) (omega (arith, place_fits (goal.at.write_edges-requires c).After-edges_at-edges_at));
     }
 
@@ -118,8 +115,8 @@ end_at-requires c = (file_counts (goal.at.end_at-requires c).After-header_of-r).
 
 pub returns : goal.returns
 returns c =
-    let file = c.args.file.now in
+    let file = c.args.directives.now.bytes in
     record {
-      value = c.end_at.ensures ∙ size_is c.requires.directives_read c.header_of-r.ensures;
+      value = c.end_at.ensures ∙ size_is c.args.directives.now c.header_of-r.ensures;
       out_after = (more (three (goal.at.returns c).After-write_rows) (edges_at_lem (goal.at.returns c).After-edges_at-edges_at) (edge_bytes file) c.write_edges.ensures).is ∙ ap (wrote (old (goal.at.returns c).Start)) (whole file);
     }

@@ -4,7 +4,7 @@ use mathlib.Core.List.{[], ◌∷◌}
 use Prim.Native.Nat.{ℕ, ◌*◌, ◌≤◌, ◌<◌}
 use native.Mathlib.Omega.{arith}
 use lib.ListN.{length}
-use Rattle.directives.proofs.Limits.{read_heads}
+use Rattle.directives.proofs.Limits.{read_limits}
 use Rattle.directives.specs.Layout.{arrays}
 use Rattle.mappings.proofs.Bytes.{records_size}
 use Rattle.mappings.specs.Computed.{given_to}
@@ -17,19 +17,18 @@ use Rattle.converted.proofs.writer.write_arrays.Goals.{At-loop-a, In-loop-a}
 
 pub loop-a-init : goal.loop-a-init
 loop-a-init c =
-    let file = c.args.file.now in
+    let file = c.args.directives.now.bytes in
     begin _ _ _ (omega (arith, c.requires.file_in_bounds, records_size file (given_to file) (arrays file)))
 
 -- where the record of array a is to stand
-here : (c : At-loop-a) → let file = c.args.file.now in
+here : (c : At-loop-a) → let file = c.args.directives.now.bytes in
     4 * c.loop-a.a ≡ length (rows (array_bytes file (given_to file)) c.loop-a.a)
-here c = let file = c.args.file.now in sym (records_size file (given_to file) c.loop-a.a)
+here c = let file = c.args.directives.now.bytes in sym (records_size file (given_to file) c.loop-a.a)
 
 -- array a is one of the file's
-listed : (c : In-loop-a) → (c.loop-a.a < arrays c.args.file.now) × (arrays c.args.file.now ≤ 8)
+listed : (c : In-loop-a) → (c.loop-a.a < arrays c.args.directives.now.bytes) × (arrays c.args.directives.now.bytes ≤ 8)
 listed c =
-    let heads = read_heads c.requires.directives_read in
-    omega (arith, c.loop-a-test.true, heads.arrays_are, heads.limits.few_arrays)
+    omega (arith, c.loop-a-test.true, c.arrays-a-end.ensures, (read_limits c.args.directives.now).few_arrays)
 
 pub overflow_mul-at : goal.overflow_mul-at
 overflow_mul-at c = omega (arith, listed c)
@@ -41,11 +40,7 @@ pub slice_bounds-write_record-start : goal.slice_bounds-write_record-start
 slice_bounds-write_record-start c = slice_bounds-write_record-count c
 
 pub kind-requires : goal.kind-requires
-kind-requires c =
-    record {
-      heads = read_heads c.requires.directives_read;
-      a_bound = (listed (goal.at.kind-requires c).In-loop-a).0;
-    }
+kind-requires c = (listed (goal.at.kind-requires c).In-loop-a).0
 
 pub bounds-counts-a : goal.bounds-counts-a
 bounds-counts-a c = omega (arith, listed (goal.at.bounds-counts-a c).In-loop-a, c.requires.version_counts.size)
@@ -65,4 +60,4 @@ pub shape_of-out : goal.shape_of-out
 shape_of-out c = buffer_length c.loop-a.invariant
 
 pub returns : goal.returns
-returns c = end c.loop-a.invariant (omega (arith, (read_heads c.requires.directives_read).arrays_are))
+returns c = end c.loop-a.invariant (omega (arith, c.arrays-a-end.ensures))

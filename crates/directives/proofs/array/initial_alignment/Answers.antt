@@ -5,4 +5,4 @@ use Rattle.directives.specs.Directives.{alignment_at}
 use Rattle.directives.proofs.array.initial_alignment.Goals as goal
 
 pub returns : goal.returns
-returns c = c.alignment_at.ensures ∙ ap (λ (at : ℕ). alignment_at c.args.file.now (at + 1)) c.place.ensures.value
+returns c = (rw (c.bytes.ensures) at c.alignment_at.ensures) ∙ ap (λ (at : ℕ). alignment_at c.args.laid.now.bytes (at + 1)) c.place.ensures.value

@@ -5,4 +5,4 @@ use lib.ListN.{get_or}
 use Rattle.directives.proofs.array.kind.Goals as goal
 
 pub returns : goal.returns
-returns c = c.byte_at.ensures.value ∙ ap (λ (at : ℕ). get_or c.args.file.now at 0) c.place.ensures.value
+returns c = c.byte_at.ensures.value ∙ ap (λ (at : ℕ). get_or c.args.laid.now.bytes at 0) c.place.ensures.value

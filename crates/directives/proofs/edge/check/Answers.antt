@@ -1,25 +1,26 @@
 -- `edge::check` meets its contract: from, to, order.
-use mathlib.Core.Path.{ap, ap₂, ◌∙◌}
-use mathlib.Core.Bool.{◌&&◌}
-use Prim.Native.Nat.{ℕ, ◌+◌, ◌-◌}
-use lib.Dec.{ltb}
-use Rattle.directives.specs.Fields.{in_order, rises, edge_fields_at, edge_fields}
-use Rattle.directives.proofs.Fields.{one, next}
+use mathlib.Core.Path.{sym, ◌∙◌}
+use Rattle.refusal.proofs.Checks.{exit_fails, passes, then_passed}
+use Rattle.directives.specs.Fields.{in_order, edge_fields}
 use Rattle.directives.proofs.edge.check.Goals as goal
 
+pub returns-in_err-check : goal.returns-in_err-check
+unfolding edge_fields in_order
+returns-in_err-check c =
+    rw (← c.place-from_at.ensures.value, ← c.word_at-from.ensures.value, ← c.vertices-vertices.ensures)
+    (exit_fails _ c.check.ensures c.in_err-check.was c.from_residual.ensures)
+
+pub returns-in_err-check-2 : goal.returns-in_err-check-2
+unfolding edge_fields in_order
+returns-in_err-check-2 c =
+    rw (← c.place-from_at.ensures.value, ← c.word_at-from.ensures.value, ← c.vertices-vertices.ensures, ← c.word_at-to.ensures.value)
+    (passes c.check.ensures c.in_ok-check.was
+    (exit_fails _ c.check-2.ensures c.in_err-check-2.was c.from_residual-in_err-check-2.ensures))
+
 pub returns : goal.returns
-unfolding edge_fields
+unfolding edge_fields in_order
 returns c =
-    let a = c.args in
-    let file = a.file.now in
-    let at = c.place-from_at.result in
-    let vertices = c.requires.heads.vertices_are in
-    (next file
-    (next file
-    (one file at 2 c.check.ensures (ap₂ (λ (from n : ℕ). ltb from (n - 1)) c.word_at-from.ensures.value vertices))
-    (one file (at + 2) 2 c.check-2.ensures (ap₂ (λ (to n : ℕ). ltb 0 to && ltb to n) c.word_at-to.ensures.value vertices))
-    c.and_then.ensures)
-    (one file at 4 c.check-3.ensures c.rises_at.ensures)
-    c.and_then-2.ensures
-    ).is
-    ∙ ap (λ (at : ℕ). in_order file (edge_fields_at file (rises file a.i) at)) c.place-from_at.ensures.value
+    rw (← c.place-from_at.ensures.value, ← c.word_at-from.ensures.value, ← c.vertices-vertices.ensures, ← c.word_at-to.ensures.value, ← c.rises_at.ensures)
+    (passes c.check.ensures c.in_ok-check.was
+    (passes c.check-2.ensures c.in_ok-check-2.was
+    (c.check-3.ensures ∙ sym (then_passed _))))

@@ -16,5 +16,5 @@ returns c =
     let a = c.args in
     let e : a.i ≡ suc (a.i - 1) = omega arith in
     c.is_before.ensures
-    ∙ ap₂ before c.at.ensures (c.at-2.ensures ∙ ap (edge_of a.file.now) e)
-    ∙ sym (ap (rises a.file.now) e)
+    ∙ ap₂ before c.at.ensures (c.at-2.ensures ∙ ap (edge_of a.laid.now.bytes) e)
+    ∙ sym (ap (rises a.laid.now.bytes) e)

@@ -1,32 +1,50 @@
 -- `header::check` meets its contract: mark and edition, then the four bodies.
-use mathlib.Core.Path.{◌≡◌, ap, ◌∙◌}
-use Prim.Native.Nat.{ℕ, ◌+◌, ◌*◌}
-use Rattle.directives.specs.declared.header.Header.{Header}
-use Rattle.directives.specs.Fields.{in_order, mark_fields, contents_fields, head_fields}
-use Rattle.directives.specs.Layout.{arrays_at, vertices_at, edges_at}
-use Rattle.directives.proofs.Fields.{part, next}
+use Rattle.directives.specs.Fields.{mark_fields, head_fields}
+use Rattle.directives.proofs.Fields.{stops, goes_on}
 use Rattle.directives.proofs.header.check.Goals as goal
 
+pub returns-in_err-check_mark : goal.returns-in_err-check_mark
+unfolding head_fields
+returns-in_err-check_mark c =
+    let file = c.args.file.now in
+    stops file (mark_fields file) _ c.check_mark.ensures c.in_err-check_mark.was c.from_residual.ensures
+
+pub returns-in_err-check_contents : goal.returns-in_err-check_contents
+unfolding head_fields
+returns-in_err-check_contents c =
+    let file = c.args.file.now in
+    goes_on file (mark_fields file) _ c.check_mark.ensures c.in_ok-check_mark.was
+    (stops file _ _ c.check_contents.ensures c.in_err-check_contents.was c.from_residual-in_err-check_contents.ensures)
+
+pub returns-in_err-check_contents-2 : goal.returns-in_err-check_contents-2
+unfolding head_fields
+returns-in_err-check_contents-2 c =
+    let file = c.args.file.now in
+    let second = rw (c.arrays_at.ensures, c.of-h.ensures.value) at c.check_contents-2.ensures in
+    goes_on file (mark_fields file) _ c.check_mark.ensures c.in_ok-check_mark.was
+    (goes_on file _ _ c.check_contents.ensures c.in_ok-check_contents.was
+    (stops file _ _ second c.in_err-check_contents-2.was c.from_residual-in_err-check_contents-2.ensures))
+
+pub returns-in_err-check_contents-3 : goal.returns-in_err-check_contents-3
+unfolding head_fields
+returns-in_err-check_contents-3 c =
+    let file = c.args.file.now in
+    let second = rw (c.arrays_at.ensures, c.of-h.ensures.value) at c.check_contents-2.ensures in
+    let third = rw (c.vertices_at.ensures, c.of-h.ensures.value) at c.check_contents-3.ensures in
+    goes_on file (mark_fields file) _ c.check_mark.ensures c.in_ok-check_mark.was
+    (goes_on file _ _ c.check_contents.ensures c.in_ok-check_contents.was
+    (goes_on file _ _ second c.in_ok-check_contents-2.was
+    (stops file _ _ third c.in_err-check_contents-3.was c.from_residual-in_err-check_contents-3.ensures)))
+
 pub returns : goal.returns
-unfolding head_fields mark_fields contents_fields
+unfolding head_fields
 returns c =
     let file = c.args.file.now in
-    let arrays-at : c.arrays_at.result ≡ arrays_at file = c.arrays_at.ensures ∙ ap (λ (h : Header). 22 + 8 * h.templates) c.of-h.ensures.value in
-    let vertices-at : c.vertices_at.result ≡ vertices_at file =
-    c.vertices_at.ensures ∙ ap (λ (h : Header). 22 + 8 * h.templates + 4 * h.arrays) c.of-h.ensures.value in
-    let edges_at_lem : c.edges_at.result ≡ edges_at file =
-    c.edges_at.ensures ∙ ap (λ (h : Header). 22 + 8 * h.templates + 4 * h.arrays + h.vertices * (12 + h.arrays)) c.of-h.ensures.value in
-    (next file
-    (next file
-    (next file
-    (next file
-    (part file (mark_fields file) c.check_mark.ensures)
-    (part file (contents_fields file 6 22 1 8) c.check_contents.ensures)
-    c.and_then.ensures)
-    (part file (contents_fields file 10 (arrays_at file) 1 8) (c.check_contents-2.ensures ∙ ap (λ (n : ℕ). in_order file (contents_fields file 10 n 1 8)) arrays-at))
-    c.and_then-2.ensures)
-    (part file (contents_fields file 14 (vertices_at file) 2 256) (c.check_contents-3.ensures ∙ ap (λ (n : ℕ). in_order file (contents_fields file 14 n 2 256)) vertices-at))
-    c.and_then-3.ensures)
-    (part file (contents_fields file 18 (edges_at file) 0 1024) (c.check_contents-4.ensures ∙ ap (λ (n : ℕ). in_order file (contents_fields file 18 n 0 1024)) edges_at_lem))
-    c.and_then-4.ensures
-    ).is
+    let second = rw (c.arrays_at.ensures, c.of-h.ensures.value) at c.check_contents-2.ensures in
+    let third = rw (c.vertices_at.ensures, c.of-h.ensures.value) at c.check_contents-3.ensures in
+    let fourth = rw (c.edges_at.ensures, c.of-h.ensures.value) at c.check_contents-4.ensures in
+    goes_on file (mark_fields file) _ c.check_mark.ensures c.in_ok-check_mark.was
+    (goes_on file _ _ c.check_contents.ensures c.in_ok-check_contents.was
+    (goes_on file _ _ second c.in_ok-check_contents-2.was
+    (goes_on file _ _ third c.in_ok-check_contents-3.was
+    fourth)))

@@ -1,26 +1,41 @@
 -- `check_mark` meets its contract: five fields.
-use mathlib.Core.Path.{refl, ap}
-use Prim.Native.Nat.{ℕ}
-use lib.Dec.{eqb}
-use Rattle.directives.specs.Fields.{mark_fields}
-use Rattle.directives.proofs.Fields.{one, next}
+use mathlib.Core.Path.{sym, ◌∙◌}
+use Rattle.refusal.proofs.Checks.{exit_fails, passes, then_passed}
+use Rattle.directives.specs.Fields.{in_order, mark_fields}
 use Rattle.directives.proofs.header.check_mark.Goals as goal
 
+pub returns-in_err-check_letter : goal.returns-in_err-check_letter
+unfolding mark_fields in_order
+returns-in_err-check_letter c =
+    exit_fails _ c.check_letter.ensures c.in_err-check_letter.was c.from_residual.ensures
+
+pub returns-in_err-check_letter-2 : goal.returns-in_err-check_letter-2
+unfolding mark_fields in_order
+returns-in_err-check_letter-2 c =
+    passes c.check_letter.ensures c.in_ok-check_letter.was
+    (exit_fails _ c.check_letter-2.ensures c.in_err-check_letter-2.was c.from_residual-in_err-check_letter-2.ensures)
+
+pub returns-in_err-check_letter-3 : goal.returns-in_err-check_letter-3
+unfolding mark_fields in_order
+returns-in_err-check_letter-3 c =
+    passes c.check_letter.ensures c.in_ok-check_letter.was
+    (passes c.check_letter-2.ensures c.in_ok-check_letter-2.was
+    (exit_fails _ c.check_letter-3.ensures c.in_err-check_letter-3.was c.from_residual-in_err-check_letter-3.ensures))
+
+pub returns-in_err-check_letter-4 : goal.returns-in_err-check_letter-4
+unfolding mark_fields in_order
+returns-in_err-check_letter-4 c =
+    passes c.check_letter.ensures c.in_ok-check_letter.was
+    (passes c.check_letter-2.ensures c.in_ok-check_letter-2.was
+    (passes c.check_letter-3.ensures c.in_ok-check_letter-3.was
+    (exit_fails _ c.check_letter-4.ensures c.in_err-check_letter-4.was c.from_residual-in_err-check_letter-4.ensures)))
+
 pub returns : goal.returns
-unfolding mark_fields
+unfolding mark_fields in_order
 returns c =
-    let file = c.args.file.now in
-    (next file
-    (next file
-    (next file
-    (next file
-    (one file 0 1 c.check_letter.ensures refl)
-    (one file 1 1 c.check_letter-2.ensures refl)
-    c.and_then.ensures)
-    (one file 2 1 c.check_letter-3.ensures refl)
-    c.and_then-2.ensures)
-    (one file 3 1 c.check_letter-4.ensures refl)
-    c.and_then-3.ensures)
-    (one file 4 2 c.check.ensures (ap (λ (n : ℕ). eqb n 1) c.word_at.ensures.value))
-    c.and_then-4.ensures
-    ).is
+    rw (← c.word_at.ensures.value)
+    (passes c.check_letter.ensures c.in_ok-check_letter.was
+    (passes c.check_letter-2.ensures c.in_ok-check_letter-2.was
+    (passes c.check_letter-3.ensures c.in_ok-check_letter-3.was
+    (passes c.check_letter-4.ensures c.in_ok-check_letter-4.was
+    (c.check.ensures ∙ sym (then_passed _))))))

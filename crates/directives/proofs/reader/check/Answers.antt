@@ -1,67 +1,62 @@
 -- `reader::check` meets its contract: the head, and where that passes the bodies, one after the other.
-use mathlib.Core.Path.{◌≡◌, sym, ap, ◌∙◌}
-use mathlib.Core.List.{List, ◌++◌, append_assoc}
+use mathlib.Core.Path.{sym, ◌∙◌}
 use Rattle.words.specs.Tables.{rows}
-use Rattle.refusal.proofs.Checks.{fails, passes}
-use Rattle.directives.specs.Fields.{Field, in_order, head_fields, template_fields, array_fields, vertex_fields, edge_fields, end_fields, body_fields, fields, check40}
-use Rattle.directives.specs.Layout.{templates, arrays, vertices, edges, Heads}
-use Rattle.directives.proofs.Fields.{order_append, part, next}
+use Rattle.directives.specs.Fields.{head_fields, template_fields, array_fields, vertex_fields, edge_fields, fields, check40}
+use Rattle.directives.specs.Layout.{templates, arrays, vertices, edges}
+use Rattle.directives.proofs.Fields.{stops, goes_on}
 use Rattle.directives.proofs.Limits.{limits, heads}
 use Rattle.directives.proofs.reader.check.Goals as goal
-use Rattle.directives.proofs.reader.check.Goals.{After-of-h}
 
-pub returns-in-Failed : goal.returns-in-Failed
+pub new-laid-requires : goal.new-laid-requires
+new-laid-requires c = rw c.of.ensures.value (heads _ (limits _ (sym c.check.ensures ∙ c.in_ok-check.was)))
+
+pub returns-in_err-check : goal.returns-in_err-check
 unfolding check40 fields
-returns-in-Failed c =
+returns-in_err-check c =
     let file = c.args.file.now in
-    fails _ c.check-head.ensures c.in-Failed.is ∙ sym (order_append file (head_fields file) (body_fields file))
+    stops file (head_fields file) _ c.check.ensures c.in_err-check.was c.from_residual.ensures
 
--- the head passed
-head : (c : After-of-h) → Heads c.of-h.result c.args.file.now
-head c =
-    rw c.of-h.ensures.value (heads _ (limits _ (sym c.check-head.ensures ∙ c.in_default.is)))
+pub returns-in_err-check_templates : goal.returns-in_err-check_templates
+unfolding check40 fields
+returns-in_err-check_templates c =
+    let file = c.args.file.now in
+    goes_on file (head_fields file) _ c.check.ensures c.in_ok-check.was
+    (stops file (rows (template_fields file) (templates file)) _ (rw (c.new-laid.ensures) at c.check_templates.ensures) c.in_err-check_templates.was c.from_residual-in_err-check_templates.ensures)
 
-pub check_templates-requires : goal.check_templates-requires
-check_templates-requires c = head c
+pub returns-in_err-check_all : goal.returns-in_err-check_all
+unfolding check40 fields
+returns-in_err-check_all c =
+    let file = c.args.file.now in
+    goes_on file (head_fields file) _ c.check.ensures c.in_ok-check.was
+    (goes_on file (rows (template_fields file) (templates file)) _ (rw (c.new-laid.ensures) at c.check_templates.ensures) c.in_ok-check_templates.was
+    (stops file (rows (array_fields file) (arrays file)) _ (rw (c.new-laid.ensures) at c.check_all.ensures) c.in_err-check_all.was c.from_residual-in_err-check_all.ensures))
 
-pub check_all-requires : goal.check_all-requires
-check_all-requires c = head (goal.at.check_all-requires c).After-of-h
+pub returns-in_err-check_all-2 : goal.returns-in_err-check_all-2
+unfolding check40 fields
+returns-in_err-check_all-2 c =
+    let file = c.args.file.now in
+    goes_on file (head_fields file) _ c.check.ensures c.in_ok-check.was
+    (goes_on file (rows (template_fields file) (templates file)) _ (rw (c.new-laid.ensures) at c.check_templates.ensures) c.in_ok-check_templates.was
+    (goes_on file (rows (array_fields file) (arrays file)) _ (rw (c.new-laid.ensures) at c.check_all.ensures) c.in_ok-check_all.was
+    (stops file (rows (vertex_fields file) (vertices file)) _ (rw (c.new-laid.ensures) at c.check_all-2.ensures) c.in_err-check_all-2.was c.from_residual-in_err-check_all-2.ensures)))
 
-pub check_all-requires-2 : goal.check_all-requires-2
-check_all-requires-2 c = head (goal.at.check_all-requires-2 c).After-of-h
-
-pub check_all-requires-3 : goal.check_all-requires-3
-check_all-requires-3 c = head (goal.at.check_all-requires-3 c).After-of-h
-
-pub check_end-requires : goal.check_end-requires
-check_end-requires c = head (goal.at.check_end-requires c).After-of-h
-
--- five lists, one after the other
-five : (a b c d e : List Field) → (((a ++ b) ++ c) ++ d) ++ e ≡ a ++ (b ++ (c ++ (d ++ e)))
-five a b c d e = append_assoc ((a ++ b) ++ c) d e ∙ append_assoc (a ++ b) c (d ++ e) ∙ append_assoc a b (c ++ (d ++ e))
+pub returns-in_err-check_all-3 : goal.returns-in_err-check_all-3
+unfolding check40 fields
+returns-in_err-check_all-3 c =
+    let file = c.args.file.now in
+    goes_on file (head_fields file) _ c.check.ensures c.in_ok-check.was
+    (goes_on file (rows (template_fields file) (templates file)) _ (rw (c.new-laid.ensures) at c.check_templates.ensures) c.in_ok-check_templates.was
+    (goes_on file (rows (array_fields file) (arrays file)) _ (rw (c.new-laid.ensures) at c.check_all.ensures) c.in_ok-check_all.was
+    (goes_on file (rows (vertex_fields file) (vertices file)) _ (rw (c.new-laid.ensures) at c.check_all-2.ensures) c.in_ok-check_all-2.was
+    (stops file (rows (edge_fields file) (edges file)) _ (rw (c.new-laid.ensures) at c.check_all-3.ensures) c.in_err-check_all-3.was c.from_residual-in_err-check_all-3.ensures))))
 
 pub returns : goal.returns
 unfolding check40 fields
 returns c =
     let file = c.args.file.now in
-    let ts = rows (template_fields file) (templates file) in
-    let rs = rows (array_fields file) (arrays file) in
-    let vs = rows (vertex_fields file) (vertices file) in
-    let es = rows (edge_fields file) (edges file) in
-    passes c.check-head.ensures c.in_default.is
-    ((next file
-    (next file
-    (next file
-    (next file
-    (part file ts c.check_templates.ensures)
-    (part file rs c.check_all.ensures)
-    c.and_then.ensures)
-    (part file vs c.check_all-2.ensures)
-    c.and_then-2.ensures)
-    (part file es c.check_all-3.ensures)
-    c.and_then-3.ensures)
-    (part file (end_fields file) c.check_end.ensures)
-    c.and_then-4.ensures
-    ).is
-    ∙ ap (in_order file) (five ts rs vs es (end_fields file)))
-    ∙ sym (order_append file (head_fields file) (body_fields file))
+    goes_on file (head_fields file) _ c.check.ensures c.in_ok-check.was
+    (goes_on file (rows (template_fields file) (templates file)) _ (rw (c.new-laid.ensures) at c.check_templates.ensures) c.in_ok-check_templates.was
+    (goes_on file (rows (array_fields file) (arrays file)) _ (rw (c.new-laid.ensures) at c.check_all.ensures) c.in_ok-check_all.was
+    (goes_on file (rows (vertex_fields file) (vertices file)) _ (rw (c.new-laid.ensures) at c.check_all-2.ensures) c.in_ok-check_all-2.was
+    (goes_on file (rows (edge_fields file) (edges file)) _ (rw (c.new-laid.ensures) at c.check_all-3.ensures) c.in_ok-check_all-3.was
+    (rw (c.new-laid.ensures) at c.check_end.ensures)))))

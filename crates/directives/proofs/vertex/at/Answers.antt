@@ -1,22 +1,23 @@
--- `vertex::at` meets its contract, by cases of the tests.
+-- `vertex::at` meets its contract, by cases of the directive's byte.
 use mathlib.Core.Path.{ap₂}
-use borrow.Author.Tests.{eq-eqb, ne_eqb}
+use native.Mathlib.Omega.{arith}
 use Rattle.directives.specs.declared.vertex.Directive.TheVariants.{Realign, Redistribute}
 use Rattle.directives.specs.Directives.{directive}
 use Rattle.directives.proofs.vertex.at.Goals as goal
 
-pub returns-then-d-eq-REALIGN : goal.returns-then-d-eq-REALIGN
+pub returns-in-1 : goal.returns-in-1
 unfolding directive
-returns-then-d-eq-REALIGN c =
-    rw (← c.place-at.ensures.value, ← c.byte_at-d.ensures.value, eq-eqb _ _ c.if-d-eq-REALIGN.true)
-    (ap₂ Realign c.byte_at-subject.ensures.value c.alignment_at.ensures)
+returns-in-1 c =
+    rw (← c.place-at.ensures.value, ← c.byte_at-d.ensures.value, c.in-1.is)
+    (ap₂ Realign c.byte_at-subject.ensures.value (rw (c.bytes.ensures) at c.alignment_at.ensures))
 
-pub returns-then-d-eq-REDISTRIBUTE : goal.returns-then-d-eq-REDISTRIBUTE
+pub returns-in-2 : goal.returns-in-2
 unfolding directive
-returns-then-d-eq-REDISTRIBUTE c =
-    rw (← c.place-at.ensures.value, ← c.byte_at-d.ensures.value, ne_eqb _ _ c.if-d-eq-REALIGN.false, eq-eqb _ _ c.if-d-eq-REDISTRIBUTE.true)
-    (ap₂ Redistribute c.byte_at-subject.ensures.value c.at.ensures)
+returns-in-2 c =
+    rw (← c.place-at.ensures.value, ← c.byte_at-d.ensures.value, c.in-2.is)
+    (ap₂ Redistribute c.byte_at-subject.ensures.value (rw (c.bytes-in-2.ensures) at c.at.ensures))
 
-pub returns : goal.returns
+pub returns-in_default : goal.returns-in_default
 unfolding directive
-returns c = rw (← c.place-at.ensures.value, ← c.byte_at-d.ensures.value, ne_eqb _ _ c.if-d-eq-REALIGN.false, ne_eqb _ _ c.if-d-eq-REDISTRIBUTE.false)
+returns-in_default c =
+    rw (← c.place-at.ensures.value, ← c.byte_at-d.ensures.value) (grind arith)

@@ -1,12 +1,8 @@
 -- `vertex::check_all` meets its contract: a scan of the vertices.
-use Prim.Native.Nat.{◌-◌}
 use Rattle.refusal.proofs.Checks.{Undecided}
 use Rattle.directives.specs.Fields.{in_order, vertex_fields}
 use Rattle.directives.specs.Layout.{vertices}
 use Rattle.directives.proofs.vertex.check_all.Given as goal
 
 abbrev pub invariant-loop-v : goal.invariant-loop-v
-invariant-loop-v l = Undecided (λ v'. in_order l.file (vertex_fields l.file v')) (vertices l.file) l.v
-
-abbrev pub decreases-loop-v : goal.decreases-loop-v
-decreases-loop-v l = l.n - l.v
+invariant-loop-v l = Undecided (λ v'. in_order l.laid.bytes (vertex_fields l.laid.bytes v')) (vertices l.laid.bytes) l.v

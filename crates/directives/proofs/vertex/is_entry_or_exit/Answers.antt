@@ -6,4 +6,4 @@ use lib.Dec.{eqb}
 use Rattle.directives.proofs.vertex.is_entry_or_exit.Goals as goal
 
 pub returns : goal.returns
-returns c = ap (λ (n : ℕ). eqb c.args.v 0 || eqb c.args.v (n - 1)) c.requires.vertices_are
+returns c = ap (λ (n : ℕ). eqb c.args.v 0 || eqb c.args.v (n - 1)) c.vertices.ensures

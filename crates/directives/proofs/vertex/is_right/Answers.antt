@@ -8,4 +8,4 @@ use Rattle.directives.proofs.vertex.is_right.Goals as goal
 pub returns : goal.returns
 returns c =
     let a = c.args in
-    ap (λ (r : Bool). eqb a.b 0 || (r && a.free)) (c.is_reference.ensures ∙ ap is_reference c.of.ensures)
+    ap (λ (r : Bool). eqb a.b 0 || (r && a.free)) (c.is_reference.ensures ∙ ap is_reference c.from.ensures)

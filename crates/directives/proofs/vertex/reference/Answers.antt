@@ -7,4 +7,4 @@ use Rattle.directives.proofs.vertex.reference.Goals as goal
 pub returns : goal.returns
 returns c =
     let a = c.args in
-    c.byte_at.ensures.value ∙ ap (λ (at : ℕ). get_or a.file.now (at + 12 + a.a) 0) c.place.ensures.value
+    c.byte_at.ensures.value ∙ ap (λ (at : ℕ). get_or a.laid.now.bytes (at + 12 + a.a) 0) c.place.ensures.value

@@ -1,6 +1,5 @@
 -- `check::check_row` meets its contract: a scan of the arrays.
 use mathlib.Core.Bool.{not}
-use Prim.Native.Nat.{◌-◌}
 use Rattle.directives.specs.Layout.{arrays}
 use Rattle.mappings.specs.Computed.{left_set}
 use Rattle.refusal.proofs.Checks.{Undecided}
@@ -10,7 +9,4 @@ use Rattle.sets.specs.Sets.{several}
 use Rattle.left.proofs.check.check_row.Given as goal
 
 abbrev pub invariant-loop-a : goal.invariant-loop-a
-invariant-loop-a l = Undecided (λ b. holds (not (several (left_set l.file b l.v))) (TwoMappings l.v b)) (arrays l.file) l.a
-
-abbrev pub decreases-loop-a : goal.decreases-loop-a
-decreases-loop-a l = l.m - l.a
+invariant-loop-a l = Undecided (λ b. holds (not (several (left_set l.directives.bytes b l.v))) (TwoMappings l.v b)) (arrays l.directives.bytes) l.a

@@ -1,6 +1,5 @@
 -- `check::check_rows` meets its contract: a scan of the vertices.
 use mathlib.Core.Bool.{not}
-use Prim.Native.Nat.{◌-◌}
 use Rattle.directives.specs.Layout.{arrays, vertices}
 use Rattle.mappings.specs.Computed.{left_set}
 use Rattle.refusal.proofs.Checks.{Undecided}
@@ -10,7 +9,4 @@ use Rattle.sets.specs.Sets.{several}
 use Rattle.left.proofs.check.check_rows.Given as goal
 
 abbrev pub invariant-loop-v : goal.invariant-loop-v
-invariant-loop-v l = Undecided (λ v'. first_failed (λ a. holds (not (several (left_set l.file a v'))) (TwoMappings v' a)) 0 (arrays l.file)) (vertices l.file) l.v
-
-abbrev pub decreases-loop-v : goal.decreases-loop-v
-decreases-loop-v l = l.n - l.v
+invariant-loop-v l = Undecided (λ v'. first_failed (λ a. holds (not (several (left_set l.directives.bytes a v'))) (TwoMappings v' a)) 0 (arrays l.directives.bytes)) (vertices l.directives.bytes) l.v

@@ -1,15 +1,23 @@
 -- `elsewhere::add_template` meets its contract.
-use mathlib.Core.Path.{sym, ◌∙◌}
+use Rattle.std.proofs.Common.{rules}
+use Rattle.words.proofs.Sums.{none_below}
+use Rattle.directives.specs.Directives.{directive}
+use Rattle.directives.specs.Layout.{vertices}
+use Rattle.left.specs.Cells.{redistributes_other}
 use Rattle.left.proofs.Cells.{others_unasked}
 use Rattle.left.proofs.elsewhere.add_template.Goals as goal
 
-pub returns-then-not-asked : goal.returns-then-not-asked
-returns-then-not-asked c = others_unasked c.args.file.now c.args.t (sym c.is_asked-asked.ensures ∙ c.if-not-asked.true) c.requires.array_cells
+pub returns-else-any : goal.returns-else-any
+returns-else-any c =
+    let file = c.args.directives.now.bytes in
+    let t = c.args.t in
+    others_unasked file t
+    (none_below (λ v. redistributes_other t (directive file v)) (vertices file) (λ v h. let told = c.any.ensures.none c.if-any.false v h in search rules))
+    c.requires.array_cells
 
 pub solve-requires : goal.solve-requires
 solve-requires c =
     record {
-      directives_read = c.requires.directives_read;
       edge_order = c.requires.edge_order;
       given = c.requires.given;
       held_len = c.requires.held_len;
@@ -21,7 +29,6 @@ solve-requires c =
 pub join-requires : goal.join-requires
 join-requires c =
     record {
-      directives_read = c.requires.directives_read;
       array_cells = c.solve.ensures.array_cells;
       array_cells_2 = c.requires.array_cells;
     }

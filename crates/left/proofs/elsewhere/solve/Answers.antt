@@ -2,19 +2,17 @@
 use mathlib.Core.Path.{refl, sym, ◌∙◌}
 use native.Mathlib.Nat.{le_antisymm}
 use native.Mathlib.Omega.{arith}
-use Rattle.directives.proofs.Limits.{read_heads}
 use Rattle.left.proofs.Cells.{others_none, others_all}
 use Rattle.left.proofs.elsewhere.solve.Goals as goal
 
 pub loop-t-init : goal.loop-t-init
-loop-t-init c = (omega arith, others_none c.args.file.now c.args.others.now c.requires.others_len c.clear.ensures, refl, refl, refl, refl)
+loop-t-init c = (omega arith, others_none c.args.directives.now.bytes c.args.others.now c.requires.others_len (c.fill.ensures.after (λ y e. e)), refl, refl, refl, refl)
 
 pub add_template-requires : goal.add_template-requires
 add_template-requires c =
     let l = c.loop-t.invariant in
     let p = c.requires in
     record {
-      directives_read = p.directives_read;
       edge_order = p.edge_order;
       given = p.given;
       array_cells = l.1;
@@ -23,11 +21,6 @@ add_template-requires c =
       passes_len = l.4 ∙ p.passes_len;
       halves_len = l.5 ∙ p.halves_len;
     }
-
-pub overflow_add-t : goal.overflow_add-t
-overflow_add-t c =
-    let heads = read_heads c.requires.directives_read in
-    omega (arith, heads.templates_are, heads.limits.few_templates)
 
 pub loop-t-preserved : goal.loop-t-preserved
 loop-t-preserved c =
@@ -58,4 +51,4 @@ shape_of-halves c = c.loop-t.invariant.5
 pub returns : goal.returns
 returns c =
     let l = c.loop-t.invariant in
-    others_all c.args.file.now (le_antisymm l.0 c.loop-t-test.false ∙ (read_heads c.requires.directives_read).templates_are) l.1
+    others_all c.args.directives.now.bytes (le_antisymm l.0 c.loop-t-test.false ∙ c.templates-t-end.ensures) l.1

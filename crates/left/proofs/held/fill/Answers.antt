@@ -3,7 +3,6 @@ use mathlib.Core.Path.{sym, ◌∙◌}
 use Prim.Native.Nat.{◌≤◌, ◌<◌}
 use native.Mathlib.Omega.{arith}
 use Rattle.flow.proofs.Cells.{rows_none, rows_next, rows_all}
-use Rattle.directives.proofs.Limits.{read_heads}
 use Rattle.directives.specs.Layout.{vertices}
 use Rattle.facts.proofs.Rounds.{none_next}
 use Rattle.left.specs.Cells.{held_halves}
@@ -14,33 +13,29 @@ use Rattle.left.proofs.held.fill.Goals.{In-loop-v}
 
 -- what holds in a turn
 module _ (c : In-loop-v) where
-  in_v : c.loop-v.v < vertices c.args.file.now
-  in_v = omega (arith, (read_heads c.requires.directives_read).vertices_are)
+  in_v : c.loop-v.v < vertices c.args.directives.now.bytes
+  in_v = omega (arith, c.vertices-v-end.ensures)
 
 pub loop-v-init : goal.loop-v-init
-loop-v-init c = (rows_none (few_columns c.requires.directives_read) _ _ c.requires.gives_len, rows_none (few_columns c.requires.directives_read) _ _ c.requires.passes_len, c.requires.none_beyond, c.requires.none_beyond_2)
+loop-v-init c = (rows_none (few_columns c.args.directives.now) _ _ c.requires.gives_len, rows_none (few_columns c.args.directives.now) _ _ c.requires.passes_len, c.requires.none_beyond, c.requires.none_beyond_2)
 
 pub fill_row-requires : goal.fill_row-requires
 fill_row-requires c =
     record {
-      directives_read = c.requires.directives_read;
       v_bound = in_v (goal.at.fill_row-requires c).In-loop-v;
       given = c.requires.given;
       gives_len = c.loop-v.invariant.0.size;
       passes_len = c.loop-v.invariant.1.size;
     }
 
-pub overflow_add-v : goal.overflow_add-v
-overflow_add-v c = omega (arith, in_v (goal.at.overflow_add-v c).In-loop-v, (read_heads c.requires.directives_read).limits.few_vertices)
-
 pub loop-v-preserved : goal.loop-v-preserved
 loop-v-preserved c =
     let g = c.args in
-    let few = few_columns c.requires.directives_read in (
-      rows_next few (gives_at g.file.now g.t g.given.now) g.gives.now c.loop-v.v (in_v (goal.at.loop-v-preserved c).In-loop-v) c.loop-v.invariant.0 c.fill_row.ensures.gives_after,
-      rows_next few (held_halves g.file.now g.t) g.passes.now c.loop-v.v (in_v (goal.at.loop-v-preserved c).In-loop-v) c.loop-v.invariant.1 c.fill_row.ensures.passes_after,
-      none_next few (λ a. gives_at g.file.now g.t g.given.now a c.loop-v.v) c.loop-v.v c.loop-v.invariant.2 c.fill_row.ensures.gives_after,
-      none_next few (λ a. held_halves g.file.now g.t a c.loop-v.v) c.loop-v.v c.loop-v.invariant.3 c.fill_row.ensures.passes_after,
+    let few = few_columns c.args.directives.now in (
+      rows_next few (gives_at g.directives.now.bytes g.t g.given.now) g.gives.now c.loop-v.v (in_v (goal.at.loop-v-preserved c).In-loop-v) c.loop-v.invariant.0 c.fill_row.ensures.gives_after,
+      rows_next few (held_halves g.directives.now.bytes g.t) g.passes.now c.loop-v.v (in_v (goal.at.loop-v-preserved c).In-loop-v) c.loop-v.invariant.1 c.fill_row.ensures.passes_after,
+      none_next few (λ a. gives_at g.directives.now.bytes g.t g.given.now a c.loop-v.v) c.loop-v.v c.loop-v.invariant.2 c.fill_row.ensures.gives_after,
+      none_next few (λ a. held_halves g.directives.now.bytes g.t a c.loop-v.v) c.loop-v.v c.loop-v.invariant.3 c.fill_row.ensures.passes_after,
     )
 
 pub shape_of-gives : goal.shape_of-gives
@@ -52,11 +47,11 @@ shape_of-passes c = c.loop-v.invariant.1.size ∙ sym c.requires.passes_len
 pub returns : goal.returns
 returns c =
     let g = c.args in
-    let few = few_columns c.requires.directives_read in
-    let all : vertices g.file.now ≤ c.loop-v.v = omega (arith, (read_heads c.requires.directives_read).vertices_are) in
+    let few = few_columns c.args.directives.now in
+    let all : vertices g.directives.now.bytes ≤ c.loop-v.v = omega (arith, c.vertices-v-end.ensures) in
     record {
-      array_cells = rows_all few (gives_at g.file.now g.t g.given.now) g.gives.now c.loop-v.v all c.loop-v.invariant.0;
-      array_cells_2 = rows_all few (held_halves g.file.now g.t) g.passes.now c.loop-v.v all c.loop-v.invariant.1;
+      array_cells = rows_all few (gives_at g.directives.now.bytes g.t g.given.now) g.gives.now c.loop-v.v all c.loop-v.invariant.0;
+      array_cells_2 = rows_all few (held_halves g.directives.now.bytes g.t) g.passes.now c.loop-v.v all c.loop-v.invariant.1;
       none_beyond_3 = c.loop-v.invariant.2;
       none_beyond_4 = c.loop-v.invariant.3;
     }

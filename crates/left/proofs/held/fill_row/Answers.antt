@@ -6,7 +6,6 @@ use native.Mathlib.Omega.{arith}
 use Rattle.words.proofs.Replaced.{replacing_begin, replacing_next, replacing_end}
 use Rattle.words.proofs.Tests.{cond-not}
 use Rattle.sets.specs.Sets.{every_half}
-use Rattle.directives.proofs.Limits.{read_heads}
 use Rattle.directives.specs.Layout.{arrays}
 use Rattle.mappings.specs.Computed.{realigns, redistributes}
 use Rattle.left.specs.Cells.{held_halves}
@@ -16,18 +15,14 @@ use Rattle.left.proofs.held.fill_row.Goals.{In-loop-a}
 
 -- what holds in a turn
 module _ (c : In-loop-a) where
-  in_a : c.loop-a.a < arrays c.args.file.now
-  in_a = omega (arith, (read_heads c.requires.directives_read).arrays_are)
+  in_a : c.loop-a.a < arrays c.args.directives.now.bytes
+  in_a = omega (arith, c.arrays-a-end.ensures)
 
   few : 8 * c.args.v + c.loop-a.a < 2048
-  few = few_cells c.requires.directives_read in_a c.requires.v_bound
+  few = few_cells c.args.directives.now in_a c.requires.v_bound
 
-pub at-d-requires : goal.at-d-requires
-at-d-requires c =
-    record {
-      heads = read_heads c.requires.directives_read;
-      v_bound = c.requires.v_bound;
-    }
+pub directive-d-requires : goal.directive-d-requires
+directive-d-requires c = c.requires.v_bound
 
 pub loop-a-init : goal.loop-a-init
 loop-a-init c = (replacing_begin _ _ _ _, replacing_begin _ _ _ _)
@@ -42,14 +37,13 @@ pub offset_bounds-given-at : goal.offset_bounds-given-at
 offset_bounds-given-at c = omega (arith, few c)
 
 pub bounds-given-at : goal.bounds-given-at
-bounds-given-at c = in_table c.requires.directives_read (in_a (goal.at.bounds-given-at c).In-loop-a) c.requires.v_bound c.args.given.now c.requires.given.size
+bounds-given-at c = in_table c.args.directives.now (in_a (goal.at.bounds-given-at c).In-loop-a) c.requires.v_bound c.args.given.now c.requires.given.size
 
 pub gives_at-requires : goal.gives_at-requires
 gives_at-requires c =
     record {
-      directives_read = c.requires.directives_read;
       a_bound = in_a (goal.at.gives_at-requires c).In-loop-a;
-      d_value = c.at-d.ensures;
+      d_value = c.directive-d.ensures;
       v_bound = c.requires.v_bound;
     }
 
@@ -57,20 +51,20 @@ pub offset_bounds-gives-at : goal.offset_bounds-gives-at
 offset_bounds-gives-at c = omega (arith, few (goal.at.offset_bounds-gives-at c).In-loop-a)
 
 pub bounds-gives-at : goal.bounds-gives-at
-bounds-gives-at c = in_table c.requires.directives_read (in_a (goal.at.bounds-gives-at c).In-loop-a) c.requires.v_bound c.loop-a.gives (c.loop-a.invariant.0.sized ∙ c.requires.gives_len)
+bounds-gives-at c = in_table c.args.directives.now (in_a (goal.at.bounds-gives-at c).In-loop-a) c.requires.v_bound c.loop-a.gives (c.loop-a.invariant.0.sized ∙ c.requires.gives_len)
 
 pub offset_bounds-passes-at : goal.offset_bounds-passes-at
 offset_bounds-passes-at c = omega (arith, few (goal.at.offset_bounds-passes-at c).In-loop-a)
 
 pub bounds-passes-at : goal.bounds-passes-at
-bounds-passes-at c = in_table c.requires.directives_read (in_a (goal.at.bounds-passes-at c).In-loop-a) c.requires.v_bound c.loop-a.passes (c.loop-a.invariant.1.sized ∙ c.requires.passes_len)
+bounds-passes-at c = in_table c.args.directives.now (in_a (goal.at.bounds-passes-at c).In-loop-a) c.requires.v_bound c.loop-a.passes (c.loop-a.invariant.1.sized ∙ c.requires.passes_len)
 
 pub loop-a-preserved : goal.loop-a-preserved
 unfolding held_halves
 loop-a-preserved c =
     let a = c.loop-a.a in
     let changed = c.realigns.result || c.redistributes-spread.result in
-    let changes = ap₂ ◌||◌ (c.realigns.ensures ∙ ap (realigns a) c.at-d.ensures) (c.redistributes-spread.ensures ∙ ap (redistributes c.args.t) c.at-d.ensures) in
+    let changes = ap₂ ◌||◌ (c.realigns.ensures ∙ ap (realigns a) c.directive-d.ensures) (c.redistributes-spread.ensures ∙ ap (redistributes c.args.t) c.directive-d.ensures) in
     let passed = sym (cond-not changed 0 every_half) ∙ ap (λ (b : Bool). cond b 0 every_half) changes in (
       replacing_next c.loop-a.invariant.0 (in_a (goal.at.loop-a-preserved c).In-loop-a) refl c.gives_at.ensures,
       replacing_next c.loop-a.invariant.1 (in_a (goal.at.loop-a-preserved c).In-loop-a) refl (c.every_if.ensures ∙ passed),
@@ -84,7 +78,7 @@ shape_of-passes c = c.loop-a.invariant.1.sized
 
 pub returns : goal.returns
 returns c =
-    let over = (read_heads c.requires.directives_read).arrays_are in
+    let over = c.arrays-a-end.ensures in
     record {
       gives_after = replacing_end c.loop-a.invariant.0 (omega (arith, over));
       passes_after = replacing_end c.loop-a.invariant.1 (omega (arith, over));

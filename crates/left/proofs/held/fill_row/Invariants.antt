@@ -1,5 +1,5 @@
 -- `held::fill_row` meets its contract: two rows are replaced.
-use Prim.Native.Nat.{◌+◌, ◌-◌, ◌*◌}
+use Prim.Native.Nat.{◌+◌, ◌*◌}
 use lib.ListN.{get_or}
 use Rattle.words.proofs.Replaced.{Replacing}
 use Rattle.directives.specs.Layout.{arrays}
@@ -7,8 +7,5 @@ use Rattle.left.specs.Cells.{held_gives, held_halves}
 use Rattle.left.proofs.held.fill_row.Given as goal
 
 abbrev pub invariant-loop-a : goal.invariant-loop-a
-invariant-loop-a l = Replacing l.initial.gives (8 * l.v) (λ b. held_gives l.file l.t b l.v (get_or l.given (8 * l.v + b) 0)) (arrays l.file) l.gives l.a
-    × Replacing l.initial.passes (8 * l.v) (λ b. held_halves l.file l.t b l.v) (arrays l.file) l.passes l.a
-
-abbrev pub decreases-loop-a : goal.decreases-loop-a
-decreases-loop-a l = l.m - l.a
+invariant-loop-a l = Replacing l.initial.gives (8 * l.v) (λ b. held_gives l.directives.bytes l.t b l.v (get_or l.given (8 * l.v + b) 0)) (arrays l.directives.bytes) l.gives l.a
+    × Replacing l.initial.passes (8 * l.v) (λ b. held_halves l.directives.bytes l.t b l.v) (arrays l.directives.bytes) l.passes l.a

@@ -1,7 +1,7 @@
 -- `given::realigned` meets its contract: the list grows by what each vertex gave.
 use mathlib.Core.Bool.{cond}
 use mathlib.Core.List.{List, [], ◌∷◌}
-use Prim.Native.Nat.{ℕ, ◌-◌, ◌≤◌}
+use Prim.Native.Nat.{ℕ, ◌≤◌}
 use lib.ListN.{get_or}
 use Rattle.words.specs.Tables.{rows}
 use Rattle.directives.specs.Layout.{vertices}
@@ -18,7 +18,4 @@ abbrev pub row : List ℕ → ℕ → Alignment → ℕ → List Mapping
 row file v x u = cond (has (get_or (spread_sets file x.template) v 0) u) (turned x.exchanged (spread_by file x.template u) ∷ []) []
 
 abbrev pub invariant-loop-u : goal.invariant-loop-u
-invariant-loop-u l = (l.u ≤ vertices l.file) × Grows (rows (row l.file l.v l.x) l.u) l.initial.list l.initial.q l.list l.q
-
-abbrev pub decreases-loop-u : goal.decreases-loop-u
-decreases-loop-u l = l.n - l.u
+invariant-loop-u l = (l.u ≤ vertices l.directives.bytes) × Grows (rows (row l.directives.bytes l.v l.x) l.u) l.initial.list l.initial.q l.list l.q

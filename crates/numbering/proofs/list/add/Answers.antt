@@ -1,8 +1,10 @@
 -- `add` meets its contract: too many already, one too many, one that is listed, a new one.
-use mathlib.Core.Path.{refl, ap}
+use mathlib.Core.Path.{refl, ap, ◌∙◌}
 use Prim.Native.Nat.{◌<◌}
 use native.Mathlib.Omega.{arith}
 use lib.Bits.{bit_or}
+use lib.ListN.{length-set}
+use Rattle.std.proofs.lemmas.List.{take_more_set}
 use Rattle.sets.specs.Sets.{width}
 use Rattle.numbering.proofs.Holding.{Found, found_within, grows_full, grows_over, grows_listed, grows_new}
 use Rattle.numbering.proofs.list.add.Goals as goal
@@ -32,15 +34,14 @@ single-requires c = below c
 pub returns-then-k-p : goal.returns-then-k-p
 returns-then-k-p c = grows_listed (found (goal.at.returns-then-k-p c).After-number_of-k) c.if-k-p.true refl (ap (bit_or c.args.p.given) c.single.ensures)
 
-pub put-requires : goal.put-requires
-put-requires c =
-    record {
-      k_lt_width = below (goal.at.put-requires c).Else-k-eq-WIDTH;
-      list_len = c.requires.list_len;
-    }
+pub offset_bounds-list-k : goal.offset_bounds-list-k
+offset_bounds-list-k c = omega (arith, below (goal.at.offset_bounds-list-k c).Else-k-eq-WIDTH)
+
+pub bounds-list-k : goal.bounds-list-k
+bounds-list-k c = omega (arith, below (goal.at.bounds-list-k c).Else-k-eq-WIDTH, c.requires.list_len)
 
 pub overflow_add-result-2 : goal.overflow_add-result-2
 overflow_add-result-2 c = omega (arith, below (goal.at.overflow_add-result-2 c).Else-k-eq-WIDTH)
 
 pub returns : goal.returns
-returns c = grows_new (found (goal.at.returns c).After-number_of-k) c.put.ensures.list_len_2 (below (goal.at.returns c).Else-k-eq-WIDTH) c.if-k-p.false c.put.ensures.k_after refl (ap (bit_or c.args.p.given) c.single.ensures)
+returns c = grows_new (found (goal.at.returns c).After-number_of-k) (length-set c.args.list.now _ c.args.m ∙ c.requires.list_len) (below (goal.at.returns c).Else-k-eq-WIDTH) c.if-k-p.false (take_more_set c.args.list.now _ c.args.m (omega (arith, below (goal.at.returns c).Else-k-eq-WIDTH, c.requires.list_len))) refl (ap (bit_or c.args.p.given) c.single.ensures)

@@ -1,50 +1,18 @@
--- `number_of` meets its contract: none of those before k is alike.
-use mathlib.Core.Path.{◌≡◌, sym, ap, ◌∙◌}
-use mathlib.Core.List.{List}
-use Prim.Native.Nat.{◌<◌}
-use native.Mathlib.Omega.{arith}
-use lib.ListN.{length, get_or}
-use Rattle.directives.specs.declared.spread.Mapping.{Mapping}
+-- `number_of` meets its contract: the place of the first that is alike.
+use Rattle.std.proofs.Common.{◌≡◌, sym, ap, ◌∙◌, ℕ, Option, take, rules, tests}
+use Rattle.std.proofs.lemmas.List.{length-take-le}
+use Rattle.std.proofs.lemmas.Iterator.{YieldsList-from_slice}
+use Rattle.std.proofs.lemmas.Iterator.Search.{position_from_yields_List}
+use Rattle.std.specs.List.{position}
+use Rattle.std.specs.Option.{unwrap_or}
 use Rattle.mappings.specs.Along.{alike}
-use Rattle.numbering.specs.Lists.{mappings_of}
-use Rattle.numbering.proofs.Holding.{mappings_length, mappings_at, search_begin, search_found, search_next, search_end}
+use Rattle.numbering.proofs.Holding.{number_found}
 use Rattle.numbering.proofs.list.number_of.Goals as goal
-use Rattle.numbering.proofs.list.number_of.Goals.{After-alike}
-
-pub loop-k-init : goal.loop-k-init
-loop-k-init c = search_begin _ _
-
-pub at-requires : goal.at-requires
-at-requires c =
-    record {
-      k_lt_width = omega arith;
-      list_len = c.requires.list_len;
-    }
-
--- what the test says, of the list that is searched
-module _ (c : After-alike) where
-  abbrev ms : List Mapping
-  ms = mappings_of c.args.list.now c.args.count
-
-  in_list : c.loop-k.k < length ms
-  in_list = omega (arith, mappings_length c.args.list.now c.args.count)
-
-  tested : c.alike.result ≡ alike (get_or ms c.loop-k.k c.args.m) c.args.m
-  tested =
-      c.alike.ensures
-      ∙ ap (λ (n : Mapping). alike n c.args.m)
-      (c.at.ensures ∙ sym (mappings_at c.args.list.now c.args.count c.loop-k.k c.args.m c.loop-k-test.true))
-
-pub returns-then-alike : goal.returns-then-alike
-returns-then-alike c = sym (search_found c.loop-k.invariant (in_list (goal.at.returns-then-alike c).After-alike) (sym (tested (goal.at.returns-then-alike c).After-alike) ∙ c.if-alike.true))
-
-pub loop-k-preserved : goal.loop-k-preserved
-loop-k-preserved c = search_next c.loop-k.invariant (in_list (goal.at.loop-k-preserved c).After-alike) (sym (tested (goal.at.loop-k-preserved c).After-alike) ∙ c.if-alike.false)
 
 pub returns : goal.returns
 returns c =
     let a = c.args in
-    let size = mappings_length a.list.now a.count in
-    let s = c.loop-k.invariant in
-    let last : c.loop-k.k ≡ a.count = omega arith in
-    sym (search_end s (omega arith) ∙ last)
+    let place : c.position.result ≡ position (λ n. alike n a.m) (take a.count a.list.now) = position_from_yields_List (λ n. alike n a.m) _ _ c.position.result c.position.ensures.ran (YieldsList-from_slice _ c.iter.ensures.rest) (λ x b q k. search (rules, tests)) in
+    c.unwrap_or.ensures ∙ ap (λ (o : Option ℕ). unwrap_or o a.count) place
+    ∙ ap (unwrap_or (position (λ n. alike n a.m) (take a.count a.list.now))) (sym (length-take-le a.count a.list.now c.requires))
+    ∙ number_found (take a.count a.list.now) a.m

@@ -1,8 +1,14 @@
--- `start` meets its contract: the list of no mapping and one.
-use borrow.Author.Rules.{rules}
-use Rattle.words.specs.Tables.{rows}
+-- `start` meets its contract.
+use mathlib.Core.Path.{◌∙◌}
+use native.Mathlib.Omega.{arith}
+use lib.ListN.{length-set}
+use Rattle.std.proofs.lemmas.List.{take_more_set}
 use Rattle.numbering.proofs.list.start.Goals as goal
 
 pub returns : goal.returns
-unfolding rows
-returns c = search rules
+returns c =
+    let list = c.args.list.now in
+    record {
+      room = length-set list 0 c.args.m ∙ c.requires;
+      is = take_more_set list 0 c.args.m (omega arith);
+    }

@@ -2,7 +2,7 @@
 use mathlib.Core.Path.{refl, sym, ◌∙◌}
 use Prim.Native.Nat.{◌<◌}
 use native.Mathlib.Omega.{arith}
-use Rattle.directives.proofs.Limits.{read_heads}
+use Rattle.directives.proofs.Limits.{read_limits}
 use Rattle.directives.specs.Layout.{arrays}
 use Rattle.mappings.specs.Computed.{check41}
 use Rattle.refusal.proofs.Checks.{scan_start, scan_stop, scan_next, scan_done}
@@ -14,16 +14,15 @@ pub loop-a-init : goal.loop-a-init
 loop-a-init c = (scan_start _ _, all_start c.requires.given_len c.requires.counts_len)
 
 -- in the loop there is such an array
-in_a : (c : In-loop-a) → c.loop-a.a < arrays c.args.file.now
-in_a c = omega (arith, (read_heads c.requires.directives_read).arrays_are)
+in_a : (c : In-loop-a) → c.loop-a.a < arrays c.args.directives.now.bytes
+in_a c = omega (arith, c.arrays-a-end.ensures)
 
 few : (c : In-loop-a) → c.loop-a.a < 8
-few c = omega (arith, in_a c, (read_heads c.requires.directives_read).limits.few_arrays)
+few c = omega (arith, in_a c, (read_limits c.args.directives.now).few_arrays)
 
 pub number_array-count-requires : goal.number_array-count-requires
 number_array-count-requires c =
     record {
-      directives_read = c.requires.directives_read;
       a_bound = in_a (goal.at.number_array-count-requires c).In-loop-a;
       alignments = c.requires.alignments;
       spreads = c.requires.spreads;
@@ -59,7 +58,7 @@ shape_of-counts c = c.loop-a.invariant.1.counts_size ∙ sym c.requires.counts_l
 pub returns : goal.returns
 unfolding check41
 returns c =
-    let e = (read_heads c.requires.directives_read).arrays_are in
+    let e = c.arrays-a-end.ensures in
     record {
       value = scan_done c.loop-a.invariant.0 (omega arith);
       all_numbered = all_end (omega arith) c.loop-a.invariant.1;

@@ -5,7 +5,6 @@ use Rattle.numbering.proofs.numbers.number_array.Goals as goal
 pub number_with-requires : goal.number_with-requires
 number_with-requires c =
     record {
-      directives_read = c.requires.directives_read;
       a_bound = c.requires.a_bound;
       alignments = c.requires.alignments;
       spreads = c.requires.spreads;

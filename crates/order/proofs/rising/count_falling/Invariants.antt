@@ -8,6 +8,3 @@ use Rattle.order.proofs.rising.count_falling.Given as goal
 
 abbrev pub invariant-loop-i : goal.invariant-loop-i
 invariant-loop-i l = (l.i ≤ edge_count l.edges) × (l.count ≡ count_of (is_falling l.edges) l.i)
-
-abbrev pub decreases-loop-i : goal.decreases-loop-i
-decreases-loop-i l = l.n - l.i

@@ -4,6 +4,3 @@ use Rattle.order.proofs.search.descend.Given as goal
 
 abbrev pub invariant-loop-step : goal.invariant-loop-step
 invariant-loop-step l = l.step ≤ l.step-end
-
-abbrev pub decreases-loop-step : goal.decreases-loop-step
-decreases-loop-step l = l.step-end - l.step

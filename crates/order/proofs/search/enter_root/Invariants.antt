@@ -4,6 +4,3 @@ use Rattle.order.proofs.search.enter_root.Given as goal
 
 abbrev pub invariant-loop-root : goal.invariant-loop-root
 invariant-loop-root l = l.root ≤ 256
-
-abbrev pub decreases-loop-root : goal.decreases-loop-root
-decreases-loop-root l = 256 - l.root

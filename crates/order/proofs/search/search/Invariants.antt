@@ -6,6 +6,3 @@ use Rattle.order.proofs.search.search.Given as goal
 
 abbrev pub invariant-loop-step : goal.invariant-loop-step
 invariant-loop-step l = Placed (edge_count l.edges) l.order l.place × (l.slot ≤ edge_count l.edges) × (l.step ≤ 256)
-
-abbrev pub decreases-loop-step : goal.decreases-loop-step
-decreases-loop-step l = 256 - l.step

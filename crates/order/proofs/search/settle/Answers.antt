@@ -1,4 +1,4 @@
--- `order::search::settle` meets its contract. The invariant: every edge has its place. The measure is the slots that are left.
+-- `order::search::settle` meets its contract. The invariant: every edge has its place.
 use mathlib.Core.Path.{sym, subst}
 use Prim.Native.Nat.{ℕ, ◌<◌}
 use native.Mathlib.Omega.{arith}

@@ -1,6 +1,6 @@
 -- `events::action_rows` meets its contract: row after row both tables are filled.
 use mathlib.Core.List.{List}
-use Prim.Native.Nat.{ℕ, ◌-◌, ◌≤◌}
+use Prim.Native.Nat.{ℕ, ◌≤◌}
 use Rattle.flow.proofs.Cells.{rows_to}
 use Rattle.labels.specs.Events.{version_set}
 use Rattle.labels.specs.Uses.{use_gives}
@@ -16,7 +16,4 @@ abbrev pub use_at : List ℕ → ℕ → ℕ → ℕ
 use_at file a v = use_gives (action file a v)
 
 abbrev pub invariant-loop-v : goal.invariant-loop-v
-invariant-loop-v l = (l.v ≤ l.n) × CellsAlone l.file (rows_to (version_at l.file) l.initial.versions l.v) l.versions × CellsAlone l.file (rows_to (use_at l.file) l.initial.uses l.v) l.uses
-
-abbrev pub decreases-loop-v : goal.decreases-loop-v
-decreases-loop-v l = l.n - l.v
+invariant-loop-v l = (l.v ≤ l.v-end) × CellsAlone l.routine.bytes (rows_to (version_at l.routine.bytes) l.initial.versions l.v) l.versions × CellsAlone l.routine.bytes (rows_to (use_at l.routine.bytes) l.initial.uses l.v) l.uses

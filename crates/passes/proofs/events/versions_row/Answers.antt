@@ -7,53 +7,23 @@ use Rattle.labels.proofs.Rules.Events.{action_fits}
 use Rattle.routine.specs.Layout.{arrays}
 use Rattle.routine.specs.declared.action.Action.{Action}
 use Rattle.words.proofs.Replaced.{replacing_begin, replacing_next, replacing_end}
-use Rattle.passes.proofs.Cells.{in_eight}
 use Rattle.sets.specs.Sets.{width}
 use Rattle.passes.proofs.events.versions_row.Goals as goal
 use Rattle.passes.proofs.events.versions_row.Goals.{In-loop-a}
 
 -- what holds in a turn
 module _ (c : In-loop-a) where
-  in_a : c.loop-a.a < arrays c.args.file.now
-  in_a = omega (arith, c.requires.read_as.heads.arrays_are)
-
-  small : c.loop-a.a < 8
-  small = in_eight c.requires.read_as.well in_a
+  in_a : c.loop-a.a < arrays c.args.routine.now.bytes
+  in_a = omega (arith, c.arrays-a-end.ensures)
 
 pub loop-a-init : goal.loop-a-init
 loop-a-init c = replacing_begin _ _ _ _
 
-pub overflow_mul-at : goal.overflow_mul-at
-overflow_mul-at c = omega (arith, c.requires.v_bound, c.requires.read_as.well.laid.limits.few_vertices)
-
-pub overflow_add-at : goal.overflow_add-at
-overflow_add-at c = omega (arith, small c, c.requires.v_bound, c.requires.read_as.well.laid.limits.few_vertices)
-
-pub at-requires : goal.at-requires
-at-requires c =
-    record {
-      heads = c.requires.read_as.heads;
-      v_bound = c.requires.v_bound;
-      a_bound = in_a c;
-    }
-
 pub version_set-requires : goal.version_set-requires
-version_set-requires c = subst (λ (x : Action). version_of x < width) (sym c.at.ensures) (action_fits c.args.file.now c.loop-a.a c.args.v)
-
-pub offset_bounds-versions-at : goal.offset_bounds-versions-at
-offset_bounds-versions-at c = omega (arith, small (goal.at.offset_bounds-versions-at c).In-loop-a, c.requires.v_bound, c.requires.read_as.well.laid.limits.few_vertices)
-
-pub bounds-versions-at : goal.bounds-versions-at
-bounds-versions-at c = omega (arith, small (goal.at.bounds-versions-at c).In-loop-a, c.requires.v_bound, c.requires.versions_len, c.loop-a.invariant.sized)
-
-pub overflow_add-a : goal.overflow_add-a
-overflow_add-a c = omega (arith, small (goal.at.overflow_add-a c).In-loop-a)
+version_set-requires c = subst (λ (x : Action). version_of x < width) (sym c.action.ensures) (action_fits c.args.routine.now.bytes c.loop-a.a c.args.v)
 
 pub loop-a-preserved : goal.loop-a-preserved
-loop-a-preserved c = replacing_next c.loop-a.invariant (in_a (goal.at.loop-a-preserved c).In-loop-a) refl (c.version_set.ensures ∙ ap version_set c.at.ensures)
-
-pub shape_of-versions : goal.shape_of-versions
-shape_of-versions c = c.loop-a.invariant.sized
+loop-a-preserved c = replacing_next c.loop-a.invariant (in_a (goal.at.loop-a-preserved c).In-loop-a) refl (c.version_set.ensures ∙ ap version_set c.action.ensures)
 
 pub returns : goal.returns
-returns c = replacing_end c.loop-a.invariant (omega (arith, c.requires.read_as.heads.arrays_are))
+returns c = replacing_end c.loop-a.invariant (omega (arith, c.arrays-a-end.ensures))

@@ -14,8 +14,8 @@ pub loop-i-preserved : goal.loop-i-preserved
 loop-i-preserved c =
     let version = get_or c.args.versions.now c.loop-i.i 0 in
     fill_next c.loop-i.invariant c.loop-i-test.true
-    (ap₂ bit_or (c.set_if-leaving.ensures ∙ ap (λ (b : Bool). cond b version 0) c.leaves.ensures)
-    (c.set_if.ensures ∙ ap₂ (λ (b : Bool) (m : ℕ). cond b m 0) c.goes_on.ensures (fill_behind c.loop-i.invariant)))
+    (ap₂ bit_or (c.only_if-leaving.ensures ∙ ap (λ (b : Bool). cond b version 0) c.leaves.ensures)
+    (c.only_if.ensures ∙ ap₂ (λ (b : Bool) (m : ℕ). cond b m 0) c.goes_on.ensures (fill_behind c.loop-i.invariant)))
 
 pub returns : goal.returns
 returns c = fill_end c.loop-i.invariant c.loop-i-test.false

@@ -1,38 +1,16 @@
 -- `pass::solve_sets` meets its contract: what is lent of the file is the bytes of the edges, whose ends are vertices.
-use mathlib.Core.Path.{sym, ap, subst, ◌∙◌}
-use mathlib.Core.List.{List}
-use Prim.Native.Nat.{ℕ}
-use native.Mathlib.Omega.{arith}
-use Rattle.flow.specs.Order.{Order}
-use Rattle.flow.specs.Paths.{edge_count}
 use Rattle.flow.proofs.Cells.{solved_pass}
-use Rattle.passes.proofs.Cells.{edges_inside, edges_part, rows_are, tables_lent, solved_over}
-use Rattle.labels.proofs.Rules.Proper.{edge_count_lem, ends_within_lem}
+use Rattle.passes.proofs.Cells.{tables_lent, solved_over}
+use Rattle.labels.proofs.Rules.Proper.{ends_within_lem}
 use Rattle.passes.proofs.pass.solve_sets.Goals as goal
 
-pub slice_bounds-solve-count : goal.slice_bounds-solve-count
-slice_bounds-solve-count c = edges_inside c.requires.read_as c.edges_at-at.ensures
-
-pub slice_bounds-solve-start : goal.slice_bounds-solve-start
-slice_bounds-solve-start c = edges_inside c.requires.read_as c.edges_at-at.ensures
-
-pub solve-requires : goal.solve-requires
-solve-requires c =
-    let file = c.args.file.now in
-    let lent = edges_part c.requires.read_as c.edges_at-at.ensures in
-    let limits = c.requires.read_as.well.laid.limits in
-    record {
-      order = subst (λ (es : List ℕ). Order (edge_count es) c.args.order.now) (sym lent) c.requires.edge_order;
-      edges_bound = omega (arith, ap edge_count lent, edge_count_lem file c.requires.read_as.well.laid, limits.few_edges);
-      tables = tables_lent c.args.halves.now c.requires.halves_len lent (ends_within_lem file c.requires.read_as.well) c.requires.gives_len c.requires.passes_len;
-      are_halves = c.requires.are_halves;
-      sets_len = c.requires.sets_len ∙ sym c.requires.halves_len;
-      halves_bound = omega (arith, rows_are c.args.halves.now c.requires.halves_len, limits.few_vertices);
-    }
+pub solve-requires-clause-tables : goal.solve-requires-clause-tables
+solve-requires-clause-tables c =
+    tables_lent c.args.halves.now c.requires.halves_len c.edge_bytes.ensures (ends_within_lem c.args.routine.now.bytes c.args.routine.now.well) c.requires.gives_len c.requires.passes_len
 
 pub returns : goal.returns
 returns c =
-    let h = solved_over c.args.halves.now c.requires.halves_len (edges_part c.requires.read_as c.edges_at-at.ensures) c.solve.ensures in
+    let h = solved_over c.args.halves.now c.requires.halves_len c.edge_bytes.ensures c.solve.ensures in
     record {
       pass = solved_pass h;
       rounds = h.counted;

@@ -7,7 +7,6 @@ use Rattle.routine.specs.Layout.{entry}
 use Rattle.labels.specs.Reaching.{reaching_of}
 use Rattle.routine.specs.Arrays.{array_of, is_in_or_inout}
 use Rattle.routine.specs.declared.array.ArrayRecord.{ArrayRecord}
-use Rattle.labels.proofs.Rules.Proper.{proper}
 use Rattle.passes.proofs.reaching.at_entry.Goals as goal
 
 -- the set, by what the calls say
@@ -16,10 +15,7 @@ brought : (file : List ℕ) (a : ℕ) {r : ArrayRecord} {b : Bool} {m n : ℕ} �
 unfolding reaching_of
 brought file a e f g h = cc
 
-pub single-requires : goal.single-requires
-single-requires c = rw c.record_of-r.ensures (proper _ c.requires.read_as.well _ c.requires.a_bound).initial_fits
-
 pub returns : goal.returns
 returns c =
     let a = c.args in
-    brought a.file.now a.a c.record_of-r.ensures c.is_in_or_inout.ensures c.single.ensures c.set_if.ensures
+    brought a.routine.now.bytes a.a c.array-r.ensures c.is_in_or_inout.ensures c.single.ensures c.only_if.ensures

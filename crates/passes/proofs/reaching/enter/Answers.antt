@@ -6,15 +6,8 @@ use Rattle.passes.proofs.reaching.enter.Goals as goal
 pub loop-a-init : goal.loop-a-init
 loop-a-init c = replacing_begin _ _ _ _
 
-pub at_entry-requires : goal.at_entry-requires
-at_entry-requires c =
-    record {
-      read_as = c.requires.read_as;
-      a_bound = omega (arith, c.requires.read_as.heads.arrays_are);
-    }
-
 pub loop-a-preserved : goal.loop-a-preserved
-loop-a-preserved c = replacing_next c.loop-a.invariant (omega (arith, c.requires.read_as.heads.arrays_are)) (omega arith) c.at_entry.ensures
+loop-a-preserved c = replacing_next c.loop-a.invariant (omega (arith, c.arrays-a-end.ensures)) (omega arith) c.at_entry.ensures
 
 pub returns : goal.returns
-returns c = replacing_end c.loop-a.invariant (omega (arith, c.requires.read_as.heads.arrays_are))
+returns c = replacing_end c.loop-a.invariant (omega (arith, c.arrays-a-end.ensures))

@@ -1,6 +1,6 @@
 -- `enter_gives` meets its contract: a row is replaced.
 use mathlib.Core.Bool.{not, ◌||◌, cond}
-use Prim.Native.Nat.{◌-◌, ◌*◌, ◌^◌}
+use Prim.Native.Nat.{◌*◌, ◌^◌}
 use lib.ListN.{get_or}
 use Rattle.routine.specs.Arrays.{kind, initial, is_in_or_inout}
 use Rattle.labels.specs.Letters.{use_of_byte}
@@ -10,7 +10,4 @@ use Rattle.words.proofs.Replaced.{Replacing}
 use Rattle.passes.proofs.reaching.enter_gives.Given as goal
 
 abbrev pub invariant-loop-a : goal.invariant-loop-a
-invariant-loop-a l = Replacing l.initial.gives (8 * entry) (λ b. cond (not (is_n (use_of_byte (get_or l.letters b 0))) || is_in_or_inout (kind l.file b)) (2 ^ initial l.file b) 0) (arrays l.file) l.gives l.a
-
-abbrev pub decreases-loop-a : goal.decreases-loop-a
-decreases-loop-a l = l.m - l.a
+invariant-loop-a l = Replacing l.initial.gives (8 * entry) (λ b. cond (not (is_n (use_of_byte (get_or l.letters b 0))) || is_in_or_inout (kind l.routine.bytes b)) (2 ^ initial l.routine.bytes b) 0) (arrays l.routine.bytes) l.gives l.a

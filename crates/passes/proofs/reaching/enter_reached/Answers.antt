@@ -10,8 +10,5 @@ loop-a-init c = replacing_begin _ _ _ _
 pub loop-a-preserved : goal.loop-a-preserved
 loop-a-preserved c = replacing_next c.loop-a.invariant c.loop-a-test.true (omega arith) refl
 
-pub shape_of-gives : goal.shape_of-gives
-shape_of-gives c = c.loop-a.invariant.sized
-
 pub returns : goal.returns
 returns c = replacing_end c.loop-a.invariant c.loop-a-test.false

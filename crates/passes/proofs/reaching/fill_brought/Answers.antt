@@ -11,7 +11,7 @@ loop-i-init c = (fill_begin _ c.requires.gives_len, fill_begin _ c.requires.pass
 pub loop-i-preserved : goal.loop-i-preserved
 loop-i-preserved c =
     let version = get_or c.args.versions.now c.loop-i.i 0 in (
-      fill_next c.loop-i.invariant.0 c.loop-i-test.true (c.set_if.ensures ∙ ap (λ (b : Bool). cond b version 0) c.is_reached.ensures),
+      fill_next c.loop-i.invariant.0 c.loop-i-test.true (c.only_if.ensures ∙ ap (λ (b : Bool). cond b version 0) c.is_reached.ensures),
       fill_next c.loop-i.invariant.1 c.loop-i-test.true c.every_if.ensures,
     )
 

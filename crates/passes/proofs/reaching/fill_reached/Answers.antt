@@ -31,19 +31,10 @@ first_cells n m few =
           ∙ sym (at i in_i ∙ ap (λ (b : Bool). cond b 1 0) (le-ltb i m (omega arith)))
     ])
 
-pub enter_reached-requires : goal.enter_reached-requires
-enter_reached-requires c = omega (arith, c.clear.auto.sets)
-
-pub shape_of-gives : goal.shape_of-gives
-shape_of-gives c = c.enter_reached.auto.gives ∙ c.clear.auto.sets
-
-pub shape_of-passes : goal.shape_of-passes
-shape_of-passes c = c.pass_reached.auto.passes
-
 pub returns : goal.returns
 returns c =
     let n = length c.args.gives.now in
     record {
-      gives_after = c.enter_reached.ensures ∙ ap (λ (t : List ℕ). with_row t entry (λ a. 1) c.args.m) c.clear.ensures ∙ first_cells n c.args.m c.requires;
+      gives_after = c.enter_reached.ensures ∙ ap (λ (t : List ℕ). with_row t entry (λ a. 1) c.args.m) (c.fill.ensures.after (λ y e. e)) ∙ first_cells n c.args.m c.requires;
       passes_after = c.pass_reached.ensures;
     }

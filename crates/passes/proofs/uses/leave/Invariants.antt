@@ -1,5 +1,5 @@
 -- `uses::leave` meets its contract: a row is replaced.
-use Prim.Native.Nat.{◌-◌, ◌*◌}
+use Prim.Native.Nat.{◌*◌}
 use Rattle.labels.specs.Letters.{letter_byte}
 use Rattle.labels.specs.declared.Use.TheVariants.{W}
 use Rattle.routine.specs.Layout.{arrays, exit}
@@ -7,7 +7,4 @@ use Rattle.words.proofs.Replaced.{Replacing}
 use Rattle.passes.proofs.uses.leave.Given as goal
 
 abbrev pub invariant-loop-a : goal.invariant-loop-a
-invariant-loop-a l = Replacing l.initial.letters (8 * exit l.file) (λ b. letter_byte W) (arrays l.file) l.letters l.a
-
-abbrev pub decreases-loop-a : goal.decreases-loop-a
-decreases-loop-a l = l.m - l.a
+invariant-loop-a l = Replacing l.initial.letters (8 * exit l.routine.bytes) (λ b. letter_byte W) (arrays l.routine.bytes) l.letters l.a

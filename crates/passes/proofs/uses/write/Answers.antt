@@ -8,7 +8,7 @@ pub loop-i-init : goal.loop-i-init
 loop-i-init c = fill_begin _ c.requires
 
 pub loop-i-preserved : goal.loop-i-preserved
-loop-i-preserved c = fill_next c.loop-i.invariant c.loop-i-test.true (c.letter.ensures ∙ ap letter_byte c.of_set.ensures)
+loop-i-preserved c = fill_next c.loop-i.invariant c.loop-i-test.true (c.from.ensures ∙ ap letter_byte c.of_set.ensures)
 
 pub returns : goal.returns
 returns c = fill_end c.loop-i.invariant c.loop-i-test.false

@@ -1,5 +1,5 @@
 -- `edges::fill_starts` meets its contract. The invariant: `at` is where the edges from v start, and the table is filled in for each vertex
--- before v. The measure is what is left.
+-- before v.
 use mathlib.Core.Path.{◌≡◌, subst}
 use Prim.Native.Nat.{ℕ, ◌≤◌, ◌<◌}
 use native.Mathlib.Omega.{arith}
@@ -13,10 +13,10 @@ use Rattle.path.proofs.edges.fill_starts.Goals.{At-loop-v, In-loop-v}
 -- ---- at each turn
 
 few : (c : At-loop-v) → c.loop-v.at ≤ 1192
-few c = omega (arith, c.loop-v.invariant.1.within, c.requires.read_as.well.laid.limits.few_edges)
+few c = omega (arith, c.loop-v.invariant.1.within, c.args.routine.now.well.laid.limits.few_edges)
 
-within : (c : In-loop-v) → c.loop-v.v < vertices c.args.file.now
-within c = omega (arith, c.requires.read_as.heads.vertices_are)
+within : (c : In-loop-v) → c.loop-v.v < vertices c.args.routine.now.bytes
+within c = omega (arith, c.vertices-n.ensures)
 
 pub loop-v-init : goal.loop-v-init
 loop-v-init c = (omega arith, first_start _, starts_begin _ _)
@@ -25,7 +25,7 @@ pub overflow_cast-starts : goal.overflow_cast-starts
 overflow_cast-starts c = omega (arith, few (goal.at.overflow_cast-starts c).At-loop-v)
 
 pub offset_bounds-starts-v : goal.offset_bounds-starts-v
-offset_bounds-starts-v c = omega (arith, within c, c.requires.read_as.well.laid.limits.few_vertices)
+offset_bounds-starts-v c = omega (arith, within c, c.args.routine.now.well.laid.limits.few_vertices)
 
 pub bounds-starts-v : goal.bounds-starts-v
 bounds-starts-v c = omega (arith, within c, c.requires.file_in_bounds, c.loop-v.invariant.2.sized)
@@ -33,7 +33,6 @@ bounds-starts-v c = omega (arith, within c, c.requires.file_in_bounds, c.loop-v.
 pub row_end-at-requires : goal.row_end-at-requires
 row_end-at-requires c =
     record {
-      read_as = c.requires.read_as;
       row_start = c.loop-v.invariant.1;
     }
 
@@ -47,17 +46,17 @@ pub overflow_cast-starts-2 : goal.overflow_cast-starts-2
 overflow_cast-starts-2 c = omega (arith, few (goal.at.overflow_cast-starts-2 c).At-loop-v)
 
 pub offset_bounds-starts-n : goal.offset_bounds-starts-n
-offset_bounds-starts-n c = omega (arith, c.requires.read_as.heads.vertices_are, c.requires.read_as.well.laid.limits.few_vertices)
+offset_bounds-starts-n c = omega (arith, c.vertices-n.ensures, c.args.routine.now.well.laid.limits.few_vertices)
 
 pub bounds-starts-n : goal.bounds-starts-n
-bounds-starts-n c = omega (arith, c.requires.read_as.heads.vertices_are, c.requires.file_in_bounds, c.loop-v.invariant.2.sized)
+bounds-starts-n c = omega (arith, c.vertices-n.ensures, c.requires.file_in_bounds, c.loop-v.invariant.2.sized)
 
 pub shape_of-starts : goal.shape_of-starts
-shape_of-starts c = let e : length (set c.loop-v.starts c.args.h.vertices c.loop-v.at) ≡ length c.args.starts.now = simp length-set c.loop-v.invariant.2.sized in e
+shape_of-starts c = let e : length (set c.loop-v.starts c.vertices-n.result c.loop-v.at) ≡ length c.args.starts.now = simp length-set c.loop-v.invariant.2.sized in e
 
 pub returns : goal.returns
 returns c =
-    let is = c.requires.read_as.heads.vertices_are in
-    let end : c.loop-v.v ≡ c.args.h.vertices = omega (arith, c.loop-v.invariant.0, c.loop-v-test.false) in
-    let done = starts_next (subst (StartsTo c.args.file.now c.args.starts.now c.loop-v.starts) end c.loop-v.invariant.2) (omega (arith, is, c.requires.file_in_bounds)) (subst (λ (v : ℕ). RowStart c.args.file.now v c.loop-v.at) end c.loop-v.invariant.1) in
+    let is = c.vertices-n.ensures in
+    let end : c.loop-v.v ≡ c.vertices-n.result = omega (arith, c.loop-v.invariant.0, c.loop-v-test.false) in
+    let done = starts_next (subst (StartsTo c.args.routine.now.bytes c.args.starts.now c.loop-v.starts) end c.loop-v.invariant.2) (omega (arith, is, c.requires.file_in_bounds)) (subst (λ (v : ℕ). RowStart c.args.routine.now.bytes v c.loop-v.at) end c.loop-v.invariant.1) in
     record { room = omega (arith, c.requires.file_in_bounds, done.sized); are = λ v h. done.are v (omega (arith, is)) }

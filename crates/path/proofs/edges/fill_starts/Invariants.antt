@@ -1,12 +1,9 @@
 -- `edges::fill_starts` meets its contract. The invariant: `at` is where the edges from v start, and the table is filled in for each vertex
--- before v. The measure is what is left.
-use Prim.Native.Nat.{◌-◌, ◌≤◌}
+-- before v.
+use Prim.Native.Nat.{◌≤◌}
 use Rattle.path.specs.Places.{RowStart}
 use Rattle.path.proofs.Places.{StartsTo}
 use Rattle.path.proofs.edges.fill_starts.Given as goal
 
 abbrev pub invariant-loop-v : goal.invariant-loop-v
-invariant-loop-v l = (l.v ≤ l.n) × RowStart l.file l.v l.at × StartsTo l.file l.initial.starts l.starts l.v
-
-abbrev pub decreases-loop-v : goal.decreases-loop-v
-decreases-loop-v l = l.n - l.v
+invariant-loop-v l = (l.v ≤ l.n) × RowStart l.routine.bytes l.v l.at × StartsTo l.routine.bytes l.initial.starts l.starts l.v

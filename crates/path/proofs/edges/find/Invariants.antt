@@ -4,7 +4,7 @@ use Rattle.path.proofs.Places.{Among}
 use Rattle.path.proofs.edges.find.Given as goal
 
 abbrev pub invariant-loop-size : goal.invariant-loop-size
-invariant-loop-size l = Among l.file l.v l.w l.low l.size
+invariant-loop-size l = Among l.routine.bytes l.v l.w l.low l.size
 
 abbrev pub decreases-loop-size : goal.decreases-loop-size
 decreases-loop-size l = l.size

@@ -10,9 +10,9 @@ use Rattle.path.proofs.edges.onward.Goals as goal
 pub returns-then-e-w : goal.returns-then-e-w
 returns-then-e-w c =
     let a = c.args in
-    rw (lt-leb (edge_of a.file.now (a.low + a.half)).to a.w (omega (arith, ap (λ (e : Edge). e.to) c.at-e.ensures, c.if-e-w.true)))
+    rw (lt-leb (edge_of a.routine.now.bytes (a.low + a.half)).to a.w (omega (arith, ap (λ (e : Edge). e.to) c.edge-e.ensures, c.if-e-w.true)))
 
 pub returns : goal.returns
 returns c =
     let a = c.args in
-    rw (le-leb (edge_of a.file.now (a.low + a.half)).to a.w (omega (arith, ap (λ (e : Edge). e.to) c.at-e.ensures, c.if-e-w.false)))
+    rw (le-leb (edge_of a.routine.now.bytes (a.low + a.half)).to a.w (omega (arith, ap (λ (e : Edge). e.to) c.edge-e.ensures, c.if-e-w.false)))

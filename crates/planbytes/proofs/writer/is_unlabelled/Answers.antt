@@ -1,4 +1,4 @@
--- `writer::is_unlabelled` meets its contract. The invariant: if `all` is empty, so are the first a cells. The measure is what is left.
+-- `writer::is_unlabelled` meets its contract. The invariant: if `all` is empty, so are the first a cells.
 use mathlib.Core.Path.{◌≡◌, ap, ◌∙◌}
 use mathlib.Core.Logic.{⊎_elim}
 use Prim.Native.Nat.{ℕ, ◌+◌, ◌*◌, ◌≤◌, ◌<◌}

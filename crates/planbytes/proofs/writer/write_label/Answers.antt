@@ -1,4 +1,4 @@
--- `writer::write_label` meets its contract: without a label no byte is written, else the eight that the tables give.
+-- `writer::write_label` meets its contract: without a label no byte is written, else the twelve that the tables give.
 use mathlib.Core.Path.{◌≡◌, sym, ap}
 use mathlib.Core.Bool.{true}
 use Prim.Native.Nat.{◌+◌, ◌*◌}
@@ -7,59 +7,26 @@ use lib.ListN.{length, get_or}
 use Rattle.labels.specs.Events.{event, is_label, version_set}
 use Rattle.planbytes.specs.Plan.{label_bytes, label_entry}
 use Rattle.words.specs.Tables.{wrote}
-use Rattle.planbytes.proofs.Cells.{labelled_bytes, unlabelled_bytes, CellWithin, cells_within, no_version, some_version, made}
+use Rattle.planbytes.proofs.Cells.{labelled_bytes, unlabelled_bytes, no_version, some_version, made}
 use Rattle.planbytes.proofs.writer.write_label.Goals as goal
 use Rattle.planbytes.proofs.writer.write_label.Goals.{Else-version-eq0, Start}
 
-places : (s : Start) → CellWithin (8 * s.args.v + s.args.a) s.args.versions.now s.args.letters.now s.args.reaching.now s.args.kept.now
-places s = cells_within s.requires.read_as s.requires.a_bound s.requires.v_bound s.requires.tabled
-
-holds-version : (s : Start) → get_or s.args.versions.now (8 * s.args.v + s.args.a) 0 ≡ version_set (event s.args.file.now s.args.a s.args.v)
+holds-version : (s : Start) → get_or s.args.versions.now (8 * s.args.v + s.args.a) 0 ≡ version_set (event s.args.routine.now.bytes s.args.a s.args.v)
 holds-version s = s.requires.tabled.versions_are.cells s.args.a s.args.v s.requires.a_bound s.requires.v_bound
 
-has_label : (c : Else-version-eq0) → is_label c.args.file.now c.args.a c.args.v ≡ true
-has_label c = some_version c.args.file.now c.args.a c.args.v (holds-version (goal.at.Else-version-eq0 c).Start) c.if-version-eq0.false
+has_label : (c : Else-version-eq0) → is_label c.args.routine.now.bytes c.args.a c.args.v ≡ true
+has_label c = some_version c.args.routine.now.bytes c.args.a c.args.v (holds-version (goal.at.Else-version-eq0 c).Start) c.if-version-eq0.false
 
-is_entry : (c : Else-version-eq0) → label_entry c.args.file.now c.args.a c.args.v ≡ label_bytes c.args.file.now c.args.a c.args.v
+is_entry : (c : Else-version-eq0) → label_entry c.args.routine.now.bytes c.args.a c.args.v ≡ label_bytes c.args.routine.now.bytes c.args.a c.args.v
 is_entry c = labelled_bytes _ _ _ (has_label c)
-
-pub overflow_mul-at : goal.overflow_mul-at
-overflow_mul-at c = omega (arith, places (goal.at.overflow_mul-at c).Start)
-
-pub overflow_add-at : goal.overflow_add-at
-overflow_add-at c = omega (arith, places (goal.at.overflow_add-at c).Start)
-
-pub offset_bounds-versions-at : goal.offset_bounds-versions-at
-offset_bounds-versions-at c = omega (arith, places (goal.at.offset_bounds-versions-at c).Start)
-
-pub bounds-versions-at : goal.bounds-versions-at
-bounds-versions-at c = omega (arith, places (goal.at.bounds-versions-at c).Start)
 
 pub returns-then-version-eq0 : goal.returns-then-version-eq0
 returns-then-version-eq0 c =
-    let e = unlabelled_bytes c.args.file.now c.args.a c.args.v (no_version c.args.file.now c.args.a c.args.v (holds-version (goal.at.returns-then-version-eq0 c).Start) c.if-version-eq0.true) in
+    let e = unlabelled_bytes c.args.routine.now.bytes c.args.a c.args.v (no_version c.args.routine.now.bytes c.args.a c.args.v (holds-version (goal.at.returns-then-version-eq0 c).Start) c.if-version-eq0.true) in
     record {
       value = sym (ap length e);
       out_after = sym (ap (wrote c.args.out.now) e);
     }
-
-pub bounds-letters-at : goal.bounds-letters-at
-bounds-letters-at c = omega (arith, places (goal.at.bounds-letters-at c).Start)
-
-pub leaving-requires : goal.leaving-requires
-leaving-requires c = omega (arith, c.if-version-eq0.false)
-
-pub offset_bounds-reaching-at : goal.offset_bounds-reaching-at
-offset_bounds-reaching-at c = omega (arith, places (goal.at.offset_bounds-reaching-at c).Start)
-
-pub bounds-reaching-at : goal.bounds-reaching-at
-bounds-reaching-at c = omega (arith, places (goal.at.bounds-reaching-at c).Start)
-
-pub offset_bounds-kept-at : goal.offset_bounds-kept-at
-offset_bounds-kept-at c = omega (arith, places (goal.at.offset_bounds-kept-at c).Start)
-
-pub bounds-kept-at : goal.bounds-kept-at
-bounds-kept-at c = omega (arith, places (goal.at.bounds-kept-at c).Start)
 
 pub write-requires : goal.write-requires
 unfolding label_bytes
@@ -71,5 +38,5 @@ returns c =
     let e = is_entry (goal.at.returns c).Else-version-eq0 in
     record {
       value = sym (ap length e);
-      out_after = rw e (made c.requires.read_as c.requires.a_bound c.requires.v_bound c.requires.tabled c.args.out.now (has_label (goal.at.returns c).Else-version-eq0) c.leaving.ensures c.write.ensures);
+      out_after = rw e (made c.requires.a_bound c.requires.v_bound c.requires.tabled c.args.out.now (has_label (goal.at.returns c).Else-version-eq0) c.leaving.ensures c.write.ensures);
     }

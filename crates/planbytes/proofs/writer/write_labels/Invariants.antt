@@ -1,7 +1,5 @@
 -- `writer::write_labels` meets its contract. The invariant: the rows of the vertices before v are written, and `at` is how long these are.
--- The measure is what is left. Assumes nothing.
 use mathlib.Core.Path.{◌≡◌}
-use Prim.Native.Nat.{◌-◌}
 use lib.ListN.{length}
 use Rattle.planbytes.specs.Plan.{label_row}
 use Rattle.routine.specs.Layout.{vertices}
@@ -10,7 +8,4 @@ use Rattle.words.proofs.Buffers.{Filled}
 use Rattle.planbytes.proofs.writer.write_labels.Given as goal
 
 abbrev pub invariant-loop-v : goal.invariant-loop-v
-invariant-loop-v l = Filled (label_row l.file) (vertices l.file) l.initial.out l.v l.out × (l.at ≡ length (rows (label_row l.file) l.v))
-
-abbrev pub decreases-loop-v : goal.decreases-loop-v
-decreases-loop-v l = l.n - l.v
+invariant-loop-v l = Filled (label_row l.routine.bytes) (vertices l.routine.bytes) l.initial.out l.v l.out × (l.at ≡ length (rows (label_row l.routine.bytes) l.v))

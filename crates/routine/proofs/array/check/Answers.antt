@@ -4,4 +4,4 @@ use Rattle.routine.proofs.array.check.Goals as goal
 
 pub returns : goal.returns
 unfolding array_check
-returns c = rw (c.check.ensures, c.record_of.ensures)
+returns c = rw (c.check.ensures, c.array.ensures)

@@ -9,11 +9,11 @@ pub returns-then-i-eq0 : goal.returns-then-i-eq0
 unfolding rises
 returns-then-i-eq0 c = cc
 
-pub returns : goal.returns
+pub returns-else-i-eq0 : goal.returns-else-i-eq0
 unfolding rises
-returns c =
+returns-else-i-eq0 c =
     let a = c.args in
     let e : a.i ≡ suc (a.i - 1) = omega arith in
     c.is_before.ensures
-    ∙ ap₂ before c.at.ensures (c.at-2.ensures ∙ ap (edge_of a.file.now) e)
-    ∙ sym (ap (rises a.file.now) e)
+    ∙ ap₂ before c.edge.ensures (c.edge-else-i-eq0.ensures ∙ ap (edge_of a.laid.now.bytes) e)
+    ∙ sym (ap (rises a.laid.now.bytes) e)

@@ -1,25 +1,30 @@
 -- `edges::of_expanded` meets its contract: the header is that of the expanded routine.
-use mathlib.Core.Path.{sym, ap, ◌∙◌}
+use Rattle.std.specs.Prelude.{Ok}
+use Rattle.std.proofs.Common.{rules}
+use Rattle.std.proofs.lemmas.Result.{MatchResult-at_ok}
+use mathlib.Core.Path.{◌≡◌, sym, ap, ◌∙◌}
 use Rattle.calls.proofs.Checks.{calls_expanded}
 use Rattle.calls.proofs.Interfaces.{interfaces_read}
-use Rattle.expansion.proofs.Expansion.{calls_failed, read_expanded}
-use Rattle.path.proofs.Counted.{never}
 use Rattle.routine.proofs.Accepted.{passed_edges}
-use Rattle.routine.specs.Layout.{edges}
+use Rattle.routine.specs.Layout.{edges, header_of}
+use Rattle.routine.specs.Reader.{answered}
+use Rattle.refusal.specs.Checks.{Verdict}
+use Rattle.calls.specs.Expanded.{expanded}
 use Rattle.run.proofs.edges.of_expanded.Goals as goal
 
 pub expand-expanded-requires : goal.expand-expanded-requires
 expand-expanded-requires c =
-    let file = c.args.file.now in
+    let file = c.args.routine.now.bytes in
     record {
-      read_as = c.requires.calls_read.read;
       interfaces = interfaces_read file c.requires.calls_read.passed;
-      file_bound = passed_edges file c.requires.calls_read.passed;
+      few_edges = passed_edges file c.requires.calls_read.passed;
       out_len = c.requires.work_len;
     }
 
-pub returns-in_default : goal.returns-in_default
-returns-in_default c = λ passed. absurd (never (calls_failed c.expand-expanded.ensures c.in_default.is) passed)
-
 pub returns : goal.returns
-returns c = λ _. (read_expanded c.expand-expanded.ensures c.in-Routine.is c.requires.calls_read.passed).heads.edges_are ∙ sym (ap edges (calls_expanded c.args.file.now c.requires.calls_read.some))
+returns c = λ passed.
+    let file = c.args.routine.now.bytes in
+    let e : c.expand-expanded.result.answer ≡ Ok (header_of (expanded file)) = c.expand-expanded.ensures.answers ∙ ap (λ (v : Verdict). answered v (header_of (expanded file))) passed in
+    let p = MatchResult-at_ok _ _ (header_of (expanded file)) e c.map_or.ensures in
+    let is : c.map_or.result ≡ edges (expanded file) = search rules in
+    is ∙ sym (ap edges (calls_expanded file c.requires.calls_read.some))

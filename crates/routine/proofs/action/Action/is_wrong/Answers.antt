@@ -1,8 +1,10 @@
 -- `Action::is_wrong` meets its contract, by cases.
 use mathlib.Core.Path.{sym, ap, ap₂, ◌∙◌}
-use mathlib.Core.Bool.{Bool, not, ◌&&◌, ◌||◌}
-use lib.Dec.{eqb, leb}
-use Rattle.routine.specs.Actions.{is_call, called_version}
+use mathlib.Core.Bool.{Bool, not, ◌||◌}
+use lib.Dec.{leb}
+use Rattle.std.specs.Prelude.{Some}
+use Rattle.routine.specs.declared.action.Family.TheVariants as F
+use Rattle.routine.specs.Actions.{is_call, called_version, differ}
 use Rattle.words.proofs.Tests.{not_below}
 use Rattle.routine.proofs.Rows.{nothing_wrong, reference_wrong, remap_wrong, unknown_wrong}
 use Rattle.routine.proofs.action.Action.is_wrong.Goals as goal
@@ -28,6 +30,6 @@ pub returns-in-Unknown : goal.returns-in-Unknown
 returns-in-Unknown c =
     let a = c.args in
     ap₂ (λ (call mixed : Bool). not call || (leb a.versions c.called_version.result || (a.terminal || mixed))) c.is_call.ensures c.is_other-in-Unknown.ensures
-    ∙ ap (λ (large : Bool). not (is_call a.b) || (large || (a.terminal || (not (eqb a.family 0) && not (eqb a.family 3)))))
+    ∙ ap (λ (large : Bool). not (is_call a.b) || (large || (a.terminal || differ (Some F.Call) a.family)))
     (ap (leb a.versions) c.called_version.ensures ∙ not_below (called_version a.b) a.versions)
     ∙ sym (unknown_wrong a.b a.versions a.terminal a.family (sym c.requires ∙ c.in-Unknown.is))

@@ -1,9 +1,0 @@
--- `put_all` ends: a byte more is stored at each turn.
-use Rattle.std.proofs.Common.{◌≤◌, ◌-◌, length}
-use Rattle.limits.proofs.build.put_all.Given as goal
-
-abbrev pub invariant-loop-i : goal.invariant-loop-i
-invariant-loop-i l = l.i ≤ length l.bytes
-
-abbrev pub decreases-loop-i : goal.decreases-loop-i
-decreases-loop-i l = length l.bytes - l.i

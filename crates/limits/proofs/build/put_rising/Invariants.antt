@@ -1,9 +1,0 @@
--- `put_rising` is safe and ends: the path fits the buffer.
-use Rattle.std.proofs.Common.{◌≤◌, ◌-◌}
-use Rattle.limits.proofs.build.put_rising.Given as goal
-
-abbrev pub invariant-loop-i : goal.invariant-loop-i
-invariant-loop-i l = l.i ≤ l.vertices
-
-abbrev pub decreases-loop-i : goal.decreases-loop-i
-decreases-loop-i l = l.vertices - l.i
