@@ -153,5 +153,5 @@ module _ {file s : List ℕ} where
 pub spreads_end : (d : ReadFile) {t : ℕ} {s : List ℕ} → templates d.bytes ≤ t → SpreadsTo d.bytes t s → Spreads d.bytes s
 spreads_end d all h = record {
   size = h.size;
-  cells = λ v b c x in_v in_c q. h.cells v b c x in_v in_c q (omega (arith, (formed d.bytes d.passed).realigned v b x in_v q));
+  cells = λ v b c x in_v in_c q. h.cells v b c x in_v in_c q (omega (arith, ((formed d.bytes d.passed).realigned v b x in_v q).0));
 }

@@ -1,4 +1,4 @@
-// The alignments that paths bring each array in: bit 2 t for template t straight, 2 t + 1 for it exchanged.
+// The alignments that paths bring each array in: bit 2 t + e for template t, exchanged e.
 ghost use Rattle.std.specs.Prelude.{◌≡◌, cond, ◌*◌, ◌^◌, ◌<◌, length};
 ghost use Rattle.flow.specs.Cells.{Cells, NoneBeyond};
 ghost use Rattle.words.specs.Tables.{with_row};
@@ -32,10 +32,10 @@ fn alignment_of(initial: Alignment, d: Directive) -> Alignment
 
 // An alignment as a set.
 fn single(x: Alignment) -> Half
-    requires { x.template < 8 }
+    requires { (x.template < 8) × (x.exchanged < 2) }
     ensures { result ≡ 2 ^ code x }
 {
-    let k = 2 * x.template + usize::from(x.exchanged);
+    let k = 2 * x.template + x.exchanged;
     sets::single(k as u8) as Half
 }
 

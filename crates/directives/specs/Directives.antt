@@ -16,9 +16,9 @@ dimension_at file at = get_or file at 0 + 256 * word file (at + 2)
 unfoldable pub spread_at : List ℕ → ℕ → Mapping
 spread_at file at = record { first = dimension_at file at; second = dimension_at file (at + 4) }
 
--- an alignment: template, whether the two dimensions are exchanged
+-- an alignment: template, exchanged
 unfoldable pub alignment_at : List ℕ → ℕ → Alignment
-alignment_at file at = record { template = get_or file at 0; exchanged = eqb (get_or file (at + 1) 0) 1 }
+alignment_at file at = record { template = get_or file at 0; exchanged = get_or file (at + 1) 0 }
 
 -- a directive, by its first byte, with its subject in the second
 abbrev pub directive_at : List ℕ → ℕ → Directive

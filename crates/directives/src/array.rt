@@ -10,11 +10,11 @@ use crate::laid::Laid;
 use refusal::Refusal;
 use routine::array::ArrayRecord;
 
-// With a template, straight or with the two dimensions exchanged.
+// With a template, straight (0) or with the two dimensions exchanged (1).
 #[derive(Clone, Copy, Debug, PartialEq, Eq)]
 pub struct Alignment {
     pub template: usize,
-    pub exchanged: bool,
+    pub exchanged: usize,
 }
 
 // The alignment that starts at `at`.
@@ -24,7 +24,7 @@ pub fn alignment_at(file: &[u8], at: usize) -> Alignment
 {
     Alignment {
         template: field::byte_at(file, at),
-        exchanged: field::byte_at(file, at + 1) == 1,
+        exchanged: field::byte_at(file, at + 1),
     }
 }
 

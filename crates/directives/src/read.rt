@@ -35,6 +35,13 @@ impl<'a> Directives<'a> {
         Directives { laid }
     }
 
+    // Its bytes.
+    pub fn bytes(&self) -> &[u8]
+        ensures { result.now ≡ self.now.bytes }
+    {
+        self.laid.bytes()
+    }
+
     pub fn templates(&self) -> usize
         ensures { result ≡ templates self.now.bytes }
     {

@@ -108,24 +108,14 @@ pub record BringsAligned (file : List ℕ) (a v : ℕ) (x : Alignment) : Type 0 
   pub path : Arrives (edge_bytes file) before v
   pub is : (state_by file before).aligned a ≡ x
 
-abbrev of_two : ℕ → Bool → Alignment
+abbrev of_two : ℕ → ℕ → Alignment
 of_two t e = record { template = t; exchanged = e }
 
--- the last bit of an alignment's number
-pub bit_below : (e : Bool) → cond e 1 0 < 2
-bit_below true = omega arith
-bit_below false = omega arith
-
-two_alike : (t u : ℕ) (e f : Bool) → 2 * t + cond e 1 0 ≡ 2 * u + cond f 1 0 → (t ≡ u) × (e ≡ f)
-two_alike t u true true h = (omega arith, refl)
-two_alike t u false false h = (omega arith, refl)
-two_alike t u true false h = absurd (omega arith)
-two_alike t u false true h = absurd (omega arith)
-
-same_code : (x y : Alignment) → code x ≡ code y → x ≡ y
-same_code x y e =
-    let p = two_alike x.template y.template x.exchanged y.exchanged e in
-    ap₂ of_two p.0 p.1
+same_code : (x y : Alignment) → x.exchanged < 2 → y.exchanged < 2 → code x ≡ code y → x ≡ y
+same_code x y h g e =
+    let t : x.template ≡ y.template = omega arith in
+    let f : x.exchanged ≡ y.exchanged = omega arith in
+    ap₂ of_two t f
 
 module _ {file : List ℕ} (formed : Formed file) (a : ℕ) (in_a : a < arrays file) where
   abbrev start : Alignment
@@ -148,7 +138,7 @@ module _ {file : List ℕ} (formed : Formed file) (a : ℕ) (in_a : a < arrays f
       go (Redistribute t m) e = formed.aligned a in_a
 
   numbers_fit : (u : ℕ) → u < vertices file → number u < 16
-  numbers_fit u h = omega (arith, right_of u h, bit_below (alignment_of start (directive file u)).exchanged, formed.few_templates)
+  numbers_fit u h = omega (arith, (right_of u h).0, (right_of u h).1, formed.few_templates)
 
   -- a realign of the array gives it the new alignment, any other directive leaves the old one
   new_alignment : (d : Directive) (s : State) → T (realigns a d) → (after d s).aligned a ≡ alignment_of start d
@@ -180,12 +170,12 @@ module _ {file : List ℕ} (formed : Formed file) (a : ℕ) (in_a : a < arrays f
     brings_right x b =
         subst (Right file) b.is (told_held formed 16 (realigns a) number Is numbers_fit gives_it keeps_it begins v other b.before b.path).2.1
 
-    -- the set of v holds the number of an alignment exactly if some path brings the array in it
-    pub alignments_exact : (x : Alignment) → T (has (get_or (align_sets file a) v 0) (code x)) ↔ BringsAligned file a v x
+    -- the set of v holds 2 t + e exactly if some path brings the array aligned with template t, exchanged e
+    pub alignments_exact : (x : Alignment) → x.exchanged < 2 → T (has (get_or (align_sets file a) v 0) (code x)) ↔ BringsAligned file a v x
     unfolding align_sets
-    alignments_exact x = (
+    alignments_exact x small = (
       λ h. let b = held_told formed 16 (realigns a) number Is numbers_fit gives_it keeps_it begins v (code x) h in
-          record { before = b.0; path = b.1; is = same_code ((state_by file b.0).aligned a) x b.2.0 },
+          record { before = b.0; path = b.1; is = same_code ((state_by file b.0).aligned a) x b.2.1.1 small b.2.0 },
       λ b. let t = told_held formed 16 (realigns a) number Is numbers_fit gives_it keeps_it begins v other b.before b.path in
           subst (λ (k : ℕ). T (has (get_or (align_sets file a) v 0) k)) (sym t.2.0 ∙ ap code b.is) t.1,
     )

@@ -5,6 +5,7 @@ use mathlib.Core.Path.{◌≡◌, refl, sym, ap, subst, ◌∙◌}
 use mathlib.Core.Bool.{Bool, true, false, not, ◌&&◌, ◌||◌, cond, true≢false}
 use mathlib.Core.List.{List, [], ◌∷◌}
 use Prim.Native.Nat.{ℕ, ◌+◌, ◌*◌, ◌≤◌, ◌<◌}
+use native.Mathlib.Nat.{add_assoc}
 use native.Mathlib.Omega.{arith}
 use borrow.Author.Tests.{leb-true, ltb-true, eqb-true}
 use lib.Dec.{T, eqb, ltb}
@@ -40,7 +41,10 @@ module _ (file : List ℕ) (passed : check40 file ≡ Ok tt) where
   unfolding array_fields alignment_at
   array_aligned a h =
       let r = array_passed file passed a h in
-      ltb-true _ _ (passed_right_here file _ _ (behind file 1 (array_fields file a) r))
+      let t : get_or file (array_at file a + 1) 0 < templates file = ltb-true _ _ (passed_right_here file _ _ (behind file 1 (array_fields file a) r)) in
+      let e : get_or file (array_at file a + 2) 0 ≤ 1 = leb-true _ _ (passed_right_here file _ _ (behind file 2 (array_fields file a) r)) in
+      let same : get_or file (array_at file a + 1 + 1) 0 ≡ get_or file (array_at file a + 2) 0 = ap (λ (i : ℕ). get_or file i 0) (add_assoc (array_at file a) 1 1) in
+      (t, omega (arith, same, e))
 
   -- ---- vertices
 
@@ -57,8 +61,11 @@ module _ (file : List ℕ) (passed : check40 file ≡ Ok tt) where
         yes q =
             let d = directive_byte file v in
             let t : get_or file (vertex_at file v + 2) 0 < cond (eqb d 1) (templates file) 1 = ltb-true _ _ (passed_right_here file _ _ (behind file 2 (directive_fields file v) directive_passed)) in
+            let u : get_or file (vertex_at file v + 3) 0 ≤ cond (eqb d 1) 1 0 = leb-true _ _ (passed_right_here file _ _ (behind file 3 (directive_fields file v) directive_passed)) in
+            let u1 : get_or file (vertex_at file v + 3) 0 ≤ 1 = rw q at u in
             let is : alignment_at file (vertex_at file v + 2) ≡ x = cc (rw q at e) in
-            subst (Right file) is (rw q at t)
+            let same : get_or file (vertex_at file v + 2 + 1) 0 ≡ get_or file (vertex_at file v + 3) 0 = ap (λ (i : ℕ). get_or file i 0) (add_assoc (vertex_at file v) 2 1) in
+            subst (Right file) is (rw q at t, omega (arith, same, u1))
 
         no : eqb (directive_byte file v) 1 ≡ false → Right file x
         no q = by_test (eqb (directive_byte file v) 2)

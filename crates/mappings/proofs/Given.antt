@@ -2,10 +2,10 @@
 -- has a version.
 -- Assumes nothing.
 use mathlib.Core.Path.{◌≡◌, refl, sym, ap, subst, ◌∙◌}
-use mathlib.Core.Bool.{Bool, true, false, not, cond}
+use mathlib.Core.Bool.{Bool, not, cond}
 use mathlib.Core.List.{List, [], ◌∷◌}
 use mathlib.Core.Logic.{◌↔◌, ⊎_elim}
-use Prim.Native.Nat.{ℕ, zero, suc, ◌+◌, ◌*◌, ◌<◌}
+use Prim.Native.Nat.{ℕ, ◌+◌, ◌*◌, ◌<◌}
 use native.Mathlib.Omega.{arith}
 use lib.Dec.{T, eqb, T_not}
 use lib.Ieee.Bits.{is_true, is_false}
@@ -26,18 +26,8 @@ use Rattle.mappings.specs.Converted.{is_listed, version_in}
 use Rattle.mappings.specs.Rules.{Gives, mapping_after, initial_mapping}
 use Rattle.mappings.specs.Theorem.{Formed}
 use Rattle.mappings.proofs.Along.{unmoved, arrives_below, state_first, state_next, by_path}
-use Rattle.mappings.proofs.Facts.{BringsAligned, bit_below, alignments_exact, spreads_exact, spread_below}
+use Rattle.mappings.proofs.Facts.{BringsAligned, brings_right, alignments_exact, spreads_exact, spread_below}
 use Rattle.mappings.proofs.Lists.{listed_rows, listed_none, listed_head, number_head, numbered_some, numbered_first, numbered_all}
-
--- the last bit of an alignment's number, as a number and as a test
-bit_of : (e : ℕ) → e < 2 → cond (eqb e 1) 1 0 ≡ e
-bit_of zero h = refl
-bit_of (suc zero) h = refl
-bit_of (suc (suc e)) h = absurd (omega arith)
-
-bit_is : (e : Bool) → eqb (cond e 1 0) 1 ≡ e
-bit_is true = refl
-bit_is false = refl
 
 module _ {file : List ℕ} (formed : Formed file) (a : ℕ) (in_a : a < arrays file) where
   module _ (v : ℕ) (m : Mapping) where
@@ -89,9 +79,8 @@ module _ {file : List ℕ} (formed : Formed file) (a : ℕ) (in_a : a < arrays f
     by_redistribute : (v ≡ entry → ⊥) → (t : ℕ) (r : Mapping) → T (is_listed m (given_by file a v (Redistribute t r))) ↔ GivesBy (Redistribute t r)
     by_redistribute other t r = (
       λ h. let g = all.0 h in
-          let x : Alignment = record { template = t; exchanged = eqb g.0 1 } in
-          let number : 2 * t + g.0 ≡ code x = ap (λ (e : ℕ). 2 * t + e) (sym (bit_of g.0 g.1)) in
-          let p = (alignments_exact formed a in_a v other x).0 (subst (λ (k : ℕ). T (has (get_or (align_sets file a) v 0) k)) number g.2) in
+          let x : Alignment = record { template = t; exchanged = g.0 } in
+          let p = (alignments_exact formed a in_a v other x g.1).0 g.2 in
           let with-t : T (eqb ((state_by file p.before).aligned a).template t) = (eqb_iff _ t).1 (ap (λ (y : Alignment). y.template) p.is) in
           record {
             before = p.before;
@@ -101,17 +90,18 @@ module _ {file : List ℕ} (formed : Formed file) (a : ℕ) (in_a : a < arrays f
           },
       λ g. let y = (state_by file g.before).aligned a in
           let b : BringsAligned file a v y = record { before = g.before; path = g.path; is = refl } in
-          let e : code y ≡ 2 * t + cond y.exchanged 1 0 = ap (λ (n : ℕ). 2 * n + cond y.exchanged 1 0) ((eqb_iff y.template t).0 g.remaps) in
+          let small = (brings_right formed a in_a v other y b).1 in
+          let e : code y ≡ 2 * t + y.exchanged = ap (λ (n : ℕ). 2 * n + y.exchanged) ((eqb_iff y.template t).0 g.remaps) in
           all.1 (
-            cond y.exchanged 1 0,
-            bit_below y.exchanged,
-            subst (λ (k : ℕ). T (has (get_or (align_sets file a) v 0) k)) e ((alignments_exact formed a in_a v other y).1 b),
-            ap (λ (e : Bool). turned e r) (bit_is y.exchanged) ∙ sym (redistributed t r (state_by file g.before) g.remaps) ∙ g.is,
+            y.exchanged,
+            small,
+            subst (λ (k : ℕ). T (has (get_or (align_sets file a) v 0) k)) e ((alignments_exact formed a in_a v other y small).1 b),
+            sym (redistributed t r (state_by file g.before) g.remaps) ∙ g.is,
           ),
     )
       where
-        all : T (is_listed m (given_by file a v (Redistribute t r))) ↔ ((e : ℕ) × (e < 2) × T (has (get_or (align_sets file a) v 0) (2 * t + e)) × (turned (eqb e 1) r ≡ m))
-        all = listed_rows m (λ e. has (get_or (align_sets file a) v 0) (2 * t + e)) (λ e. turned (eqb e 1) r) 2
+        all : T (is_listed m (given_by file a v (Redistribute t r))) ↔ ((e : ℕ) × (e < 2) × T (has (get_or (align_sets file a) v 0) (2 * t + e)) × (turned e r ≡ m))
+        all = listed_rows m (λ e. has (get_or (align_sets file a) v 0) (2 * t + e)) (λ e. turned e r) 2
 
     by_directive : (d : Directive) → (v ≡ entry → d ≡ Nothing) → T (is_listed m (given_by file a v d)) ↔ GivesBy d
     by_directive Nothing first = (λ h. absurd (listed_none m h), λ g. absurd g.remaps)

@@ -136,7 +136,7 @@ module _ {file : List ℕ} (formed : Formed file) (a : ℕ) (in_a : a < arrays f
         let away : T (not (eqb (s.aligned a).template t)) = subst (λ (d : Directive). T (not (remaps_in s d a))) e n in
         (elsewhere_iff t (templates file) k).1 (record {
           template = (s.aligned a).template;
-          below = right;
+          below = right.0;
           other = λ z. T_not (eqb (s.aligned a).template t) away ((eqb_iff _ t).1 z);
           holds = (held_exact formed a in_a few (s.aligned a).template v k (inner e)).1 (record {
             before = l.before;

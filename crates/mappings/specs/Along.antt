@@ -16,9 +16,9 @@ use Rattle.directives.specs.declared.vertex.Directive.TheVariants.{Nothing, Real
 abbrev pub alike : Mapping → Mapping → Bool
 alike m n = eqb m.first n.first && eqb m.second n.second
 
--- the two dimensions exchanged, if e says so
-abbrev pub turned : Bool → Mapping → Mapping
-turned e m = cond e (record { first = m.second; second = m.first }) m
+-- the two dimensions exchanged, if e is 1
+abbrev pub turned : ℕ → Mapping → Mapping
+turned e m = cond (eqb e 1) (record { first = m.second; second = m.first }) m
 
 -- ---- along a path
 

@@ -52,9 +52,9 @@ alignment_of initial (Redistribute t m) = initial
 
 -- as a number, below 16 for 8 templates
 abbrev pub code : Alignment → ℕ
-code x = 2 * x.template + cond x.exchanged 1 0
+code x = 2 * x.template + x.exchanged
 
--- bit 2 t + e in the set of v: some path brings the array aligned with template t, straight (e = 0) or exchanged (1)
+-- bit 2 t + e in the set of v: some path brings the array aligned with template t, exchanged e
 unfoldable pub align_sets : List ℕ → ℕ → List ℕ
 unfolding last_sets directive
 align_sets file a =
@@ -95,7 +95,7 @@ given_by file a v (Realign b x) =
     cond (eqb a b)
     (rows (λ u. cond (has (get_or (spread_sets file x.template) v 0) u) (turned x.exchanged (spread_by file x.template u) ∷ []) []) (vertices file))
     []
-given_by file a v (Redistribute t m) = rows (λ e. cond (has (get_or (align_sets file a) v 0) (2 * t + e)) (turned (eqb e 1) m ∷ []) []) 2
+given_by file a v (Redistribute t m) = rows (λ e. cond (has (get_or (align_sets file a) v 0) (2 * t + e)) (turned e m ∷ []) []) 2
 
 unfoldable pub given_to : List ℕ → ℕ → ℕ → List Mapping
 unfolding directive align_sets spread_sets

@@ -18,9 +18,9 @@ use Rattle.mappings.specs.Along.{initial_state, state_by, mapping}
 use Rattle.mappings.specs.Converted.{is_listed, versions, converted_by}
 use Rattle.mappings.specs.Rules.{Gives, InTwo}
 
--- with a template of the file
+-- a template of the file, straight or exchanged
 abbrev pub Right : List ℕ → Alignment → Type 0
-Right file x = x.template < templates file
+Right file x = (x.template < templates file) × (x.exchanged < 2)
 
 -- what check 40 leaves
 pub record Formed (file : List ℕ) : Type 0 where

@@ -1,5 +1,5 @@
 // What the directive at a vertex gives an array.
-ghost use Rattle.std.specs.Prelude.{◌≡◌, cond, [], ◌∷◌, ◌+◌, ◌*◌, ◌≤◌, ◌<◌, eqb, length, get_or};
+ghost use Rattle.std.specs.Prelude.{◌≡◌, cond, [], ◌∷◌, ◌+◌, ◌*◌, ◌≤◌, ◌<◌, length, get_or};
 ghost use Rattle.words.specs.Tables.{rows};
 ghost use Rattle.directives.specs.Directives.{directive};
 ghost use Rattle.directives.specs.Layout.{arrays, vertices};
@@ -72,12 +72,12 @@ fn redistributed(t: usize, m: Mapping, aligned: Set, list: &mut [Mapping], p: Nu
     requires t_bound { t < 8 }
     requires list_len { length list.old ≡ width }
     requires count_bound { p.count ≤ width + 1 }
-    ensures { Grows (rows (λ e. cond (has aligned (2 * t + e)) (turned (eqb e 1) m ∷ []) []) 2) list.old p list.new result }
+    ensures { Grows (rows (λ e. cond (has aligned (2 * t + e)) (turned e m ∷ []) []) 2) list.old p list.new result }
 {
     let mut q = p;
     for e in 0..2 {
         if sets::member(aligned, (2 * t + e) as u8) {
-            q = list::add(list, q, mapping::turned(e == 1, m));
+            q = list::add(list, q, mapping::turned(e, m));
         }
     }
     q

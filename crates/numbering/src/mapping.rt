@@ -10,11 +10,11 @@ use directives::read::Directives;
 use directives::spread::Mapping;
 use directives::vertex::Directive;
 
-// The two dimensions exchanged, if `exchanged` says so.
-pub fn turned(exchanged: bool, m: Mapping) -> Mapping
-    ensures { result ≡ turned exchanged m }
+// The two dimensions exchanged, if e is 1.
+pub fn turned(e: usize, m: Mapping) -> Mapping
+    ensures { result ≡ turned e m }
 {
-    if exchanged {
+    if e == 1 {
         Mapping {
             first: m.second,
             second: m.first,

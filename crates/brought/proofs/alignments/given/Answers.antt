@@ -26,7 +26,7 @@ alignment-requires c = c.requires.a_bound
 pub single-requires : goal.single-requires
 single-requires c =
     let right = subst (Right c.args.directives.now.bytes) (sym (is_alignment (goal.at.single-requires c).After-alignment_of)) c.requires.right in
-    omega (arith, right, (read_limits c.args.directives.now).few_templates)
+    (omega (arith, right.0, (read_limits c.args.directives.now).few_templates), right.1)
 
 pub returns-then-aligns : goal.returns-then-aligns
 returns-then-aligns c =

@@ -5,7 +5,6 @@ use mathlib.Core.List.{List, [], ◌∷◌}
 use Prim.Native.Nat.{ℕ, ◌+◌, ◌*◌, ◌<◌}
 use native.Mathlib.Omega.{arith}
 use borrow.Author.Tests.{ne_eqb}
-use lib.Dec.{eqb}
 use Rattle.words.specs.Tables.{rows}
 use Rattle.flow.proofs.Cells.{in_cells}
 use Rattle.directives.proofs.Limits.{read_limits}
@@ -73,7 +72,7 @@ redistributed-requires c =
 pub returns-in-Redistribute : goal.returns-in-Redistribute
 returns-in-Redistribute c =
     gives (goal.at.returns-in-Redistribute c).Start (sym c.directive.ensures ∙ c.in-Redistribute.is)
-    (subst (λ (set : ℕ). Grown (goal.at.returns-in-Redistribute c).Start (rows (λ e. cond (has set (2 * c.in-Redistribute.t + e)) (turned (eqb e 1) c.in-Redistribute.m ∷ []) []) 2) c.redistributed.new.list c.redistributed.result)
+    (subst (λ (set : ℕ). Grown (goal.at.returns-in-Redistribute c).Start (rows (λ e. cond (has set (2 * c.in-Redistribute.t + e)) (turned e c.in-Redistribute.m ∷ []) []) 2) c.redistributed.new.list c.redistributed.result)
     (c.requires.alignments.cells c.args.a c.args.v c.requires.a_bound c.requires.v_bound)
     c.redistributed.ensures)
 

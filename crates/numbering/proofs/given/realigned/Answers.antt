@@ -34,7 +34,7 @@ is_brought-requires c =
 pub spread_by-requires : goal.spread_by-requires
 spread_by-requires c =
     record {
-      t_bound = ((formed c.args.directives.now.bytes c.args.directives.now.passed).realigned c.args.v c.args.a c.args.x c.requires.v_bound c.requires.v_value);
+      t_bound = ((formed c.args.directives.now.bytes c.args.directives.now.passed).realigned c.args.v c.args.a c.args.x c.requires.v_bound c.requires.v_value).0;
       u_bound = in_u (goal.at.spread_by-requires c).In-loop-u;
     }
 

@@ -2,7 +2,6 @@
 use mathlib.Core.Path.{◌≡◌, sym, subst, ◌∙◌}
 use Prim.Native.Nat.{ℕ}
 use native.Mathlib.Omega.{arith}
-use lib.Dec.{eqb}
 use Rattle.words.specs.Tables.{rows}
 use Rattle.mappings.specs.Along.{turned}
 use Rattle.numbering.specs.Lists.{Grows}
@@ -30,7 +29,7 @@ loop-e-preserved c =
       grows_row (row s.t s.m s.aligned) c.loop-e.e c.loop-e.invariant.1
           (elim c.if-member.branch [
             | then-member w ↦ grows_as w.list-is w.q-is (grows_in (sym c.member.ensures ∙ w.if-member.true) w.turned.ensures w.add-q.ensures)
-            | else-member w ↦ grows_as w.list-is w.q-is (grows_out (turned (eqb c.loop-e.e 1) s.m) (sym c.member.ensures ∙ w.if-member.false) c.loop-e.invariant.1.room c.loop-e.invariant.1.most)
+            | else-member w ↦ grows_as w.list-is w.q-is (grows_out (turned c.loop-e.e s.m) (sym c.member.ensures ∙ w.if-member.false) c.loop-e.invariant.1.room c.loop-e.invariant.1.most)
           ]),
     )
 

@@ -14,7 +14,7 @@ alignment-x-requires c = c.requires.a_bound
 pub spread-requires : goal.spread-requires
 spread-requires c =
     let file = c.args.directives.now.bytes in
-    subst (λ (x : Alignment). x.template < templates file) (sym c.alignment-x.ensures) ((formed file c.args.directives.now.passed).aligned c.args.a c.requires.a_bound)
+    subst (λ (x : Alignment). x.template < templates file) (sym c.alignment-x.ensures) ((formed file c.args.directives.now.passed).aligned c.args.a c.requires.a_bound).0
 
 pub returns : goal.returns
 returns c =
