@@ -32,15 +32,15 @@ fn first_of(routine: &Routine, firsts: &[u16], v: usize) -> usize
     firsts[v] as usize
 }
 
-// Whether vertex v is a call: it becomes more than one.
-pub fn is_call(routine: &Routine, firsts: &[u16], v: usize) -> bool
-    requires firsts { Firsts routine.now.bytes firsts.now }
-    requires file_bound { expanded_vertices routine.now.bytes ≤ 256 }
-    requires v_bound { v < vertices routine.now.bytes }
-    ensures { result ≡ is_call_row routine.now.bytes v }
+// Whether vertex v is a call: it becomes more than one. Of the file it asks no more than the table does.
+pub fn is_call(file: &[u8], firsts: &[u16], v: usize) -> bool
+    requires firsts { Firsts file.now firsts.now }
+    requires file_bound { expanded_vertices file.now ≤ 256 }
+    requires v_bound { v < vertices file.now }
+    ensures { result ≡ is_call_row file.now v }
 {
-    let first = first_of(routine, firsts, v);
-    let next = first_of(routine, firsts, v + 1);
+    let first = firsts[v] as usize;
+    let next = firsts[v + 1] as usize;
     next > first + 1
 }
 

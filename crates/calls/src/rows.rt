@@ -124,7 +124,7 @@ fn write_vertex(
     ensures value { result ≡ length (vertex_rows routine.now.bytes v) }
     ensures out_after { out.new ≡ wrote out.old (vertex_rows routine.now.bytes v) }
 {
-    let call = edges::is_call(routine, firsts, v);
+    let call = edges::is_call(routine.bytes(), firsts, v);
     if call {
         write_call(routine, v, arrivals, out);
         return 3 * routine.arrays();

@@ -5,37 +5,42 @@ ghost use Rattle.flow.specs.Cells.{NoneBeyond};
 ghost use Rattle.labels.specs.Events.{event, version_set};
 ghost use Rattle.labels.specs.Uses.{use_gives};
 ghost use Rattle.passes.specs.Tables.{CellsAlone, Versions, UseGives};
-ghost use Rattle.routine.specs.Actions.{action};
+ghost use Rattle.routine.specs.Actions.{action, action_byte};
 ghost use Rattle.routine.specs.Layout.{arrays, vertices};
-ghost use Rattle.words.specs.Tables.{with_row};
+ghost use Rattle.words.specs.Tables.{table, with_row};
 
 use labels::event;
 use labels::read::Routine;
+use routine::action::Action;
 use sets::{Half, Set};
 
-// The versions of vertex v's remappings, as sets.
-fn versions_row(routine: &Routine, v: usize, versions: &mut [Set])
+// The versions of vertex v's remappings, as sets. Its row of action bytes is lent, so that no byte's place is worked out anew.
+fn versions_row(routine: &Routine, row: &[u8], v: usize, versions: &mut [Set])
+    requires row_value { row.now ≡ table (λ a. action_byte routine.now.bytes a v) (arrays routine.now.bytes) }
     requires v_bound { v < vertices routine.now.bytes }
     requires versions_len { length versions.old ≡ 8 * vertices routine.now.bytes }
     ensures { versions.new
         ≡ with_row versions.old v (λ a. version_set (action routine.now.bytes a v)) (arrays routine.now.bytes) }
 {
     for a in 0..routine.arrays() {
+        let x = Action::from(row[a]);
         let at = flow::COLUMNS * v + a;
-        versions[at] = event::version_set(routine.action(a, v));
+        versions[at] = event::version_set(x);
     }
 }
 
 // What vertex v's actions give to the sets of use.
-fn uses_row(routine: &Routine, v: usize, uses: &mut [Half])
+fn uses_row(routine: &Routine, row: &[u8], v: usize, uses: &mut [Half])
+    requires row_value { row.now ≡ table (λ a. action_byte routine.now.bytes a v) (arrays routine.now.bytes) }
     requires v_bound { v < vertices routine.now.bytes }
     requires uses_len { length uses.old ≡ 8 * vertices routine.now.bytes }
     ensures { uses.new
         ≡ with_row uses.old v (λ a. use_gives (action routine.now.bytes a v)) (arrays routine.now.bytes) }
 {
     for a in 0..routine.arrays() {
+        let x = Action::from(row[a]);
         let at = flow::COLUMNS * v + a;
-        uses[at] = event::gives_of(routine.action(a, v));
+        uses[at] = event::gives_of(x);
     }
 }
 
@@ -67,8 +72,9 @@ fn action_rows(routine: &Routine, versions: &mut [Set], uses: &mut [Half])
     ensures cells_alone_2 { CellsAlone routine.now.bytes (λ a v. use_gives (action routine.now.bytes a v)) uses.new }
 {
     for v in 0..routine.vertices() {
-        versions_row(routine, v, versions);
-        uses_row(routine, v, uses);
+        let row = routine.row(v);
+        versions_row(routine, row, v, versions);
+        uses_row(routine, row, v, uses);
     }
 }
 

@@ -197,7 +197,10 @@ fn plan_calls(routine: &Routine, out: &mut [u8]) -> Result<usize, Refusal>
 pub fn plan(file: &[u8], out: &mut [u8]) -> Result<usize, Refusal>
     ensures { Planned file.now out.old result out.new }
 {
-    let header = reader::read(file)?;
+    let answer = reader::read(file);
+    let Ok(header) = answer else {
+        return reader::denied(answer);
+    };
     let routine = Routine::new(file, header);
     if scan::any(&routine) {
         return plan_calls(&routine, out);

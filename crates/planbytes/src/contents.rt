@@ -3,7 +3,7 @@ ghost use Rattle.std.specs.Prelude.{◌≡◌, cond, ◌+◌, ◌*◌, ◌≤◌
 ghost use Rattle.passes.specs.Tables.{Versions};
 ghost use Rattle.planbytes.specs.Plan.{labels_at, label_count, contents};
 ghost use Rattle.planbytes.specs.Tables.{Firsts};
-ghost use Rattle.routine.specs.Layout.{vertices};
+ghost use Rattle.routine.specs.Layout.{arrays, vertices};
 ghost use Rattle.words.specs.Tables.{wrote};
 
 use crate::label::Label;
@@ -30,15 +30,15 @@ fn label_at(versions: &[Set], at: usize, counts: bool) -> usize
     0
 }
 
-// How many labels vertex v has. It looks at all eight cells, so that the compiler makes one vector of them; those of columns beyond
-// the last array do not count.
-fn labels_at(routine: &Routine, v: usize, versions: &[Set]) -> usize
+// How many labels vertex v has, of m arrays. It looks at all eight cells, so that the compiler makes one vector of them; those of columns
+// beyond the last array do not count.
+fn labels_at(routine: &Routine, m: usize, v: usize, versions: &[Set]) -> usize
+    requires m_value { m ≡ arrays routine.now.bytes }
     requires versions { Versions routine.now.bytes versions.now }
     requires v_bound { v < vertices routine.now.bytes }
     ensures value { result ≡ labels_at routine.now.bytes v }
     ensures upper_bound { result ≤ 8 }
 {
-    let m = routine.arrays();
     let mut count = 0;
     for a in 0..flow::COLUMNS {
         count += label_at(versions, flow::COLUMNS * v + a, a < m);
@@ -55,10 +55,12 @@ pub fn label_count(routine: &Routine, versions: &[Set], firsts: &mut [u16]) -> u
     ensures upper_bound { result ≤ 2048 }
 {
     let n = routine.vertices();
+    // asked once: which cells count is then worked out once, too
+    let m = routine.arrays();
     let mut count = 0;
     for v in 0..n {
         firsts[v] = count as u16;
-        count += labels_at(routine, v, versions);
+        count += labels_at(routine, m, v, versions);
     }
     firsts[n] = count as u16;
     count

@@ -184,7 +184,10 @@ fn rounds_calls(routine: &Routine, out: &mut [u8]) -> Result<usize, Refusal>
 pub fn rounds(file: &[u8], out: &mut [u8]) -> Result<usize, Refusal>
     ensures { Rounded file.now out.old result out.new }
 {
-    let header = reader::read(file)?;
+    let answer = reader::read(file);
+    let Ok(header) = answer else {
+        return reader::denied(answer);
+    };
     let routine = Routine::new(file, header);
     if scan::any(&routine) {
         return rounds_calls(&routine, out);

@@ -11,6 +11,7 @@ use Rattle.refusal.specs.declared.Refusal.{Refusal}
 use Rattle.routine.specs.Actions.{action, action_check, actions_check}
 use Rattle.routine.specs.Arrays.{array_of, array_check, check14}
 use Rattle.refusal.specs.Checks.{Verdict, ◌and_then◌}
+use Rattle.refusal.specs.Replies.{Reply}
 use Rattle.routine.specs.Edges.{edge_of, before, edge_check, check16}
 use Rattle.routine.specs.Layout.{arrays, vertices, edges, entry, exit, end_at, header_of, check10, check11, check12, check13}
 use Rattle.sets.specs.Sets.{width}
@@ -43,6 +44,12 @@ answered (Err r) h = Err r
 unfoldable pub read_of : List ℕ → Answer
 unfolding read_check
 read_of file = answered (read_check file) (header_of file)
+
+-- a refusal of the reader's, handed on. `plan`, `run` and `rounds` ask for it only where the answer is a refusal; `Ok 0` is never an answer of
+-- theirs, and stands here so that each case has a value
+abbrev pub denied_of : Answer → Reply
+denied_of (Ok h) = Ok 0
+denied_of (Err r) = Err r
 
 -- ---- how the code keeps it: what a routine has, and a file that passed
 

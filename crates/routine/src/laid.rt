@@ -1,5 +1,5 @@
 // A file that checks 10 to 13 have passed: its bytes, and its header. A contract sees the bytes, and that the bodies fill them.
-ghost use Rattle.std.specs.Prelude.{◌≡◌, ◌<◌};
+ghost use Rattle.std.specs.Prelude.{◌≡◌, ◌+◌, ◌<◌, length};
 ghost use Rattle.routine.specs.Actions.{action, action_byte};
 ghost use Rattle.routine.specs.Arrays.{array_of};
 ghost use Rattle.routine.specs.Edges.{edge_of};
@@ -85,7 +85,8 @@ impl<'a> Laid<'a> {
     pub fn action_at(&self, a: usize, v: usize) -> usize
         requires a_bound { a < arrays self.now.bytes }
         requires v_bound { v < vertices self.now.bytes }
-        ensures { result ≡ action_at self.now.bytes a v }
+        ensures value { result ≡ action_at self.now.bytes a v }
+        ensures upper_bound { result < length self.now.bytes }
     {
         self.header.actions_at() + v * self.header.arrays + a
     }
@@ -112,7 +113,8 @@ impl<'a> Laid<'a> {
     // Where edge i stands.
     pub fn edge_at(&self, i: usize) -> usize
         requires { i < edges self.now.bytes }
-        ensures { result ≡ edge_at self.now.bytes i }
+        ensures value { result ≡ edge_at self.now.bytes i }
+        ensures upper_bound { result + 3 < length self.now.bytes }
     {
         self.header.edges_at() + Edge::SIZE * i
     }

@@ -1,6 +1,6 @@
 // The reader: checks 10 to 14, then 15 with 17, 18 and 19, then 16 (document 01, "Who can cause a refusal"; document 02, request 2).
 ghost use Rattle.std.specs.Prelude.{◌≡◌};
-ghost use Rattle.routine.specs.Reader.{body_check, read_of};
+ghost use Rattle.routine.specs.Reader.{body_check, read_of, denied_of};
 
 use crate::header::Header;
 use crate::laid::Laid;
@@ -25,4 +25,14 @@ pub fn read(file: &[u8]) -> Result<Header, Refusal>
     let laid = Laid::new(file, h);
     check_bodies(&laid)?;
     Ok(h)
+}
+
+// The reader's refusal as a call's answer; for a header, of which nothing is handed on, no length.
+pub fn denied(answer: Result<Header, Refusal>) -> Result<usize, Refusal>
+    ensures { result ≡ denied_of answer }
+{
+    match answer {
+        Ok(_) => Ok(0),
+        Err(refusal) => Err(refusal),
+    }
 }

@@ -241,7 +241,10 @@ fn run_calls(routine: &Routine, path: &[u8], out: &mut [u8]) -> Result<usize, Re
 pub fn run(file: &[u8], path: &[u8], out: &mut [u8]) -> Result<usize, Refusal>
     ensures { Ran file.now path.now out.old result out.new }
 {
-    let header = reader::read(file)?;
+    let answer = reader::read(file);
+    let Ok(header) = answer else {
+        return reader::denied(answer);
+    };
     let routine = Routine::new(file, header);
     if scan::any(&routine) {
         return run_calls(&routine, path, out);

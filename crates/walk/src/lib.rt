@@ -21,6 +21,7 @@ ghost use Rattle.words.specs.Tables.{table, replaced, wrote};
 
 use labels::read::Routine;
 use report::record::Record;
+use routine::action::Action;
 use routine::array::ArrayRecord;
 use sets::{Set, WIDTH};
 use state::Carried;
@@ -117,9 +118,10 @@ fn refer(
     requires stamps_in_bounds { length (row_bytes routine.now.bytes v step versions.now stamps.old) ≤ length out.old }
     ensures { Referred routine.now.bytes v step versions.now stamps.old out.old result stamps.new out.new }
 {
+    let row = routine.row(v);
     let mut bytes = 0;
     for a in 0..routine.arrays() {
-        let x = routine.action(a, v);
+        let x = Action::from(row[a]);
         bytes += report::put(x, step, a, versions[a], stamps[a], &mut out[bytes..]);
         stamps[a] = state::stamp_after(x, step as u16, stamps[a]);
     }

@@ -1,12 +1,15 @@
 -- Events: every version is below the width of a version set; tests of events, settled case by case.
 -- Assumes nothing.
-use mathlib.Core.Path.{◌≡◌, refl, ap₂}
+use mathlib.Core.Path.{◌≡◌, refl, ap, ap₂, ◌∙◌}
 use mathlib.Core.Bool.{Bool, false, ◌&&◌, ◌||◌, cond}
 use mathlib.Core.List.{List}
 use Prim.Native.Nat.{ℕ, ◌+◌, ◌<◌}
 use native.Mathlib.Omega.{arith}
 use borrow.Author.Tests.{ltb-true}
 use lib.Dec.{eqb, ltb, lit<}
+use lib.ListN.{length, get_or}
+use Rattle.words.specs.Tables.{table}
+use Rattle.words.proofs.Tables.{table-length, table_at}
 use Rattle.words.proofs.Tests.{at_cond}
 use Rattle.routine.specs.declared.action.Access.TheVariants.{Read, Define, Modify, Kill}
 use Rattle.routine.specs.declared.action.Action.{Action}
@@ -14,7 +17,7 @@ use Rattle.routine.specs.declared.action.Action.TheVariants.{Nothing, Reference,
 use Rattle.routine.specs.Actions.{action_of, action, action_byte}
 use Rattle.labels.specs.Events.{event, version_of, version}
 use Rattle.routine.specs.Arrays.{kind, initial, is_out_or_inout}
-use Rattle.routine.specs.Layout.{entry, exit}
+use Rattle.routine.specs.Layout.{arrays, entry, exit}
 use Rattle.labels.proofs.Rules.Proper.{Proper}
 use Rattle.sets.specs.Sets.{width}
 
@@ -36,6 +39,18 @@ byte_fits b =
 pub action_fits : (file : List ℕ) (a v : ℕ) → version_of (action file a v) < width
 unfolding action
 action_fits file a v = byte_fits (action_byte file a v)
+
+-- an action read from the row of its vertex, which is lent
+module _ (file : List ℕ) (v : ℕ) {row : List ℕ} (is : row ≡ table (λ b. action_byte file b v) (arrays file)) {a : ℕ} (in_a : a < arrays file) where
+  pub in_row : a < length row
+  in_row = omega (arith, in_a, ap length is, table-length (λ b. action_byte file b v) (arrays file))
+
+  pub row_byte : get_or row a 0 ≡ action_byte file a v
+  row_byte = ap (λ (r : List ℕ). get_or r a 0) is ∙ table_at (λ b. action_byte file b v) (arrays file) a in_a
+
+  pub row_action : action_of (get_or row a 0) ≡ action file a v
+  unfolding action
+  row_action = ap action_of row_byte
 
 -- every version is below the width
 pub version_fits : (file : List ℕ) (a : ℕ) → Proper file a → (v : ℕ) → version file a v < width

@@ -3,27 +3,26 @@ use Rattle.std.specs.Prelude.{Ok}
 use mathlib.Core.Path.{◌≡◌, sym, ap, subst, ◌∙◌}
 use mathlib.Core.List.{List}
 use Prim.Native.Nat.{ℕ}
-use Rattle.refusal.proofs.Checks.{exits}
 use Rattle.routine.proofs.Accepted.{accepted, read_passed, read_failed}
-use Rattle.routine.specs.Reader.{read_check}
+use Rattle.routine.specs.Reader.{read_check, denied_of}
 use Rattle.run.proofs.Ways.{read_denied, plain_ran}
 use Rattle.run.specs.Calls.{Ran}
 use Rattle.run.proofs.run.Goals as goal
 use Rattle.run.proofs.run.Goals.{After-new-routine}
 
-pub returns-in_err-header : goal.returns-in_err-header
-returns-in_err-header c =
-    let e = c.in_err-header.was in
-    read_denied c.args.file.now c.args.path.now c.args.out.now (read_failed c.args.file.now (sym c.read.ensures ∙ e)) (exits c.from_residual.ensures)
+pub returns-in_default : goal.returns-in_default
+returns-in_default c =
+    let e = c.in_default.is in
+    read_denied c.args.file.now c.args.path.now c.args.out.now (read_failed c.args.file.now (sym c.read-answer.ensures ∙ e)) (c.denied.ensures ∙ ap denied_of e)
 
 pub new-routine-requires : goal.new-routine-requires
 new-routine-requires c =
-    let r = accepted c.args.file.now (sym c.read.ensures ∙ c.in_ok-header.was) in
+    let r = accepted c.args.file.now (sym c.read-answer.ensures ∙ c.in-Ok.is) in
     record { well = r.0; heads = r.1 }
 
 -- the routine was read
 passed : (c : After-new-routine) → read_check c.new-routine.result.bytes ≡ Ok tt
-passed c = ap read_check c.new-routine.ensures ∙ read_passed c.args.file.now (sym c.read.ensures ∙ c.in_ok-header.was)
+passed c = ap read_check c.new-routine.ensures ∙ read_passed c.args.file.now (sym c.read-answer.ensures ∙ c.in-Ok.is)
 
 pub run_calls-requires : goal.run_calls-requires
 run_calls-requires c = record { passed = passed (goal.at.run_calls-requires c).After-new-routine; some = sym c.any.ensures ∙ c.if-any.true }

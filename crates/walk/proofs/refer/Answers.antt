@@ -5,6 +5,7 @@ use Prim.Native.Nat.{ℕ, ◌≤◌, ◌<◌}
 use native.Mathlib.Omega.{arith}
 use lib.ListN.{length, get_or}
 use Rattle.labels.specs.Events.{event}
+use Rattle.labels.proofs.Rules.Events.{in_row, row_action}
 use Rattle.routine.specs.Layout.{arrays}
 use Rattle.routine.specs.declared.action.Action.{Action}
 use Rattle.report.specs.Bytes.{records_bytes}
@@ -17,7 +18,7 @@ use Rattle.words.proofs.Buffers.{begin, lies, lent, row_room, next_row, onward, 
 use Rattle.words.proofs.Replaced.{replacing_begin, replacing_behind, replacing_next, replacing_end}
 use Rattle.words.proofs.Written.{part_from}
 use Rattle.walk.proofs.refer.Goals as goal
-use Rattle.walk.proofs.refer.Goals.{After-action-x, In-loop-a}
+use Rattle.walk.proofs.refer.Goals.{After-from-x, In-loop-a}
 
 -- what holds in a turn
 module _ (c : In-loop-a) where
@@ -38,22 +39,18 @@ pub loop-a-init : goal.loop-a-init
 unfolding row_bytes rows
 loop-a-init c = (begin _ _ _ c.requires.stamps_in_bounds, refl, replacing_begin _ _ _ _)
 
-pub action-x-requires : goal.action-x-requires
-action-x-requires c =
-    record {
-      v_bound = c.requires.v_bound.0;
-      a_bound = in_a c;
-    }
+pub bounds-row-a : goal.bounds-row-a
+bounds-row-a c = in_row _ _ c.row-row.ensures (in_a (goal.at.bounds-row-a c).In-loop-a)
 
 -- the action that is read is the event
-event_is : (c : After-action-x) → c.action-x.result ≡ event c.args.routine.now.bytes c.loop-a.a c.args.v
-event_is c = c.action-x.ensures ∙ sym (c.requires.unlabelled.as_read c.loop-a.a)
+event_is : (c : After-from-x) → c.from-x.result ≡ event c.args.routine.now.bytes c.loop-a.a c.args.v
+event_is c = c.from-x.ensures ∙ row_action _ _ c.row-row.ensures (in_a (goal.at.After-from-x c).In-loop-a) ∙ sym (c.requires.unlabelled.as_read c.loop-a.a)
 
 -- and so its bytes are those of the row
-bytes_are : (c : After-action-x) →
-    records_bytes (records_at c.action-x.result c.args.step c.loop-a.a (get_or c.args.versions.now c.loop-a.a 0) (get_or c.loop-a.stamps c.loop-a.a 0)) ≡ cells (goal.at.After-action-x c).In-loop-a c.loop-a.a
+bytes_are : (c : After-from-x) →
+    records_bytes (records_at c.from-x.result c.args.step c.loop-a.a (get_or c.args.versions.now c.loop-a.a 0) (get_or c.loop-a.stamps c.loop-a.a 0)) ≡ cells (goal.at.After-from-x c).In-loop-a c.loop-a.a
 bytes_are c =
-    ap₂ (λ (x : Action) (stamp : ℕ). records_bytes (records_at x c.args.step c.loop-a.a (get_or c.args.versions.now c.loop-a.a 0) stamp)) (event_is c) (same (goal.at.After-action-x c).In-loop-a)
+    ap₂ (λ (x : Action) (stamp : ℕ). records_bytes (records_at x c.args.step c.loop-a.a (get_or c.args.versions.now c.loop-a.a 0) stamp)) (event_is c) (same (goal.at.After-from-x c).In-loop-a)
 
 pub bounds-versions-a : goal.bounds-versions-a
 bounds-versions-a c = omega (arith, small (goal.at.bounds-versions-a c).In-loop-a)
@@ -74,11 +71,11 @@ pub put-bytes-requires : goal.put-bytes-requires
 put-bytes-requires c =
     record {
       step_bound = (c.requires.v_bound.1, small (goal.at.put-bytes-requires c).In-loop-a);
-      stamp_in_bounds = omega (arith, ap length (bytes_are (goal.at.put-bytes-requires c).After-action-x), lent c.loop-a.invariant.0 c.loop-a.invariant.1 (in_a (goal.at.put-bytes-requires c).In-loop-a));
+      stamp_in_bounds = omega (arith, ap length (bytes_are (goal.at.put-bytes-requires c).After-from-x), lent c.loop-a.invariant.0 c.loop-a.invariant.1 (in_a (goal.at.put-bytes-requires c).In-loop-a));
     }
 
 pub overflow_add-bytes : goal.overflow_add-bytes
-overflow_add-bytes c = omega (arith, c.put-bytes.ensures.value, ap length (bytes_are (goal.at.overflow_add-bytes c).After-action-x), row_room c.loop-a.invariant.0 c.loop-a.invariant.1 (in_a (goal.at.overflow_add-bytes c).In-loop-a), c.well_formed)
+overflow_add-bytes c = omega (arith, c.put-bytes.ensures.value, ap length (bytes_are (goal.at.overflow_add-bytes c).After-from-x), row_room c.loop-a.invariant.0 c.loop-a.invariant.1 (in_a (goal.at.overflow_add-bytes c).In-loop-a), c.well_formed)
 
 pub offset_bounds-stamps-a-in-loop-a : goal.offset_bounds-stamps-a-in-loop-a
 offset_bounds-stamps-a-in-loop-a c = omega (arith, small (goal.at.offset_bounds-stamps-a-in-loop-a c).In-loop-a)
@@ -94,10 +91,10 @@ bounds-stamps-a-in-loop-a-2 c = omega (arith, small (goal.at.bounds-stamps-a-in-
 
 pub loop-a-preserved : goal.loop-a-preserved
 loop-a-preserved c = (
-  next_row c.loop-a.invariant.0 c.loop-a.invariant.1 (in_a (goal.at.loop-a-preserved c).In-loop-a) (c.put-bytes.ensures.out_after ∙ ap (wrote (part_from c.loop-a.out c.loop-a.bytes)) (bytes_are (goal.at.loop-a-preserved c).After-action-x)),
-  onward c.loop-a.invariant.0 c.loop-a.invariant.1 (c.put-bytes.ensures.value ∙ ap length (bytes_are (goal.at.loop-a-preserved c).After-action-x)),
+  next_row c.loop-a.invariant.0 c.loop-a.invariant.1 (in_a (goal.at.loop-a-preserved c).In-loop-a) (c.put-bytes.ensures.out_after ∙ ap (wrote (part_from c.loop-a.out c.loop-a.bytes)) (bytes_are (goal.at.loop-a-preserved c).After-from-x)),
+  onward c.loop-a.invariant.0 c.loop-a.invariant.1 (c.put-bytes.ensures.value ∙ ap length (bytes_are (goal.at.loop-a-preserved c).After-from-x)),
   replacing_next c.loop-a.invariant.2 (in_a (goal.at.loop-a-preserved c).In-loop-a) (omega arith)
-      (c.stamp_after.ensures ∙ ap₂ (λ (x : Action) (stamp : ℕ). stamp_by x c.args.step stamp) (event_is (goal.at.loop-a-preserved c).After-action-x) (same (goal.at.loop-a-preserved c).In-loop-a)),
+      (c.stamp_after.ensures ∙ ap₂ (λ (x : Action) (stamp : ℕ). stamp_by x c.args.step stamp) (event_is (goal.at.loop-a-preserved c).After-from-x) (same (goal.at.loop-a-preserved c).In-loop-a)),
 )
 
 pub shape_of-out : goal.shape_of-out

@@ -1,8 +1,11 @@
 -- `rows::write_vertex` meets its contract.
 use mathlib.Core.Path.{◌≡◌, sym, ap, ◌∙◌}
+use mathlib.Core.List.{List}
+use Prim.Native.Nat.{ℕ}
 use native.Mathlib.Omega.{arith}
 use lib.ListN.{length}
 use Rattle.words.specs.Tables.{wrote}
+use Rattle.calls.specs.Calls.{is_call_row}
 use Rattle.calls.specs.Parts.{plain}
 use Rattle.calls.specs.VertexRows.{call_rows, part_row, vertex_rows}
 use Rattle.calls.proofs.RowBytes.{row_length, call_length, call_rows_are, plain_row}
@@ -12,12 +15,12 @@ use Rattle.calls.proofs.rows.write_vertex.Goals.{Else-call, Then-call}
 -- what vertex v becomes, where it is a call
 call : (c : Then-call) → vertex_rows c.args.routine.now.bytes c.args.v ≡ call_rows c.args.routine.now.bytes c.args.v
 call c =
-    call_rows_are c.args.routine.now.bytes c.args.v (sym c.is_call-call.ensures ∙ c.if-call.true)
+    call_rows_are c.args.routine.now.bytes c.args.v (ap (λ (file : List ℕ). is_call_row file c.args.v) (sym c.bytes.ensures) ∙ sym c.is_call-call.ensures ∙ c.if-call.true)
 
 -- and where it is none
 other : (c : Else-call) → vertex_rows c.args.routine.now.bytes c.args.v ≡ part_row c.args.routine.now.bytes (plain c.args.v)
 other c =
-    plain_row c.args.routine.now.bytes c.args.v (sym c.is_call-call.ensures ∙ c.if-call.false)
+    plain_row c.args.routine.now.bytes c.args.v (ap (λ (file : List ℕ). is_call_row file c.args.v) (sym c.bytes.ensures) ∙ sym c.is_call-call.ensures ∙ c.if-call.false)
 
 pub write_call-requires : goal.write_call-requires
 write_call-requires c =

@@ -21,24 +21,24 @@ loop-a-init c = (omega arith, none_yet _ _)
 pub overflow_add-count : goal.overflow_add-count
 overflow_add-count c =
     let a = c.loop-a.a in
-    omega (arith, count_few (λ b. is_label c.args.routine.now.bytes b c.args.v) (min a c.arrays-m.result), c.label_at-count.ensures, counts_few (get_or c.args.versions.now (8 * c.args.v + a) 0) (ltb a c.arrays-m.result))
+    omega (arith, count_few (λ b. is_label c.args.routine.now.bytes b c.args.v) (min a c.args.m), c.label_at-count.ensures, counts_few (get_or c.args.versions.now (8 * c.args.v + a) 0) (ltb a c.args.m))
 
 pub loop-a-preserved : goal.loop-a-preserved
 loop-a-preserved c =
     let a = c.loop-a.a in
-    let m = c.arrays-m.result in
+    let m = c.args.m in
     let x = get_or c.args.versions.now (8 * c.args.v + a) 0 in (
       omega arith,
       next_column _ m a c.loop-a.invariant.1
           (λ (h : a < m).
-          counts_label c.args.routine.now.bytes a c.args.v (c.requires.versions.cells a c.args.v (omega (arith, c.arrays-m.ensures)) c.requires.v_bound) (counts_one x (lt-ltb a m h) c.label_at-count.ensures))
+          counts_label c.args.routine.now.bytes a c.args.v (c.requires.versions.cells a c.args.v (omega (arith, c.requires.m_value)) c.requires.v_bound) (counts_one x (lt-ltb a m h) c.label_at-count.ensures))
           (λ (h : m ≤ a). counts_none x (le-ltb a m h) c.label_at-count.ensures),
     )
 
 pub returns : goal.returns
 unfolding labels_at
 returns c =
-    let all : min c.loop-a.a c.arrays-m.result ≡ arrays c.args.routine.now.bytes = omega (arith, c.arrays-m.ensures, c.args.routine.now.well.laid.limits.few_arrays, c.loop-a.invariant.0, c.loop-a-test.false) in
+    let all : min c.loop-a.a c.args.m ≡ arrays c.args.routine.now.bytes = omega (arith, c.requires.m_value, c.args.routine.now.well.laid.limits.few_arrays, c.loop-a.invariant.0, c.loop-a-test.false) in
     let e = c.loop-a.invariant.1 ∙ ap (count_of (λ b. is_label c.args.routine.now.bytes b c.args.v)) all in
     record {
       value = e;

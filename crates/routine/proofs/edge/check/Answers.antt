@@ -14,7 +14,7 @@ pub returns-then-not-right : goal.returns-then-not-right
 unfolding edge_check
 returns-then-not-right c =
     rw (
-      c.edge_at.ensures,
+      c.edge_at.ensures.value,
       holds_both,
       ← c.has_ends.ensures ∙ ap₂ ends_within c.edge.ensures c.vertices.ensures,
       ← c.rises_at.ensures,
