@@ -56,10 +56,10 @@ pub fn label(out: &mut [u8], plan: &[u8], vertex: u64, at: usize) -> usize
     let columns = [
         Column::Number(vertex),
         Column::Number(u64::from(byte(plan, at))),
-        Column::Character(byte(plan, at + 1)),
-        Column::Version(byte(plan, at + 2)),
-        Column::Mask(long_word(plan, at + 4)),
-        Column::Mask(long_word(plan, at + 8)),
+        Column::Character(u64::from(byte(plan, at + 1))),
+        Column::Version(u64::from(byte(plan, at + 2))),
+        Column::Mask(u64::from(long_word(plan, at + 4))),
+        Column::Mask(u64::from(long_word(plan, at + 8))),
     ];
     line(out, &columns)
 }

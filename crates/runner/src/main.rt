@@ -3,12 +3,14 @@
 // have a line on standard error too; nothing is printed after a write that failed.
 #![tactic(auto)]
 
-ghost use Rattle.std.specs.Prelude.{◌≤◌};
+ghost use Rattle.std.specs.Prelude.{OnOk, ◌*◌, ◌≤◌};
 ghost use Rattle.io.specs.Counts.{IsPrefixLen};
+ghost use Rattle.listing.specs.Lines.{entry_lines, record_lines, count_lines, report_lines};
+ghost use Rattle.std.specs.Io.KnownBytes.{Appends};
 
 use run::edges;
 use std::fs::File;
-use std::io;
+use std::io::{self, Write};
 
 // More than the longest routine file, which has 6,194 bytes: a byte too many is seen, and no later one matters.
 const ROUTINE: usize = 6195;
@@ -34,55 +36,74 @@ fn read_file(rt: &HostRuntime, name: &str, buf: &mut [u8], unopened: &[u8], unre
 }
 
 // The entries of the arrays, a line for each.
-fn print_entries(rt: &HostRuntime, report: &[u8], arrays: u16) -> io::Result<()> {
+fn print_entries<W: Write>(out: &mut W, report: &[u8], arrays: u16) -> io::Result<()>
+    ensures { OnOk result (Appends (W.contents out.old) (W.contents out.new) (entry_lines report.now arrays)) }
+{
     let mut line = [0u8; listing::ROOM];
     for array in 0..arrays {
         let n = listing::entry(&mut line, report, 8 * usize::from(array));
-        rt.write_all(&line[..n])?;
+        out.write_all(&line[..n])?;
     }
     Ok(())
 }
 
 // The records from `from` on, up to where the counts start.
-fn print_records(rt: &HostRuntime, report: &[u8], from: usize, end: usize) -> io::Result<()>
+fn print_records<W: Write>(out: &mut W, report: &[u8], from: usize, end: usize) -> io::Result<()>
     requires { end ≤ 1000000 }
+    ensures { OnOk result (Appends (W.contents out.old) (W.contents out.new) (record_lines report.now from end)) }
 {
     let mut line = [0u8; listing::ROOM];
     for at in (from..end).step_by(10) {
         let n = listing::record(&mut line, report, at);
-        rt.write_all(&line[..n])?;
+        out.write_all(&line[..n])?;
     }
     Ok(())
 }
 
 // The counts from `from` on, up to the report's end.
-fn print_counts(rt: &HostRuntime, report: &[u8], from: usize, end: usize) -> io::Result<()>
+fn print_counts<W: Write>(out: &mut W, report: &[u8], from: usize, end: usize) -> io::Result<()>
     requires { end ≤ 1000000 }
+    ensures { OnOk result (Appends (W.contents out.old) (W.contents out.new) (count_lines report.now from end)) }
 {
     let mut line = [0u8; listing::ROOM];
     for at in (from..end).step_by(2) {
         let n = listing::count(&mut line, report, at);
-        rt.write_all(&line[..n])?;
+        out.write_all(&line[..n])?;
     }
     Ok(())
 }
 
-fn print_report(rt: &HostRuntime, file: &[u8], report: &[u8], length: usize) -> io::Result<()> {
-    let arrays = listing::word(file, 8);
-    print_entries(rt, report, arrays)?;
+// The report, whose first `length` bytes were written, of a routine of so many arrays and edges.
+fn print_report<W: Write>(
+    out: &mut W,
+    report: &[u8],
+    arrays: u16,
+    edges: usize,
+    length: usize,
+) -> io::Result<()>
+    ensures { length ≤ 43328
+        → 2 * edges ≤ length
+        → OnOk result (Appends (W.contents out.old) (W.contents out.new) (report_lines report.now arrays edges length)) }
+{
+    print_entries(out, report, arrays)?;
     // No report is longer than its buffer, or shorter than its counts; the loops' numbers ask for bounds.
-    let n = edges::of(file);
-    if length > REPORT || n > length / 2 {
+    if length > REPORT || edges > length / 2 {
         return Ok(());
     }
-    let counts = length - 2 * n;
-    print_records(rt, report, 8 * usize::from(arrays), counts)?;
-    print_counts(rt, report, counts, length)
+    let counts = length - 2 * edges;
+    print_records(out, report, 8 * usize::from(arrays), counts)?;
+    print_counts(out, report, counts, length)
 }
 
 fn print_run(rt: &HostRuntime, file: &[u8], path: &[u8], report: &mut [u8]) -> io::Result<()> {
     match run::run(file, path, report) {
-        Ok(length) => print_report(rt, file, report, length),
+        Ok(length) => print_report(
+            &mut io::writer(rt),
+            report,
+            listing::word(file, 8),
+            edges::of(file),
+            length,
+        ),
         Err(refusal) => streams::print_refusal(
             &mut rt.stdout(),
             &mut rt.stderr(),

@@ -11,7 +11,7 @@ use refusal::Refusal;
 use std::io::{self, Read, Write};
 
 // Room for the start of a line, and for any line of `listing` after it.
-const ROOM: usize = 32 + listing::ROOM;
+pub const ROOM: usize = 32 + listing::ROOM;
 
 // One read into `buf`, and how many bytes came. If it fails, `failed` goes to `errors`.
 fn read_once<R: Read, E: Write>(
@@ -55,16 +55,16 @@ pub fn read_all<R: Read, E: Write>(
     done
 }
 
-// A line of `start` and a refusal's numbers.
-fn put_refusal(out: &mut [u8], start: &[u8], refusal: Refusal) -> usize
+// A line of `start` and a call's answer.
+pub fn put_refusal(out: &mut [u8], start: &[u8], reply: Result<usize, Refusal>) -> usize
     requires in_bounds { 160 ≤ length out.old }
     requires start_len_bound { length start.now ≤ 32 }
     ensures prefix_len { IsPrefixLen result out.new }
-    ensures value { result ≡ length (start.now ++ outcome_line (Err refusal)) }
-    ensures out_after { out.new ≡ wrote out.old (start.now ++ outcome_line (Err refusal)) }
+    ensures value { result ≡ length (start.now ++ outcome_line reply) }
+    ensures out_after { out.new ≡ wrote out.old (start.now ++ outcome_line reply) }
 {
     let at = words::bytes::copy(start, out);
-    at + listing::outcome(&mut out[at..], Err(refusal))
+    at + listing::outcome(&mut out[at..], reply)
 }
 
 // A refusal's line, behind `start`.
@@ -73,7 +73,7 @@ fn tell_refusal<W: Write>(to: &mut W, start: &[u8], refusal: Refusal) -> io::Res
     ensures { OnOk result (Appends (W.contents to.old) (W.contents to.new) (start.now ++ outcome_line (Err refusal))) }
 {
     let mut line = [0u8; ROOM];
-    let n = put_refusal(&mut line, start, refusal);
+    let n = put_refusal(&mut line, start, Err(refusal));
     to.write_all(&line[..n])
 }
 

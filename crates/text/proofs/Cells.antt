@@ -35,9 +35,9 @@ version_most n = at_cond Short (eqb n 255) {x = 45 ∷ []} (λ _. omega arith) (
 
 pub column_most : (column : Column) → length (column_text column) ≤ 20
 column_most (Number n) = number_most n
-column_most (Character byte) = omega arith
-column_most (Version version) = version_most version
-column_most (Mask mask) = omega (arith, mask-length mask)
+column_most (Character n) = omega arith
+column_most (Version n) = version_most n
+column_most (Mask n) = omega (arith, mask-length n)
 
 pub cell_most : (columns : List Column) (i : ℕ) → length (cell columns i) ≤ 21
 cell_most columns i =

@@ -52,16 +52,16 @@ pub decimal_text : {n k : ℕ} → IsDigitCount 10 1 n k → n < 2 ^ 64 → last
 unfolding decimal
 decimal_text {n} {k} few h = decimal_is 20 k n few (fewest_le 10 1 20 n k (omega arith) (omega arith) few (omega arith))
 
-pub mask_eight : (n k : ℕ) → n < 2 ^ 32 → IsDigitCount 16 8 n k → k ≡ 8
-mask_eight n k small few = le_antisymm (fewest_le 16 8 8 n k (omega arith) (omega arith) few (omega arith)) few.0
+pub mask_eight : (n k : ℕ) → IsDigitCount 16 8 (n % 4294967296) k → k ≡ 8
+mask_eight n k few = le_antisymm (fewest_le 16 8 8 (n % 4294967296) k (omega arith) (omega arith) few (omega arith)) few.0
 
-pub mask_digits : (n k : ℕ) → n < 2 ^ 32 → IsDigitCount 16 8 n k → last_digits 16 k n ≡ mask_text n
+pub mask_digits : (n k : ℕ) → IsDigitCount 16 8 (n % 4294967296) k → last_digits 16 k (n % 4294967296) ≡ mask_text n
 unfolding mask_text
-mask_digits n k small few = ap (λ (j : ℕ). last_digits 16 j n) (mask_eight n k small few)
+mask_digits n k few = ap (λ (j : ℕ). last_digits 16 j (n % 4294967296)) (mask_eight n k few)
 
 pub decimal-length : {n k : ℕ} → IsDigitCount 10 1 n k → n < 2 ^ 64 → k ≤ 20
 decimal-length {n} {k} few h = fewest_le 10 1 20 n k (omega arith) (omega arith) few (omega arith)
 
 pub mask-length : (n : ℕ) → length (mask_text n) ≡ 8
 unfolding mask_text
-mask-length n = digits_length 16 8 n
+mask-length n = digits_length 16 8 (n % 4294967296)

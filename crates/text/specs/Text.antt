@@ -19,18 +19,18 @@ decimal n = decimal_in 20 n
 
 -- a mask as eight hexadecimal digits
 unfoldable pub mask_text : ℕ → List ℕ
-mask_text mask = last_digits 16 8 mask
+mask_text n = last_digits 16 8 (n % 4294967296)
 
 -- a version; 255 is none, and shown as `-`
 unfoldable pub version_text : ℕ → List ℕ
-version_text version = cond (eqb version 255) (45 ∷ []) (decimal version)
+version_text n = cond (eqb n 255) (45 ∷ []) (decimal n)
 
 -- a column as its variant asks
 abbrev pub column_text : Column → List ℕ
 column_text (Number n) = decimal n
-column_text (Character byte) = byte ∷ []
-column_text (Version version) = version_text version
-column_text (Mask mask) = mask_text mask
+column_text (Character n) = n % 256 ∷ []
+column_text (Version n) = version_text n
+column_text (Mask n) = mask_text n
 
 -- ---- lines: a space after each column, a line feed after the last
 

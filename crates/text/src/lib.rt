@@ -11,12 +11,12 @@ ghost use Rattle.words.specs.Tables.{wrote};
 pub enum Column {
     // In decimal.
     Number(u64),
-    // The byte itself.
-    Character(u8),
+    // One byte, the lowest of the number.
+    Character(u64),
     // In decimal; 255 is none, and shown as `-`.
-    Version(u8),
-    // Eight hexadecimal digits.
-    Mask(u32),
+    Version(u64),
+    // The lowest 32 bits, as eight hexadecimal digits.
+    Mask(u64),
 }
 
 // A number in decimal.
@@ -31,13 +31,13 @@ fn put_decimal(out: &mut [u8], n: u64) -> usize
 }
 
 // A mask as eight hexadecimal digits.
-fn put_mask(out: &mut [u8], mask: u32) -> usize
+fn put_mask(out: &mut [u8], n: u64) -> usize
     requires { 20 ≤ length out.old }
-    ensures value { result ≡ length (mask_text mask) }
-    ensures out_after { out.new ≡ wrote out.old (mask_text mask) }
+    ensures value { result ≡ length (mask_text n) }
+    ensures out_after { out.new ≡ wrote out.old (mask_text n) }
 {
     let mut digits = [0u8; 16];
-    let k = io::hex(u64::from(mask), 8, &mut digits);
+    let k = io::hex(n % 4294967296, 8, &mut digits);
     words::bytes::copy(&digits[..k], out)
 }
 
@@ -52,15 +52,15 @@ fn put_character(out: &mut [u8], byte: u8) -> usize
 }
 
 // A version; 255 is none.
-fn put_version(out: &mut [u8], version: u8) -> usize
+fn put_version(out: &mut [u8], n: u64) -> usize
     requires { 20 ≤ length out.old }
-    ensures value { result ≡ length (version_text version) }
-    ensures out_after { out.new ≡ wrote out.old (version_text version) }
+    ensures value { result ≡ length (version_text n) }
+    ensures out_after { out.new ≡ wrote out.old (version_text n) }
 {
-    if version == 255 {
+    if n == 255 {
         return put_character(out, b'-');
     }
-    put_decimal(out, u64::from(version))
+    put_decimal(out, n)
 }
 
 // A column, and how many bytes it has.
@@ -71,9 +71,9 @@ fn put_column(out: &mut [u8], column: Column) -> usize
 {
     match column {
         Column::Number(n) => put_decimal(out, n),
-        Column::Character(byte) => put_character(out, byte),
-        Column::Version(version) => put_version(out, version),
-        Column::Mask(mask) => put_mask(out, mask),
+        Column::Character(n) => put_character(out, (n % 256) as u8),
+        Column::Version(n) => put_version(out, n),
+        Column::Mask(n) => put_mask(out, n),
     }
 }
 

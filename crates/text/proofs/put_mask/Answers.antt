@@ -1,15 +1,13 @@
 -- `text::put_mask` meets its contract: eight digits, copied.
 use mathlib.Core.Path.{ap, ◌∙◌}
-use native.Mathlib.Omega.{arith}
 use lib.ListN.{length}
 use Rattle.words.specs.Tables.{wrote}
-use Rattle.text.specs.Text.{mask_text}
 use Rattle.text.proofs.Digits.{mask_digits}
 use Rattle.text.proofs.put_mask.Goals as goal
 
 pub returns : goal.returns
 returns c =
-    let is = c.hex-k.ensures.digits ∙ mask_digits _ _ (omega (arith, c.from.ensures, c.ranges.mask.fits)) c.hex-k.ensures.len ∙ ap mask_text c.from.ensures in
+    let is = c.hex-k.ensures.digits ∙ mask_digits c.args.n _ c.hex-k.ensures.len in
     record {
       value = c.copy.ensures.value ∙ ap length is;
       out_after = c.copy.ensures.out_after ∙ ap (wrote c.args.out.now) is;

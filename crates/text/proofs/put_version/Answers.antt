@@ -14,9 +14,9 @@ version_by : (n : ℕ) {none : Bool} → eqb n 255 ≡ none → cond none (45 �
 unfolding version_text
 version_by n e = ap (λ t. cond t (45 ∷ []) (decimal n)) (sym e)
 
-pub returns-then-version-eq255 : goal.returns-then-version-eq255
-returns-then-version-eq255 c =
-    let is = version_by c.args.version (eq-eqb _ _ c.if-version-eq255.true) in
+pub returns-then-n-eq255 : goal.returns-then-n-eq255
+returns-then-n-eq255 c =
+    let is = version_by c.args.n (eq-eqb _ _ c.if-n-eq255.true) in
     record {
       value = c.put_character.ensures.value ∙ ap length is;
       out_after = c.put_character.ensures.out_after ∙ ap (wrote c.args.out.now) is;
@@ -24,7 +24,7 @@ returns-then-version-eq255 c =
 
 pub returns : goal.returns
 returns c =
-    let is = ap decimal c.from.ensures ∙ version_by c.args.version (ne_eqb _ _ c.if-version-eq255.false) in
+    let is = version_by c.args.n (ne_eqb _ _ c.if-n-eq255.false) in
     record {
       value = c.put_decimal.ensures.value ∙ ap length is;
       out_after = c.put_decimal.ensures.out_after ∙ ap (wrote c.args.out.now) is;

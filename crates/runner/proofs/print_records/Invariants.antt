@@ -1,0 +1,12 @@
+-- So many records have been printed, and the next starts at `at`.
+use Rattle.listing.specs.Lines.{records_from}
+use Rattle.std.proofs.Common.{◌≡◌, ℕ, ◌+◌, ◌*◌, ◌≤◌, max}
+use Rattle.std.specs.Io.KnownBytes.{Appends}
+use Rattle.runner.proofs.print_records.Given as goal
+
+abbrev pub invariant-loop-at : goal.invariant-loop-at
+invariant-loop-at g l =
+    (i : ℕ)
+    × (l.at ≡ l.from + 10 * i)
+    × (l.at ≤ max l.from l.end)
+    × Appends (g.W.Write.contents l.initial.out) (g.W.Write.contents l.out) (records_from l.report l.from i)
